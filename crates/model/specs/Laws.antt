@@ -1,0 +1,22 @@
+-- Laws: what is proved of the definitions, a file for each subject. Main restates the theorems that matter most.
+pub mod Logic
+pub mod Option
+pub mod Result
+pub mod Calendar
+pub mod DateText
+pub mod DateForms
+pub mod Shift
+pub mod InstantText
+pub mod Lookup
+pub mod Types
+pub mod Induction
+pub mod Plain
+pub mod Limit
+pub mod Trace
+pub mod Evaluation
+pub mod Unbegun
+pub mod Replace
+pub mod Runs
+pub mod Soundness
+pub mod Bounds
+pub mod Rows

@@ -1,0 +1,73 @@
+#!/usr/bin/env python3
+"""Checks why each must-fail edit was refused. Runs after `rt ci`, which leaves target/must-fail/CRATE/LABEL/.log.
+
+An edit crates/CRATE/must-fail/LABEL.edit has a line `refused-by: NAME ..` with the laws or functions that are false
+under the edit. Each must be refused by an error of its own in the log, and no error may be about names, layout or
+parsing: such an edit would only make the proofs unfit, and show nothing. The last line is 'N passed, M failed'.
+"""
+import pathlib
+import re
+import sys
+
+ROOT = pathlib.Path(__file__).resolve().parents[2]
+ANY_ERROR = re.compile(r'^\S+: error.*$', re.M)
+OWN_ERROR = re.compile(r'^\S+: error: `([^`]+)`: (.*)$')
+AFTER_ANOTHER = 'was not admitted'
+NO_FACT = ('not in scope', 'can be named from here', 'parse', 'layout', 'already a name', '`mod` line')
+
+
+def fault(stated, printed):
+    """None if the printed log refuses each stated declaration for a fact, else what is wrong."""
+    refused = set()
+    for line in ANY_ERROR.findall(printed):
+        own = OWN_ERROR.match(line)
+        if not own:
+            return 'an error that names no declaration: %s' % line[:200]
+        if any(word in own.group(2) for word in NO_FACT):
+            return 'an error about names or layout: %s' % line[:200]
+        if AFTER_ANOTHER not in own.group(2):
+            refused.add(own.group(1))
+    missing = [name for name in stated if name not in refused]
+    if missing:
+        return 'not refused by %s, but by %s' % (', '.join(missing), ', '.join(sorted(refused)) or 'nothing')
+    return None
+
+
+def reason(edit):
+    stated = re.search(r'^refused-by: (.+)$', edit.read_text(encoding='utf-8'), re.M)
+    if not stated:
+        return 'it states no `refused-by:`'
+    log = ROOT / 'target' / 'must-fail' / edit.parent.parent.name / edit.stem / '.log'
+    if not log.exists():
+        return 'it has no log: run `rt ci` first'
+    return fault(stated.group(1).split(), log.read_text(encoding='utf-8'))
+
+
+SAMPLES = [
+    (['law'], 'a.antt:1:2: error: `law`: the two types differ\n', True),
+    (['law'], 'a.antt:1:2: error: `other`: the two types differ\n', False),
+    (['law'], 'a.antt:1:2: error: `law`: `x` was not admitted, so this cannot be checked\n', False),
+    (['law'], 'a.antt:1:2: error: `law`: the two types differ\na.antt:2:2: error: `other`: `y` is not in scope\n', False),
+]
+
+
+def main():
+    passed = failed = 0
+    for stated, printed, good in SAMPLES:
+        if (fault(stated, printed) is None) == good:
+            passed += 1
+        else:
+            failed += 1
+            print('the sample %r is judged wrongly' % printed)
+    for edit in sorted(ROOT.glob('crates/*/must-fail/*.edit')):
+        wrong = reason(edit)
+        if wrong is None:
+            passed += 1
+        else:
+            failed += 1
+            print('%s: %s' % (edit.relative_to(ROOT), wrong))
+    print('%d passed, %d failed' % (passed, failed))
+    sys.exit(1 if failed else 0)
+
+
+main()
