@@ -2,7 +2,8 @@
 """Evaluates a rule on a record, as the definitions of crates/model say; prints what the program will print.
 
 The reference computes the answer. The prover then checks, as a theorem, that the definitions give exactly that, and
-only then is it printed. A missing file counts as empty. README.md, beside this file, says more.
+only then is it printed. A limit above 1,000 is refused with 1 at once, without the prover. A missing file counts as
+empty. README.md, beside this file, says more.
 """
 import argparse
 import contextlib

@@ -205,15 +205,9 @@ def as_evaluate(case):
     return {**case, "entry": "evaluate", "limit": PROGRAM_LIMIT, "out": PROGRAM_ROOM, "expect": expect}
 
 
-def check_of(case):
-    """The check of a case. A ValueError says what is wrong with the case."""
-    if case["entry"] == "program":
-        case = as_evaluate(case)
-    entry, expect = case["entry"], case["expect"]
-    refusal = expect["refusal"]
-    if refusal == 1 or "short" in case:
-        raise Skip("work areas and the step limit: refusal 1")
-
+def read_texts(case):
+    """The values of a case's texts, None for one that does not read. Skip or ValueError where that decides the case."""
+    refusal = case["expect"]["refusal"]
     # The texts in the order in which they are read, each with the refusals that come before it: under those it may be anything.
     earlier = {"text": (), "rule": (), "sheet": (6,), "record": (6, 14, 13)}
     values, faulty = {}, []
@@ -230,8 +224,19 @@ def check_of(case):
         raise Skip("reading: refusals 2 to 5")
     if faulty:
         raise ValueError(f"its {faulty[0]} does not read")
+    return values
 
-    terms = {key: term(value) for key, value in values.items()}
+
+def check_of(case):
+    """The check of a case. A ValueError says what is wrong with the case."""
+    if case["entry"] == "program":
+        case = as_evaluate(case)
+    entry, expect = case["entry"], case["expect"]
+    refusal = expect["refusal"]
+    if refusal == 1 or "short" in case:
+        raise Skip("work areas and the step limit: refusal 1")
+
+    terms = {key: term(value) for key, value in read_texts(case).items()}
     if entry == "read":
         return Check(case, f"seenText {terms['text']}", [expect["values"], expect["nest"], *bytes.fromhex(expect["written"])])
     if entry == "check":
@@ -278,8 +283,7 @@ use mathlib.Core.Path.{_≡_, refl}
 use Prim.Native.Nat.{ℕ}
 use lib.IntN.{pos, negsuc}
 use Rattle.model.specs.Bytes.{Bytes}
-use Rattle.model.specs.Judgement.{Judged, done, refuses, Answer, judgeEvaluate, judgeEvaluateChecked, judgeCheck, judgeFits}
-use Rattle.model.specs.Refusal.{number}
+use Rattle.model.specs.Judgement.{Judged, done, refuses, Answer, judgedNumber, judgeEvaluate, judgeEvaluateChecked, judgeCheck, judgeFits}
 use Rattle.model.specs.Size.{valueCount, nesting}
 use Rattle.model.specs.Types.{Types, typeBits}
 use Rattle.model.specs.Value.{Value, scalar, array, object, null, boolean, integer, string, no-items, item, no-members, member}
@@ -287,11 +291,6 @@ use Rattle.model.specs.Writing.{valueText}
 """
 
 SEEN = """
--- The number of a refusal, or 0.
-abbrev numberOf : {A : Type 0} → Judged A → ℕ
-numberOf (done a) = 0
-numberOf (refuses e) = number e
-
 abbrev doneOr : {A : Type 0} → A → Judged A → A
 doneOr other (done a) = a
 doneOr other (refuses e) = other
@@ -299,15 +298,15 @@ doneOr other (refuses e) = other
 -- What a case says, as numbers: first the refusal's number, then ..
 -- .. the steps and the bytes of the answer
 abbrev pub seenAnswer : Answer → List ℕ
-seenAnswer a = numberOf (a .result) ∷ a .stepsBegun ∷ doneOr [] (a .result)
+seenAnswer a = judgedNumber (a .result) ∷ a .stepsBegun ∷ doneOr [] (a .result)
 
 -- .. the bits of the types found
 abbrev pub seenTypes : Judged Types → List ℕ
-seenTypes j = numberOf j ∷ typeBits (doneOr [] j) ∷ []
+seenTypes j = judgedNumber j ∷ typeBits (doneOr [] j) ∷ []
 
 -- .. 1 if the record fits
 abbrev pub seenFit : Judged Bool → List ℕ
-seenFit j = numberOf j ∷ cond (doneOr false j) 1 0 ∷ []
+seenFit j = judgedNumber j ∷ cond (doneOr false j) 1 0 ∷ []
 
 -- Of a text that reads: the number of values, the nesting, and the bytes of the text as it is written.
 abbrev pub seenText : Value → List ℕ
@@ -450,6 +449,40 @@ def judged(crates, refused):
     return accepted, others
 
 
+def all_cases():
+    cases = [json.loads(line) for path in sorted(VECTORS.glob("*.jsonl")) for line in path.read_text(encoding="utf-8").splitlines()]
+    if len({case["id"] for case in cases}) < len(cases):
+        sys.exit("two cases have one id")
+    return cases
+
+
+def self_tested(tests, wrong):
+    """Whether exactly the wrong expectations are refused; says so."""
+    tested = set(wrong) == set(tests) - {"right"}
+    if tested:
+        print(f"self-test: {len(wrong)} wrong expectations are refused")
+    else:
+        print(f"self-test FAILED: of {len(tests) - 1} wrong expectations and a right one these are refused: {', '.join(wrong) or 'none'}")
+    return tested
+
+
+def tried_alone(others, modules):
+    """Of checks in refused groups, the ones that are accepted in a declaration of their own; and the cases of the rest, with what was said."""
+    crates = dealt(grouped([check for check, _ in others[:SINGLED]], 1), "single")
+    alone, refuted = judged(crates, run(crates, modules)) if crates else ([], [])
+    disagreeing = [(check.case, said) for check, said in refuted]
+    return alone, disagreeing + [(check.case, "in a refused group, and not tried by itself") for check, _ in others[SINGLED:]]
+
+
+def print_findings(disagreeing, skipped):
+    for case, said in disagreeing[:SHOWN]:
+        print(shown(case, said))
+    if len(disagreeing) > SHOWN:
+        print(f"and {len(disagreeing) - SHOWN} more")
+    for reason, count in skipped.items():
+        print(f"skipped: {count} ({reason})")
+
+
 def main():
     arguments = argparse.ArgumentParser(description=__doc__.splitlines()[0])
     arguments.add_argument("--self-test", action="store_true", help="only see that wrong expectations are refused")
@@ -458,9 +491,7 @@ def main():
     options = arguments.parse_args()
     began = time.monotonic()
 
-    cases = [json.loads(line) for path in sorted(VECTORS.glob("*.jsonl")) for line in path.read_text(encoding="utf-8").splitlines()]
-    if len({case["id"] for case in cases}) < len(cases):
-        sys.exit("two cases have one id")
+    cases = all_cases()
     tests = self_test(sort_out(cases)[0])
     cases = [case for case in cases if case["id"].startswith(tuple(options.only or [""]))]
     checks, skipped, disagreeing = ([], {}, []) if options.self_test else sort_out(cases)
@@ -469,30 +500,15 @@ def main():
     modules = copy_model()
     crates = dealt(grouped(checks, GROUP), "trial")
     refused = run({**crates, "wrong": tests}, modules)
-
-    wrong = refused.pop("wrong") or {}
-    tested = set(wrong) == set(tests) - {"right"}
-    if tested:
-        print(f"self-test: {len(wrong)} wrong expectations are refused")
-    else:
-        print(f"self-test FAILED: of {len(tests) - 1} wrong expectations and a right one these are refused: {', '.join(wrong) or 'none'}")
+    tested = self_tested(tests, refused.pop("wrong") or {})
     if options.self_test:
         return 0 if tested else 1
 
     accepted, others = judged(crates, refused)
-    if others:
-        crates = dealt(grouped([check for check, _ in others[:SINGLED]], 1), "single")
-        alone, refuted = judged(crates, run(crates, modules))
-        accepted += alone
-        disagreeing += [(check.case, said) for check, said in refuted]
-        disagreeing += [(check.case, "in a refused group, and not tried by itself") for check, _ in others[SINGLED:]]
-    for case, said in disagreeing[:SHOWN]:
-        print(shown(case, said))
-    if len(disagreeing) > SHOWN:
-        print(f"and {len(disagreeing) - SHOWN} more")
-    for reason, count in skipped.items():
-        print(f"skipped: {count} ({reason})")
-    agree = len(accepted)
+    alone, refuted = tried_alone(others, modules)
+    disagreeing += refuted
+    print_findings(disagreeing, skipped)
+    agree = len(accepted) + len(alone)
     print(f"time: {time.monotonic() - began:.0f} s")
     print(f"definitions: {agree} agree, {len(disagreeing)} disagree, {sum(skipped.values())} skipped ({len(cases)} cases in all)")
     if options.tally:

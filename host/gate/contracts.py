@@ -1,17 +1,19 @@
 #!/usr/bin/env python3
 """Checks the contracts of public Rattle functions, as text.
 
-Every `pub fn` states an `ensures`; an exported C function states no `requires`; each `&mut` parameter is named
-in an `ensures`, since a promise covers the last bytes of every lent area. A check of the sources' shape: what
-the contracts mean is proved by `rt ci`. The last line is 'N passed, M failed': a test of this script on samples,
+Every `pub fn` states an `ensures` that names its result or a parameter (one that names none promises nothing); an
+exported C function states no `requires`; each `&mut` parameter is named in an `ensures`, since a promise covers the
+last bytes of every lent area. A check of the sources' shape: what the contracts mean is proved by `rt ci`. The last line is 'N passed, M failed': a test of this script on samples,
 and one for each public function.
 """
-import pathlib
 import re
 import sys
 
-ROOT = pathlib.Path(__file__).resolve().parents[2]
-HEAD = re.compile(r'^[ \t]*(?:#\[no_mangle\]\s*)?pub\s+(?:extern\s+"C"\s+)?fn\s+(\w+)', re.M)
+sys.dont_write_bytecode = True
+from tally import ROOT, report
+
+HEAD = re.compile(r'^[ \t]*(?:#\[[^\]]*\]\s*)*pub\s+(?:const\s+)?(?:unsafe\s+)?(?P<extern>extern\s*(?:"[^"]*"\s*)?)?\bfn\s+(?P<name>\w+)', re.M)
+BINDERS = re.compile(r'\s*λ\s*([^.]*)\.')
 CLAUSE = re.compile(r'\b(requires|ensures|ghost)(\s+\w+)?\s*$')
 
 
@@ -55,52 +57,89 @@ def clauses(head, word):
     return found
 
 
+def skip_brackets(text, at):
+    """The position after the round brackets that open at `at`."""
+    level = 0
+    for i in range(at, len(text)):
+        level += {'(': 1, ')': -1}.get(text[i], 0)
+        if level == 0:
+            return i + 1
+    return len(text)
+
+
+def parameters(head):
+    """The names of a function's parameters."""
+    at = head.find('(')
+    listed = head[at:skip_brackets(head, at)] if at >= 0 else ''
+    return re.findall(r'(\w+)\s*:(?!:)', listed) + re.findall(r'\bself\b', listed)
+
+
+def names(promise, name):
+    """The promise names this: by itself, not as a field or as a part of a longer name."""
+    return re.search(r"(?<![\w.′·])(?<![\w′]-)«?%s»?(?!-?[\w′·])" % re.escape(name), promise)
+
+
+def promises(head):
+    """The texts of the `ensures` that name the result or a parameter."""
+    for clause in clauses(head, 'ensures'):
+        bound = BINDERS.match(clause)
+        said = clause[bound.end():] if bound else clause
+        result = re.search(r'(?:\([^()]*\)|\S+)\s*$', bound.group(1)) if bound else None  # the last binder
+        result_names = [name for name in re.findall(r'[^\s(),]+', result.group(0)) if name != '_'] if result else []
+        if any(names(said, name) for name in result_names + parameters(head)):
+            yield said
+
+
 def faults(text):
     """(function, fault or None) for each public function of a source text."""
     text = without_comments(text)
     for m in HEAD.finditer(text):
-        head = header(text, m.start())
-        promised = ' '.join(clauses(head, 'ensures'))
+        head = header(text, m.start('name'))
+        promised = ' '.join(promises(head))
         fault = None
-        if not promised.strip():
-            fault = 'no ensures'
-        elif 'extern "C"' in m.group(0) and clauses(head, 'requires'):
+        if not promised:
+            fault = 'no promise'
+        elif m.group('extern') and clauses(head, 'requires'):
             fault = 'a C entry with a requires'
         else:
             for name in re.findall(r"(\w+)\s*:\s*&(?:'\w+\s+)?mut\b", head):
-                if not re.search(r'(?<!\w)«?%s»?(?!\w)' % re.escape(name), promised):
+                if not names(promised, name):
                     fault = 'nothing promised of `%s`' % name
                     break
-        yield m.group(1), fault
+        yield m.group('name'), fault
 
 
 SAMPLES = [
-    ('pub fn f(x: u8) -> u8 { x }', 'no ensures'),
-    ('pub fn f(x: u8) -> u8\n    ensures { λ r. ⌜ r ≡ x ⌝ }\n{ x }', None),
-    ('pub extern "C" fn f(x: u8) -> u8\n    requires { ⌜ T ⌝ }\n    ensures { λ r. ⌜ r ≡ x ⌝ }\n{ x }', 'a C entry with a requires'),
-    ('pub fn f(a: &mut [u8])\n    ensures { ⌜ T ⌝ }\n{ }', 'nothing promised of `a`'),
-    ('pub fn f(a: &mut [u8])\n    ensures { ⌜ now a ≡ b ⌝ }\n{ }', None),
+    ('pub fn f(x: u8) -> u8 { x }', ['no promise']),
+    ('pub const fn f(x: u8) -> u8 { x }', ['no promise']),
+    ('pub unsafe fn f(x: u8) -> u8 { x }', ['no promise']),
+    ('#[no_mangle]\npub const  unsafe extern\t"C" fn f(x: u8) -> u8 { x }', ['no promise']),
+    ('fn f(x: u8) -> u8 { x }', []),
+    ('#[cfg(y: u8)] pub fn f(x: u8) -> u8\n    ensures { ⌜ y ≡ 1 ⌝ }\n{ x }', ['no promise']),
+    ('pub fn f(x: u8) -> u8\n    ensures { λ r. ⌜ r ≡ x ⌝ }\n{ x }', [None]),
+    ('pub const fn f() -> u8\n    ensures { λ r. ⌜ r ≡ 1 ⌝ }\n{ 1 }', [None]),
+    ('pub fn f() -> (u8, u8)\n    ensures { λ (a, b). ⌜ b ≡ 1 ⌝ }\n{ (1, 1) }', [None]),
+    ('pub fn f(x: u8) -> u8\n    ensures { ⌜ Unit ⌝ }\n{ x }', ['no promise']),
+    ('pub fn f(x: u8) -> u8\n    ensures { λ r. ⌜ Unit ⌝ }\n{ x }', ['no promise']),
+    ('pub fn f(x: u8) -> u8\n    ensures { λ α r. ⌜ α .x ≡ x′ ⌝ }\n{ x }', ['no promise']),
+    ('pub fn f(x: u8) -> u8\n    ensures { ⌜ Unit ⌝ }\n    ensures named { λ r. do ⌜ r ≡ (← ⟦g(x)⟧ .entry) ⌝ }\n{ x }', [None]),
+    ('pub fn f(&self)\n    ensures { λ _. ⌜ self .at ≡ 0 ⌝ }\n{ }', [None]),
+    ('pub extern "C" fn f(x: u8) -> u8\n    requires { ⌜ T ⌝ }\n    ensures { λ r. ⌜ r ≡ x ⌝ }\n{ x }', ['a C entry with a requires']),
+    ('pub extern\n    "C"  fn f(x: u8) -> u8\n    requires { ⌜ T ⌝ }\n    ensures { λ r. ⌜ r ≡ x ⌝ }\n{ x }', ['a C entry with a requires']),
+    ('pub fn f(x: u8) -> u8\n    requires { ⌜ x ≡ 1 ⌝ }\n    ensures { λ r. ⌜ r ≡ x ⌝ }\n{ x }', [None]),
+    ('pub fn f(a: &mut [u8], n: u8)\n    ensures { ⌜ n ≡ 0 ⌝ }\n{ }', ['nothing promised of `a`']),
+    ('pub fn f(a: &mut [u8])\n    ensures { ⌜ now a ≡ b ⌝ }\n{ }', [None]),
+    ('pub fn f(a_b: &mut u8)\n    ensures { ⌜ now («a_b» .exit) ≡ 1 ⌝ }\n{ }', [None]),
 ]
 
 
-def main():
-    passed = failed = 0
+def results():
     for text, expected in SAMPLES:
         got = [fault for _, fault in faults(text)]
-        if got == [expected]:
-            passed += 1
-        else:
-            failed += 1
-            print('the sample %r gives %r' % (text, got))
+        yield 'sample', None if got == expected else '%r gives %r' % (text, got)
     for path in sorted(ROOT.glob('crates/*/src/**/*.rt')):
         for name, fault in faults(path.read_text(encoding='utf-8')):
-            if fault is None:
-                passed += 1
-            else:
-                failed += 1
-                print('%s: %s: %s' % (path.relative_to(ROOT), name, fault))
-    print('%d passed, %d failed' % (passed, failed))
-    sys.exit(1 if failed else 0)
+            yield '%s: %s' % (path.relative_to(ROOT), name), fault
 
 
-main()
+report(results())

@@ -5,11 +5,12 @@ An edit crates/CRATE/must-fail/LABEL.edit has a line `refused-by: NAME ..` with 
 under the edit. Each must be refused by an error of its own in the log, and no error may be about names, layout or
 parsing: such an edit would only make the proofs unfit, and show nothing. The last line is 'N passed, M failed'.
 """
-import pathlib
 import re
 import sys
 
-ROOT = pathlib.Path(__file__).resolve().parents[2]
+sys.dont_write_bytecode = True
+from tally import ROOT, report
+
 ANY_ERROR = re.compile(r'^\S+: error.*$', re.M)
 OWN_ERROR = re.compile(r'^\S+: error: `([^`]+)`: (.*)$')
 AFTER_ANOTHER = 'was not admitted'
@@ -51,23 +52,11 @@ SAMPLES = [
 ]
 
 
-def main():
-    passed = failed = 0
+def results():
     for stated, printed, good in SAMPLES:
-        if (fault(stated, printed) is None) == good:
-            passed += 1
-        else:
-            failed += 1
-            print('the sample %r is judged wrongly' % printed)
+        yield 'sample', None if (fault(stated, printed) is None) == good else '%r is judged wrongly' % printed
     for edit in sorted(ROOT.glob('crates/*/must-fail/*.edit')):
-        wrong = reason(edit)
-        if wrong is None:
-            passed += 1
-        else:
-            failed += 1
-            print('%s: %s' % (edit.relative_to(ROOT), wrong))
-    print('%d passed, %d failed' % (passed, failed))
-    sys.exit(1 if failed else 0)
+        yield edit.relative_to(ROOT), reason(edit)
 
 
-main()
+report(results())

@@ -32,6 +32,7 @@ abbrev pub like : Bytes → Bytes → Bool
 like p s = eqb (length s) (length p) && startsLike p s
 
 -- ---- the numbers at a place of a text
+-- A place past the end counts as 0.
 abbrev pub digitAt : Bytes → ℕ → ℕ
 digitAt s i = digitValue (getD s i 0)
 
@@ -59,6 +60,7 @@ lastOfMonth y m = date y m (monthDays y m)
 abbrev pub midnight : Date → Result ℤ
 midnight w = provided (isValid w) badDate (ranged (fromYear0 (dayNumber w * msPerDay)))
 
+-- YYYY, YYYY-MM, YYYY-MM-DD; any other text is 8.
 unfoldable pub dayText : Bytes → Result ℤ
 dayText s =
     cond (like (ascii "0000") s) (midnight (lastOfYear (yearIn s)))
@@ -138,6 +140,7 @@ timeText s =
     (afterSeconds (dayNumber (dateIn s) * msPerDay + ((h * 60 + m) * 60 + c) * 1000) (drop 19 s))
 
 -- ---- all nineteen forms
+-- With a time or without; any other text is 8.
 unfoldable pub dateText : Bytes → Result ℤ
 dateText s = cond (startsLike (ascii "0000-00-00T00:00:00") s) (timeText s) (dayText s)
 

@@ -1,5 +1,5 @@
 -- EvalPlain: evaluation without names: a value or a refusal, and the steps left. Nothing here need be believed: Laws.Plain proves that it has
--- the outcome and the steps of Eval. Code is proved against it.
+-- the outcome and the steps of Eval. Code is to be proved against it.
 use Prim.Native.Nat.{ℕ, zero, suc}
 use Rattle.model.specs.Eval.{Outcome, value, refusal, context}
 use Rattle.model.specs.Operations.{operate}

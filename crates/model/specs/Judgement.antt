@@ -34,10 +34,12 @@ abbrev pub judgedNumber : {A : Type 0} → Judged A → ℕ
 judgedNumber (done a) = 0
 judgedNumber (refuses e) = number e
 
+-- What is there, or a refusal.
 abbrev pub orRefuse : {A : Type 0} → Refusal → Option A → Judged A
 orRefuse e none = refuses e
 orRefuse e (some a) = done a
 
+-- 6: "the text reads, but is not a rule". 14: "the text reads, but is not a sheet".
 abbrev pub ruleIn : Value → Judged Rule
 ruleIn v = orRefuse notRule (shape v)
 
@@ -50,6 +52,7 @@ pub record Checked : Type 0 where
   pub sheet : Sheet
   pub types : Types
 
+-- 13: "the kind check does not pass"
 abbrev pub checked : Value → Value → Judged Checked
 checked rule sheet = do
   r ← ruleIn rule
@@ -57,6 +60,7 @@ checked rule sheet = do
   ts ← orRefuse notAccepted (check r s)
   done (record { rule = r; sheet = s; types = ts })
 
+-- What the check tells.
 abbrev pub judgeCheck : Value → Value → Judged Types
 judgeCheck rule sheet = do
   c ← checked rule sheet
@@ -68,13 +72,14 @@ judgeFits sheet record′ = do
   s ← sheetIn sheet
   done (fits s record′)
 
--- An answer's text, for an output area of some bytes.
+-- An answer's text, for an output area of some bytes: 11, then 12, "the answer's text is longer than the output area".
 abbrev pub writtenWithin : ℕ → Value → Judged Bytes
 writtenWithin room v =
     cond (isTooLarge v) (refuses answerTooLarge)
     (cond (ltb room (length (valueText v))) (refuses outputTooShort)
     (done (valueText v)))
 
+-- What evaluation gave, written; its own refusals stay.
 abbrev pub written : ℕ → Outcome → Judged Bytes
 written room (value v) = writtenWithin room v
 written room (refusal e) = refuses (evaluating e)
@@ -87,6 +92,7 @@ pub record Answer : Type 0 where
 abbrev pub refusedBefore : Refusal → Answer
 refusedBefore e = record { result = refuses e; stepsBegun = 0 }
 
+-- After evaluation has begun, its steps are told, with 11 and 12 too.
 abbrev pub answerOf : Rule → Value → ℕ → ℕ → Answer
 answerOf r record′ limit room =
     record { result = written room (outcome (run r record′ limit)); stepsBegun = steps (run r record′ limit) }
@@ -96,6 +102,7 @@ abbrev pub answer : Judged Rule → Value → ℕ → ℕ → Answer
 answer (done r) record′ limit room = answerOf r record′ limit room
 answer (refuses e) record′ limit room = refusedBefore e
 
+-- The same of the value that a rule's text reads as.
 abbrev pub judgeEvaluate : Value → Value → ℕ → ℕ → Answer
 judgeEvaluate rule record′ limit room = answer (ruleIn rule) record′ limit room
 
@@ -105,6 +112,7 @@ pub record CheckedAnswer : Type 0 where
   pub fit : Bool
   pub answered : Answer
 
+-- Before the check has passed there is nothing to tell.
 abbrev pub checkedAnswer : Judged Checked → Value → ℕ → ℕ → CheckedAnswer
 checkedAnswer (done c) record′ limit room =
     record { types = c .types; fit = fits (c .sheet) record′; answered = answerOf (c .rule) record′ limit room }

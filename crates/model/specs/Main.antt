@@ -1,4 +1,4 @@
--- Main: demand 3 and the theorems around it, restated with nothing else. Each is one line from the file of Laws that proves it.
+-- Main: demand 3 and the theorems around it, restated with nothing else; the proofs are in Laws. The starred rows of 01 are in Laws.Rows.
 -- A text is taken as the value that it reads as; `shape`, `sheetOf` and `check` give some where the text is a rule, a sheet, and the rule is accepted.
 use mathlib.Core.Path.{_≡_, ap}
 use mathlib.Core.List.{List·Memᴰ, reverse}
@@ -43,6 +43,7 @@ EndsWell ts (value v) = T (hasType ts v)
 EndsWell ts (refusal e) = (evalNumber e ≡ 9) ⊎ (evalNumber e ≡ 10)
 
 -- A rule that the kind check accepts, on a record that fits the sheet, under any limit up to the largest, ends well: never in 7 or 8.
+-- (A record has no instant in it; that no text reads as one is to be proved with reading.)
 pub demand-3a :
     (rule sheet record′ : Value) (r : Rule) (s : Sheet) (ts : Types) (limit : ℕ)
     → shape rule ≡ some r

@@ -21,7 +21,7 @@ abbrev pub orElse : {A : Type 0} → Option A → A → A
 orElse none b = b
 orElse (some a) b = a
 
--- The value there is passes a test.
+-- There is a value, and a test holds of it.
 abbrev pub holds : {A : Type 0} → (A → Bool) → Option A → Bool
 holds f none = false
 holds f (some a) = f a

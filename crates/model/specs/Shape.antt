@@ -46,9 +46,11 @@ keywords =
     ∷ (ascii "extractFromUVCI", extractFromUVCI)
     ∷ []
 
+-- A name that is none of these is no operation.
 abbrev pub keywordNamed : Bytes → Option Keyword
 keywordNamed s = find (sameBytes s) keywords
 
+-- "one of "year" "month" "day" "hour""
 abbrev pub units : List (Bytes × TimeUnit)
 units = (ascii "year", Year) ∷ (ascii "month", Month) ∷ (ascii "day", Day) ∷ (ascii "hour", Hour) ∷ []
 
@@ -69,6 +71,7 @@ rulesOf (a ∷ l) = do
   rs ← rulesOf l
   some (rule r rs)
 
+-- As many operands as that, or none.
 abbrev pub exactly2 : {A B : Type 0} → List A → (A → A → Option B) → Option B
 exactly2 [] f = none
 exactly2 (a ∷ []) f = none
@@ -139,17 +142,20 @@ pub data Content : Type 0 where
   list : List Operand → Content
   other : Content
 
+-- A string is the operand of `var`; no other scalar stands as content.
 abbrev pub scalarContent : Scalar → Content
 scalarContent null = other
 scalarContent (boolean b) = other
 scalarContent (integer z) = other
 scalarContent (string s) = text s
 
+-- The rule of a content and a keyword.
 abbrev pub build : Content → Keyword → Option Rule
 build (text s) o = withString o s
 build (list l) o = withOperands o l
 build other o = none
 
+-- "A boolean, integer or string"; "Null is no rule."
 abbrev pub literalShape : Scalar → Option Rule
 literalShape null = none
 literalShape (boolean b) = some (literal (Literal.boolean b))
@@ -167,6 +173,7 @@ unfoldable mutual
     some (apply Operation.array rs)
   shape (object ms) = objectShape ms
 
+  -- Each item of an array as an operand.
   pub operandsOf : Values → List Operand
   operandsOf no-items = []
   operandsOf (item v vs) = record { value = v; asRule = shape v } ∷ operandsOf vs
@@ -177,6 +184,7 @@ unfoldable mutual
   objectShape (member name v no-members) = keywordNamed name >>= build (contentOf v)
   objectShape (member name v (member name₂ v₂ ms)) = none
 
+  -- A string, or operands in an array.
   pub contentOf : Value → Content
   contentOf (scalar x) = scalarContent x
   contentOf (instant t) = other

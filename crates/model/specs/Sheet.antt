@@ -11,6 +11,7 @@ use Rattle.model.specs.Path.{Path, pathOf, valueAt}
 use Rattle.model.specs.Types.{Ty, Types, isIn, hasType}
 use Rattle.model.specs.Value.{Value, scalar, instant, array, object, Values, no-items, item, Members, no-members, member, asString, asArray, memberCount}
 
+-- For each path listed, its types.
 abbrev pub Sheet : Type 0
 Sheet = List (Path × Types)
 
@@ -29,6 +30,7 @@ words =
     ∷ (ascii "object", Ty.object)
     ∷ []
 
+-- A string that is none of these is no word.
 abbrev pub typeNamed : Bytes → Option Ty
 typeNamed s = find (sameBytes s) words
 
@@ -41,10 +43,12 @@ typesOf (item v vs) = do
   ts ← typesOf vs
   when (not (isIn ts a)) (some (a ∷ ts))
 
+-- A list, if it has an element.
 abbrev pub nonEmpty : {A : Type 0} → List A → Option (List A)
 nonEmpty [] = none
 nonEmpty (a ∷ l) = some (a ∷ l)
 
+-- The types of a content.
 abbrev pub contentTypes : Value → Option Types
 contentTypes v = do
   vs ← asArray v
@@ -55,6 +59,7 @@ contentTypes v = do
 abbrev pub entryPath : Bytes → Option Path
 entryPath s = pathOf s >>= nonEmpty
 
+-- All members as entries, or none.
 abbrev pub entriesOf : Members → Option Sheet
 entriesOf no-members = some []
 entriesOf (member name v ms) = do

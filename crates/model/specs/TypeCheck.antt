@@ -62,7 +62,7 @@ domainType onIntegers = Ty.integer
 domainType onInstants = Ty.instant
 
 -- "The other operations allow and give what evaluation does; `plusTime` needs date, `dccDateOfBirth` day. `extractFromUVCI` takes null or string".
--- "`!` takes no instant."
+-- "`and` and `!` take no instant."
 abbrev pub allowed : Operation → List Types → Bool
 allowed Operation.array l = true
 allowed Operation.equal l = twoOperands scalars scalars l
@@ -81,6 +81,7 @@ arrayTypes l =
     (cond (everyOperand (Ty.string ∷ []) l) (Ty.strings ∷ [])
     (Ty.array ∷ []))
 
+-- What each operation gives: "what evaluation does"; "`extractFromUVCI` .. gives null and string".
 abbrev pub given : Operation → List Types → Types
 given Operation.array l = arrayTypes l
 given Operation.equal l = Ty.boolean ∷ []

@@ -17,7 +17,7 @@ pub data Scalar : Type 0 where
   integer : ℤ → Scalar
   string : Bytes → Scalar
 
--- An instant is in milliseconds from 1970-01-01. No text reads as one.
+-- An instant is in milliseconds from 1970-01-01. A text is to read as none.
 mutual
   pub data Value : Type 0 where
     scalar : Scalar → Value
@@ -35,7 +35,7 @@ mutual
     no-members : Members
     member : Bytes → Value → Members → Members
 
--- ---- a value as one of a kind, or none
+-- ---- a value as one of a kind, or none where it is of another
 abbrev pub asScalar : Value → Option Scalar
 asScalar (scalar x) = some x
 asScalar (instant t) = none
@@ -142,7 +142,7 @@ memberCount (member name v ms) = suc (memberCount ms)
 abbrev pub withinLimits : ℤ → Bool
 withinLimits z = leZ (negℤ (pos maxInteger)) z && leZ z (pos maxInteger)
 
--- No instant in it, at any depth. What a text reads as has none.
+-- No instant in it, at any depth: so it is to be with all that a text reads as.
 unfoldable mutual
   pub instantFree : Value → Bool
   instantFree (scalar x) = true

@@ -146,7 +146,7 @@ day-form s h =
     let e = like-length (ascii "0000-00-00") s h in
     simp (T→true (like (ascii "0000-00-00") s) h, unlike (ascii "0000") s (omega arith), unlike (ascii "0000-00") s (omega arith))
 
--- "each of the first three is in range"
+-- Each of the first three forms is in range.
 pub day-in-range : (s : Bytes) (t : ℤ) → dayText s ≡ ok t → T (inRange t)
 day-in-range s t e = subst (Within onlyBad) e (day-within s)
 

@@ -73,6 +73,11 @@ pub row-greater : judged (op ">" (int 3 ∷ int 2 ∷ str "x" ∷ [])) maxSteps 
 unfolding shape body maxSteps
 row-greater = refl
 
+-- "Ending a three-operand comparison before the third kind is tested" is a slip: here the first pair fails already. {">":[1,2,"x"]}
+pub third-kind-tested : judged (op ">" (int 1 ∷ int 2 ∷ str "x" ∷ [])) maxSteps ≡ denies (evaluating (fault wrongKind)) 4
+unfolding shape body maxSteps
+third-kind-tested = refl
+
 -- {"+":[9007199254740991,1]}
 pub row-plus : judged (op "+" (int 9007199254740991 ∷ int 1 ∷ [])) maxSteps ≡ denies (evaluating (fault outOfRange)) 3
 unfolding shape body maxSteps maxInteger

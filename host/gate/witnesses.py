@@ -1,0 +1,157 @@
+#!/usr/bin/env python3
+"""Has the prover compute the counterexamples of the must-fail edits of crates/model.
+
+That an edit is refused shows a broken proof, not yet a false law. So an edit has lines `witness: {..}`: cases as in
+vectors/, but with JSON values for the hex, and with limit 1000, out 16384 and record null where these are left out.
+They say what the edited definitions give: antt accepts `refl` for each over a copy of the definitions with the edit.
+At least one of an edit's cases is one where the reference gives something else; and over the definitions as they are,
+exactly the cases where it does are refused. An edit that no answer shows has a line `argued: ..` instead, which is not
+counted. Scratch repositories are in target/witnesses. The last line is 'N passed, M failed'.
+"""
+import json
+import multiprocessing
+import re
+import shutil
+import sys
+
+sys.dont_write_bytecode = True
+from tally import ROOT, report
+
+sys.path[:0] = [str(ROOT / 'host' / 'definitions'), str(ROOT / 'host' / 'reference')]
+import test_reference
+import try_definitions
+
+SCRATCH = ROOT / 'target' / 'witnesses'
+CRATE = 'witnessed'
+JOBS = 2  # edits that are tried at once
+DEFAULTS = {'record': None, 'limit': try_definitions.PROGRAM_LIMIT, 'out': try_definitions.PROGRAM_ROOM}
+KEYS = {'entry', 'rule', 'sheet', 'expect', *DEFAULTS}
+
+
+class Fault(Exception):
+    """What is wrong with an edit."""
+
+
+# ---- what an edit says
+
+def hex_of(value):
+    return json.dumps(value, ensure_ascii=False, separators=(',', ':')).encode('utf-8').hex()
+
+
+def with_hex(values, keys):
+    return {key: hex_of(value) if key in keys else value for key, value in values.items()}
+
+
+def check_of(name, line):
+    """The check of a witness."""
+    try:
+        stated = json.loads(line)
+        if set(stated) - KEYS:
+            raise Fault('a witness has no %s' % ', '.join(sorted(set(stated) - KEYS)))
+        case = with_hex({**DEFAULTS, **stated}, ('rule', 'sheet', 'record'))
+        return try_definitions.check_of({**case, 'expect': with_hex(case['expect'], ('answer',)), 'id': name, 'note': ''})
+    except (ValueError, KeyError, TypeError, try_definitions.Skip) as error:
+        raise Fault('%r is no witness: %s %s' % (line, type(error).__name__, error)) from None
+
+
+def checks_of(label, text):
+    """The checks of an edit's witnesses; none if it is argued."""
+    lines = re.findall(r'^witness: *(.*)$', text, re.M)
+    if not lines and not re.search(r'^argued: *\S', text, re.M):
+        raise Fault('it has neither a `witness:` nor an `argued:`')
+    # In antt a `_` in a name is the place of an operand.
+    return [check_of('%s-%d' % (label.replace('_', '·'), number), line) for number, line in enumerate(lines, 1)]
+
+
+def changes_of(text):
+    """The replacements of an edit outside the laws: a file, the old text and the new. A `file:` holds for all pairs after it."""
+    changes, file, old = [], '', ''
+    for key, value in re.findall(r'^(file|old|new): ?(.*)$', text, re.M):
+        if key == 'file':
+            file = value
+        elif key == 'old':
+            old = value
+        elif not file.startswith('specs/Laws'):
+            changes.append((file, old, value))
+    return changes
+
+
+# ---- the runs
+
+def apply(changes):
+    """Makes the changes in the copied definitions."""
+    for file, old, new in changes:
+        path = try_definitions.SCRATCH / 'crates' / 'model' / file
+        if not path.is_file():
+            raise Fault('%s is not among the definitions that the cases need' % file)
+        text = path.read_text(encoding='utf-8')
+        if not old or text.count(old) != 1:
+            raise Fault('%s has %r %d times' % (file, old, text.count(old)))
+        path.write_text(text.replace(old, new), encoding='utf-8')
+
+
+def refused(task):
+    """The names of the checks that are refused over the definitions with these changes, with what is said; or the Fault."""
+    label, changes, checks = task
+    try_definitions.SCRATCH = SCRATCH / label
+    try_definitions.JOBS = 1
+    modules = try_definitions.copy_model()
+    try:
+        apply(changes)
+    except Fault as fault:
+        return fault
+    groups = {check.case['id']: [check] for check in checks}
+    try_definitions.write_crate(CRATE, groups, modules)
+    output = try_definitions.rt_check([CRATE])
+    found = try_definitions.refusals(output, CRATE, groups)
+    if found is None:
+        errors = [line for line in output.splitlines() if ': error: ' in line or 'NOT PROVED' in line]
+        return Fault('no verdict (target/witnesses/%s/output.txt): %s' % (label, ' '.join(errors[:1])[:300]))
+    return found
+
+
+def verdict(checks, found, differing):
+    """None if an edit's witnesses show what they are for, else what is wrong."""
+    if isinstance(found, Fault):
+        return found
+    for name, said in found.items():
+        computed = re.findall(r'computed as far as they go, (.*)', said) or said.splitlines()[:1]
+        return 'the edited definitions do not give what %s expects: %s' % (name, computed[0][:600])
+    if not any(check.case['id'] in differing for check in checks):
+        return 'the reference gives the same'
+    return None
+
+
+def unedited(found, differing):
+    """None if the definitions as they are give what the reference gives, else what is wrong."""
+    if isinstance(found, Fault):
+        return found
+    wrong = sorted(differing ^ set(found))
+    return 'they and the reference do not agree on %s' % ', '.join(wrong) if wrong else None
+
+
+def results():
+    shutil.rmtree(SCRATCH, ignore_errors=True)
+    names, tasks = [], []
+    for edit in sorted((try_definitions.MODEL / 'must-fail').glob('*.edit')):
+        text = edit.read_text(encoding='utf-8')
+        try:
+            checks = checks_of(edit.stem, text)
+        except Fault as fault:
+            yield edit.relative_to(ROOT), fault
+            continue
+        if checks:
+            names.append(edit.relative_to(ROOT))
+            tasks.append((edit.stem, changes_of(text), checks))
+    every = [check for _, _, checks in tasks for check in checks]
+    differing = {check.case['id'] for check in every if test_reference.numbers_of(check.case) != check.expected}
+
+    with multiprocessing.Pool(JOBS) as pool:
+        first, *others = pool.map(refused, [('.unedited', [], every), *tasks], chunksize=1)
+    yield 'the definitions as they are', unedited(first, differing)
+    for name, (_, _, checks), found in zip(names, tasks, others):
+        yield name, verdict(checks, found, differing)
+
+
+if __name__ == '__main__':
+    report(results())
