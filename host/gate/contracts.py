@@ -3,8 +3,8 @@
 
 Every `pub fn` states an `ensures` that names its result or a parameter (one that names none promises nothing); an
 exported C function states no `requires`; each `&mut` parameter is named in an `ensures`, since a promise covers the
-last bytes of every lent area. A check of the sources' shape: what the contracts mean is proved by `rt ci`. The last line is 'N passed, M failed': a test of this script on samples,
-and one for each public function.
+last bytes of every lent area. A check of the sources' shape: what the contracts mean is proved by `rt ci`. The last
+line is 'N passed, M failed': a test of this script on samples, and one for each public function.
 """
 import re
 import sys
@@ -21,11 +21,11 @@ def without_comments(text):
     return re.sub(r'//[^\n]*', '', text)
 
 
-def skip_braces(text, at):
-    """The position after the braces that open at `at`."""
+def skip(text, at, opening, closing):
+    """The position after the brackets that open at `at`."""
     level = 0
     for i in range(at, len(text)):
-        level += {'{': 1, '}': -1}.get(text[i], 0)
+        level += {opening: 1, closing: -1}.get(text[i], 0)
         if level == 0:
             return i + 1
     return len(text)
@@ -43,7 +43,7 @@ def header(text, start):
         elif c == '{' and depth == 0:
             if not CLAUSE.search(text[start:i]):
                 return text[start:i]
-            i = skip_braces(text, i)
+            i = skip(text, i, '{', '}')
             continue
         i += 1
     return text[start:]
@@ -53,24 +53,14 @@ def clauses(head, word):
     """The texts of the clauses of one kind."""
     found = []
     for m in re.finditer(r'\b%s\b[^{]*\{' % word, head):
-        found.append(head[m.end():skip_braces(head, m.end() - 1) - 1])
+        found.append(head[m.end():skip(head, m.end() - 1, '{', '}') - 1])
     return found
-
-
-def skip_brackets(text, at):
-    """The position after the round brackets that open at `at`."""
-    level = 0
-    for i in range(at, len(text)):
-        level += {'(': 1, ')': -1}.get(text[i], 0)
-        if level == 0:
-            return i + 1
-    return len(text)
 
 
 def parameters(head):
     """The names of a function's parameters."""
     at = head.find('(')
-    listed = head[at:skip_brackets(head, at)] if at >= 0 else ''
+    listed = head[at:skip(head, at, '(', ')')] if at >= 0 else ''
     return re.findall(r'(\w+)\s*:(?!:)', listed) + re.findall(r'\bself\b', listed)
 
 

@@ -34,15 +34,15 @@ abbrev pub judgedNumber : {A : Type 0} → Judged A → ℕ
 judgedNumber (done a) = 0
 judgedNumber (refuses e) = number e
 
--- What is there, or a refusal.
 abbrev pub orRefuse : {A : Type 0} → Refusal → Option A → Judged A
 orRefuse e none = refuses e
 orRefuse e (some a) = done a
 
--- 6: "the text reads, but is not a rule". 14: "the text reads, but is not a sheet".
+-- 6: "the text reads, but is not a rule"
 abbrev pub ruleIn : Value → Judged Rule
 ruleIn v = orRefuse notRule (shape v)
 
+-- 14: "the text reads, but is not a sheet"
 abbrev pub sheetIn : Value → Judged Sheet
 sheetIn v = orRefuse notSheet (sheetOf v)
 
@@ -60,7 +60,7 @@ checked rule sheet = do
   ts ← orRefuse notAccepted (check r s)
   done (record { rule = r; sheet = s; types = ts })
 
--- What the check tells.
+-- The check by itself tells the types.
 abbrev pub judgeCheck : Value → Value → Judged Types
 judgeCheck rule sheet = do
   c ← checked rule sheet

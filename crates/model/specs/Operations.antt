@@ -32,7 +32,6 @@ binary f (item a no-items) = refuse wrongKind
 binary f (item a (item b no-items)) = f a b
 binary f (item a (item b (item c vs))) = refuse wrongKind
 
--- A boolean as a value.
 abbrev pub bool : Bool → Value
 bool b = scalar (boolean b)
 
@@ -75,7 +74,6 @@ numbers d (item v vs) = do
   ns ← numbers d vs
   ok (n ∷ ns)
 
--- One comparison of two numbers.
 abbrev pub compares : Comparison → ℤ → ℤ → Bool
 compares Greater a b = ltZ b a
 compares Less a b = ltZ a b
@@ -88,7 +86,7 @@ chain f [] = true
 chain f (a ∷ []) = true
 chain f (a ∷ b ∷ l) = f a b && chain f (b ∷ l)
 
--- Numbers first, then the comparison.
+-- Every kind is tested before any pair is compared.
 abbrev pub comparison : Domain → Comparison → Values → Result Value
 comparison d c vs = do
   ns ← numbers d vs

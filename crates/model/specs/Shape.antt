@@ -71,7 +71,7 @@ rulesOf (a ∷ l) = do
   rs ← rulesOf l
   some (rule r rs)
 
--- As many operands as that, or none.
+-- What a function gives on exactly two elements, on exactly three; none for any other number.
 abbrev pub exactly2 : {A B : Type 0} → List A → (A → A → Option B) → Option B
 exactly2 [] f = none
 exactly2 (a ∷ []) f = none
@@ -149,7 +149,7 @@ scalarContent (boolean b) = other
 scalarContent (integer z) = other
 scalarContent (string s) = text s
 
--- The rule of a content and a keyword.
+-- `var` wants a string, every other keyword operands in an array.
 abbrev pub build : Content → Keyword → Option Rule
 build (text s) o = withString o s
 build (list l) o = withOperands o l

@@ -81,7 +81,7 @@ arrayTypes l =
     (cond (everyOperand (Ty.string ∷ []) l) (Ty.strings ∷ [])
     (Ty.array ∷ []))
 
--- What each operation gives: "what evaluation does"; "`extractFromUVCI` .. gives null and string".
+-- "The other operations allow and give what evaluation does"; `extractFromUVCI` "gives null and string".
 abbrev pub given : Operation → List Types → Types
 given Operation.array l = arrayTypes l
 given Operation.equal l = Ty.boolean ∷ []

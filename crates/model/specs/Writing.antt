@@ -20,11 +20,9 @@ decimalWithin (suc k) n =
     let more = decimalWithin k (n / 10) ++ (digitByte n ∷ []) in
     cond (ltb n 10) (digitByte n ∷ []) more
 
--- Of a number, in decimal.
 unfoldable pub decimal : ℕ → Bytes
 decimal n = decimalWithin n n
 
--- With a minus sign if negative.
 abbrev pub integerText : ℤ → Bytes
 integerText (pos n) = decimal n
 integerText (negsuc n) = ascii "-" ++ decimal (suc n)
@@ -57,7 +55,6 @@ abbrev pub escapedAll : Bytes → Bytes
 escapedAll [] = []
 escapedAll (x ∷ s) = escaped x ++ escapedAll s
 
--- Between quotes.
 abbrev pub stringText : Bytes → Bytes
 stringText s = ascii "\"" ++ (escapedAll s ++ ascii "\"")
 
