@@ -370,7 +370,7 @@ def main():
     print(f"seed {options.seed}, {len(cases)} cases", counts(cases), sep="\n")
     checks, traces = checks_of(cases)
     try_definitions.clear()
-    agree, refuted, tested = tried(checks, traces, try_definitions.copy_model())
+    agree, refuted, tested = tried(checks, traces, try_definitions.copy_definitions())
 
     for check, said in refuted[:SHOWN]:
         print(shown(check.case, said, options))

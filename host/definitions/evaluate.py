@@ -61,12 +61,12 @@ def prove(cases):
     try:
         checks = [try_definitions.check_of(case) for case in cases]
     except ValueError as fault:
-        sys.exit(f"the case is not judged: {fault}, and reading (refusals 2 to 5) is not defined yet")
+        sys.exit(f"the case is not judged: {fault} (refusals 2 to 5; host/read tells which and where)")
     if shutil.which("rt") is None:
         sys.exit("the Rattle toolchain (rt) is not on PATH")
     with contextlib.redirect_stdout(sys.stderr):
         try_definitions.clear()
-        modules = try_definitions.copy_model()
+        modules = try_definitions.copy_definitions()
         crates = {CRATE: try_definitions.grouped(checks, 1)}
         refuted = try_definitions.judged(crates, try_definitions.run(crates, modules))[1]
         for check, said in refuted:

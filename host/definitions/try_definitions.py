@@ -1,8 +1,8 @@
 #!/usr/bin/env python3
-"""Runs the definitions of crates/model on the cases of vectors/, by computation.
+"""Runs the definitions of crates/syntax and crates/model on the cases of vectors/, by computation.
 
-antt accepts `refl` for a case exactly if the definition of crates/model/specs/Judgement.antt gives
-what the case expects. README.md, beside this file, says more.
+antt accepts `refl` for a case exactly if the definition, `read` of crates/syntax/specs/Read.antt or one of
+crates/model/specs/Judgement.antt, gives what the case expects. README.md, beside this file, says more.
 """
 import argparse
 import json
@@ -17,6 +17,8 @@ from pathlib import Path
 ROOT = Path(__file__).resolve().parents[2]
 VECTORS = ROOT / "vectors"
 MODEL = ROOT / "crates" / "model"
+SYNTAX = ROOT / "crates" / "syntax"
+READING = ["Tokens", "Utf8", "Domain", "Read"]  # the modules of syntax that define reading
 SCRATCH = ROOT / "target" / "definitions"
 
 JOBS = 2  # crates that are checked at once
@@ -205,8 +207,21 @@ def as_evaluate(case):
     return {**case, "entry": "evaluate", "limit": PROGRAM_LIMIT, "out": PROGRAM_ROOM, "expect": expect}
 
 
+def reading_of(case):
+    """The check of a case that reading decides: what one text reads as, or its refusal and place."""
+    expect = case["expect"]
+    if case["entry"] != "read" and "text" not in expect:
+        raise Skip("refusals 2 to 5 without a place, from the program")
+    text = bytes.fromhex(case["text"] if case["entry"] == "read" else case[expect["text"]] or "")
+    if expect["refusal"]:
+        seen = [expect["refusal"], expect["place"]]
+    else:
+        seen = [0, expect["values"], expect["nest"], *bytes.fromhex(expect["written"])]
+    return Check(case, f"seenRead (read {numbers(text)})", seen)
+
+
 def read_texts(case):
-    """The values of a case's texts, None for one that does not read. Skip or ValueError where that decides the case."""
+    """The values of a case's texts, None for one that does not read. A ValueError says what is wrong with them."""
     refusal = case["expect"]["refusal"]
     # The texts in the order in which they are read, each with the refusals that come before it: under those it may be anything.
     earlier = {"text": (), "rule": (), "sheet": (6,), "record": (6, 14, 13)}
@@ -218,11 +233,9 @@ def read_texts(case):
             values[key] = None
             if refusal not in earlier[key]:
                 faulty.append(key)
-    if 2 <= refusal <= 5:
-        if not faulty:
-            raise ValueError("each of its texts reads")
-        raise Skip("reading: refusals 2 to 5")
-    if faulty:
+    if 2 <= refusal <= 5 and not faulty:
+        raise ValueError("each of its texts reads")
+    if faulty and not 2 <= refusal <= 5:
         raise ValueError(f"its {faulty[0]} does not read")
     return values
 
@@ -236,9 +249,10 @@ def check_of(case):
     if refusal == 1 or "short" in case:
         raise Skip("work areas and the step limit: refusal 1")
 
-    terms = {key: term(value) for key, value in read_texts(case).items()}
-    if entry == "read":
-        return Check(case, f"seenText {terms['text']}", [expect["values"], expect["nest"], *bytes.fromhex(expect["written"])])
+    values = read_texts(case)
+    if entry == "read" or 2 <= refusal <= 5:
+        return reading_of(case)
+    terms = {key: term(value) for key, value in values.items()}
     if entry == "check":
         bits = sum(1 << WORDS.index(word) for word in expect.get("kinds", ()))
         return Check(case, f"seenTypes (judgeCheck {terms['rule']} {terms['sheet']})", [refusal, bits])
@@ -287,7 +301,10 @@ use Rattle.model.specs.Judgement.{Judged, done, refuses, Answer, judgedNumber, 
 use Rattle.model.specs.Size.{valueCount, nesting}
 use Rattle.model.specs.Types.{Types, typeBits}
 use Rattle.model.specs.Value.{Value, scalar, array, object, null, boolean, integer, string, no-items, item, no-members, member}
+use Rattle.model.specs.Refusal.{readNumber}
 use Rattle.model.specs.Writing.{valueText}
+use Rattle.syntax.specs.Read.{Read, read}
+use Rattle.syntax.specs.Read as reading
 """
 
 SEEN = """
@@ -308,9 +325,10 @@ seenTypes j = judgedNumber j ∷ typeBits (doneOr [] j) ∷ []
 abbrev pub seenFit : Judged Bool → List ℕ
 seenFit j = judgedNumber j ∷ cond (doneOr false j) 1 0 ∷ []
 
--- Of a text that reads: the number of values, the nesting, and the bytes of the text as it is written.
-abbrev pub seenText : Value → List ℕ
-seenText v = valueCount v ∷ nesting v ∷ valueText v
+-- .. of a text that reads, the number of values, the nesting, and the bytes of the text as it is written; of another, the place
+abbrev pub seenRead : Read → List ℕ
+seenRead (reading.done v) = 0 ∷ valueCount v ∷ nesting v ∷ valueText v
+seenRead (reading.refuse k p) = readNumber k ∷ p ∷ []
 
 -- Where this unfolds, so does every definition.
 unfoldable pub definitions : ℕ
@@ -320,7 +338,8 @@ definitions = 0
 
 
 def source(module):
-    return (MODEL / "specs" / f"{module}.antt").read_text(encoding="utf-8")
+    folder = SYNTAX if module in READING else MODEL
+    return (folder / "specs" / f"{module}.antt").read_text(encoding="utf-8")
 
 
 def put(crate, file, text):
@@ -329,8 +348,12 @@ def put(crate, file, text):
     path.write_text(text, encoding="utf-8")
 
 
-def copy_model():
-    """Copies the modules of the model that Judgement needs, which leaves the laws out; gives their names."""
+def copy_definitions():
+    """Copies the modules that Judgement needs, which leaves the laws out, and those of reading; gives their names."""
+    shutil.copytree(SYNTAX / "src", SCRATCH / "crates" / "syntax" / "src")
+    for module in READING:
+        put("syntax", f"specs/{module}.antt", source(module))
+    put("syntax", "specs/Lib.antt", "".join(f"pub mod {module}\n" for module in READING))
     shutil.copytree(MODEL / "src", SCRATCH / "crates" / "model" / "src")
     modules, found = [], ["Judgement"]
     while found:
@@ -340,12 +363,12 @@ def copy_model():
             put("model", f"specs/{module}.antt", source(module))
             found += set(re.findall(r"^use Rattle\.model\.specs\.(\w+)", source(module), re.MULTILINE)) - {"declared"}
     put("model", "specs/Lib.antt", "".join(f"pub mod {module}\n" for module in modules))
-    return modules
+    return modules + READING
 
 
 def unfoldable(module):
     """The definitions of a module that are marked `unfoldable`; a block of functions goes by the first."""
-    return re.findall(r"^unfoldable (?:mutual\s+(?:--.*\s+)*)?(?:abbrev )?pub (\S+)", source(module), re.MULTILINE)
+    return re.findall(r"^unfoldable (?:mutual\s+(?:--.*\s+)*)?(?:abbrev )?pub (?!use )(\S+)", source(module), re.MULTILINE)
 
 
 def declaration(name, checks):
@@ -357,9 +380,9 @@ def declaration(name, checks):
 def write_crate(name, groups, modules):
     """Writes a crate with a declaration for each group of checks."""
     opened = [(module, word) for module in modules for word in unfoldable(module)]
-    renamed = "".join(f"use Rattle.model.specs.{module}.{{{word} as {module}·{word}}}\n" for module, word in opened)
+    renamed = "".join(f"use Rattle·{'syntax' if module in READING else 'model'}.specs.{module}.{{{word} as {module}·{word}}}\n" for module, word in opened)
     unfolding = " ".join(f"{module}·{word}" for module, word in opened)
-    seen = f"use Rattle.{name}.specs.Seen.{{definitions, seenAnswer, seenTypes, seenFit, seenText}}\n"
+    seen = f"use Rattle.{name}.specs.Seen.{{definitions, seenAnswer, seenTypes, seenFit, seenRead}}\n"
     put(name, "src/lib.rt", "pub enum Unused {\n    Only,\n}\n")
     put(name, "specs/Lib.antt", "pub mod Seen\npub mod Cases\n")
     put(name, "specs/Seen.antt", USES + renamed + SEEN.replace("{}", unfolding))
@@ -388,8 +411,9 @@ def clear():
 
 def rt_check(names):
     """Runs `rt check` on crates of the scratch repository, and gives what it printed."""
-    every = [path.name for path in (SCRATCH / "crates").iterdir() if path.name != "model"]
-    (SCRATCH / "crates.txt").write_text("model:\n" + "".join(f"{name}: model\n" for name in every), encoding="utf-8")
+    every = [path.name for path in (SCRATCH / "crates").iterdir() if path.name not in ("model", "syntax")]
+    listed = "model:\nsyntax: model\n" + "".join(f"{name}: model syntax\n" for name in every)
+    (SCRATCH / "crates.txt").write_text(listed, encoding="utf-8")
     environment = {**os.environ, "RT_JOBS": str(JOBS), "RT_CUT": "0"}
     done = subprocess.run(["rt", "check", *names], cwd=SCRATCH, env=environment, stdout=subprocess.PIPE, stderr=subprocess.STDOUT, check=False)
     output = done.stdout.decode("utf-8", "replace")
@@ -497,7 +521,7 @@ def main():
     checks, skipped, disagreeing = ([], {}, []) if options.self_test else sort_out(cases)
 
     clear()
-    modules = copy_model()
+    modules = copy_definitions()
     crates = dealt(grouped(checks, GROUP), "trial")
     refused = run({**crates, "wrong": tests}, modules)
     tested = self_tested(tests, refused.pop("wrong") or {})

@@ -24,10 +24,11 @@ def fault(stated, printed):
         own = OWN_ERROR.match(line)
         if not own:
             return 'an error that names no declaration: %s' % line[:200]
+        if AFTER_ANOTHER in own.group(2):
+            continue
         if any(word in own.group(2) for word in NO_FACT):
             return 'an error about names or layout: %s' % line[:200]
-        if AFTER_ANOTHER not in own.group(2):
-            refused.add(own.group(1))
+        refused.add(own.group(1))
     missing = [name for name in stated if name not in refused]
     if missing:
         return 'not refused by %s, but by %s' % (', '.join(missing), ', '.join(sorted(refused)) or 'nothing')
@@ -49,6 +50,7 @@ SAMPLES = [
     (['law'], 'a.antt:1:2: error: `other`: the two types differ\n', False),
     (['law'], 'a.antt:1:2: error: `law`: `x` was not admitted, so this cannot be checked\n', False),
     (['law'], 'a.antt:1:2: error: `law`: the two types differ\na.antt:2:2: error: `other`: `y` is not in scope\n', False),
+    (['law'], 'a.antt:1:2: error: `law`: the two types differ\na.antt:2:2: error: `other`: `parsed` was not admitted\n', True),
 ]
 
 

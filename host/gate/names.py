@@ -2,7 +2,8 @@
 """Checks that what the documents name is there.
 
 In every document but the papers as given, a code span such as `specs/Laws/Limit.antt: same-end` names
-declarations of a file under crates/model; a link names a file or a folder, beside the document or from the root, and
+declarations of a file under crates/model, and one such as `syntax/specs/Read.antt: read` those of a file under another
+crate (`specs/` may be left out); a link names a file or a folder, beside the document or from the root, and
 so does a code span that looks like a path of the repository; a word such as (*step_not_taken*) in brackets names a
 must-fail edit. The last line is 'N passed, M failed': a test of this script on a sample, and one for each name.
 """
@@ -12,8 +13,8 @@ import sys
 sys.dont_write_bytecode = True
 from tally import ROOT, report
 
-MODEL = ROOT / 'crates' / 'model'
-SPAN = re.compile(r'`(specs/[\w/]+\.antt|[A-Z]\w+(?:/[A-Z]\w+)?\.antt): ([^`]+)`')
+CRATES = ROOT / 'crates'
+SPAN = re.compile(r'`(?:([a-z]\w*)/)?(specs/[\w/]+\.antt|[A-Z]\w+(?:/[A-Z]\w+)?\.antt): ([^`]+)`')
 FOLDERS = '|'.join(sorted(p.name for p in ROOT.iterdir() if p.is_dir() and p.name not in ('.git', 'target')))
 PATH = re.compile(r'`((?:%s)/[\w./-]+)`' % FOLDERS.replace('.', r'\.'))
 LINK = re.compile(r'\]\((?!https?:)([^)#]+)(?:#[^)]*)?\)')
@@ -65,11 +66,12 @@ def declares(source, name):
 def declared(text):
     """(name, whether it is there) for each declaration that a document names."""
     for m in SPAN.finditer(text):
-        file = m.group(1) if m.group(1).startswith('specs/') else 'specs/' + m.group(1)
-        path = MODEL / file
+        crate = m.group(1) if m.group(1) and m.group(1) != 'specs' else 'model'
+        file = m.group(2) if m.group(2).startswith('specs/') else 'specs/' + m.group(2)
+        path = CRATES / crate / file
         source = path.read_text(encoding='utf-8') if path.exists() else ''
-        for name in m.group(2).split(','):
-            yield '%s: %s' % (file, name.strip()), declares(source, name.strip())
+        for name in m.group(3).split(','):
+            yield '%s/%s: %s' % (crate, file, name.strip()), declares(source, name.strip())
 
 
 def files(document, text):

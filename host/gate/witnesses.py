@@ -1,12 +1,13 @@
 #!/usr/bin/env python3
-"""Has the prover compute the counterexamples of the must-fail edits of crates/model.
+"""Has the prover compute the counterexamples of the must-fail edits of crates/model and crates/syntax.
 
 That an edit is refused shows a broken proof, not yet a false law. So an edit has lines `witness: {..}`: cases as in
-vectors/, but with JSON values for the hex, and with limit 1000, out 16384 and record null where these are left out.
-They say what the edited definitions give: antt accepts `refl` for each over a copy of the definitions with the edit.
-At least one of an edit's cases is one where the reference gives something else; and over the definitions as they are,
-exactly the cases where it does are refused. An edit that no answer shows has a line `argued: ..` instead, which is not
-counted. Scratch repositories are in target/witnesses. The last line is 'N passed, M failed'.
+vectors/, but with JSON values for the hex of rule, sheet, record and answer, and with limit 1000, out 16384 and record
+null where these are left out. They say what the edited definitions give: antt accepts `refl` for each over a copy of
+the definitions with the edit. At least one of an edit's cases is one where the reference gives something else; and
+over the definitions as they are, exactly the cases where it does are refused. (The reference does not read texts: a
+case of the entry `read` is always to be refused there.) An edit that no answer shows has a line `argued: ..` instead,
+which is not counted. Scratch repositories are in target/witnesses. The last line is 'N passed, M failed'.
 """
 import json
 import multiprocessing
@@ -25,7 +26,7 @@ SCRATCH = ROOT / 'target' / 'witnesses'
 CRATE = 'witnessed'
 JOBS = 2  # edits that are tried at once
 DEFAULTS = {'record': None, 'limit': try_definitions.PROGRAM_LIMIT, 'out': try_definitions.PROGRAM_ROOM}
-KEYS = {'entry', 'rule', 'sheet', 'expect', *DEFAULTS}
+KEYS = {'entry', 'text', 'rule', 'sheet', 'expect', *DEFAULTS}
 
 
 class Fault(Exception):
@@ -49,7 +50,8 @@ def check_of(name, line):
         if set(stated) - KEYS:
             raise Fault('a witness has no %s' % ', '.join(sorted(set(stated) - KEYS)))
         case = with_hex({**DEFAULTS, **stated}, ('rule', 'sheet', 'record'))
-        return try_definitions.check_of({**case, 'expect': with_hex(case['expect'], ('answer',)), 'id': name, 'note': ''})
+        case = {**case, 'expect': with_hex(case['expect'], ('answer',)), 'id': name, 'note': ''}
+        return try_definitions.reading_of(case) if case['entry'] == 'read' else try_definitions.check_of(case)
     except (ValueError, KeyError, TypeError, try_definitions.Skip) as error:
         raise Fault('%r is no witness: %s %s' % (line, type(error).__name__, error)) from None
 
@@ -78,10 +80,10 @@ def changes_of(text):
 
 # ---- the runs
 
-def apply(changes):
-    """Makes the changes in the copied definitions."""
+def apply(crate, changes):
+    """Makes the changes in the copied definitions of a crate."""
     for file, old, new in changes:
-        path = try_definitions.SCRATCH / 'crates' / 'model' / file
+        path = try_definitions.SCRATCH / 'crates' / crate / file
         if not path.is_file():
             raise Fault('%s is not among the definitions that the cases need' % file)
         text = path.read_text(encoding='utf-8')
@@ -92,12 +94,12 @@ def apply(changes):
 
 def refused(task):
     """The names of the checks that are refused over the definitions with these changes, with what is said; or the Fault."""
-    label, changes, checks = task
-    try_definitions.SCRATCH = SCRATCH / label
+    crate, label, changes, checks = task
+    try_definitions.SCRATCH = SCRATCH / crate / label
     try_definitions.JOBS = 1
-    modules = try_definitions.copy_model()
+    modules = try_definitions.copy_definitions()
     try:
-        apply(changes)
+        apply(crate, changes)
     except Fault as fault:
         return fault
     groups = {check.case['id']: [check] for check in checks}
@@ -106,7 +108,7 @@ def refused(task):
     found = try_definitions.refusals(output, CRATE, groups)
     if found is None:
         errors = [line for line in output.splitlines() if ': error: ' in line or 'NOT PROVED' in line]
-        return Fault('no verdict (target/witnesses/%s/output.txt): %s' % (label, ' '.join(errors[:1])[:300]))
+        return Fault('no verdict (target/witnesses/%s/%s/output.txt): %s' % (crate, label, ' '.join(errors[:1])[:300]))
     return found
 
 
@@ -130,10 +132,16 @@ def unedited(found, differing):
     return 'they and the reference do not agree on %s' % ', '.join(wrong) if wrong else None
 
 
+def differs(check):
+    """The reference gives something else than a witness expects."""
+    return check.case['entry'] == 'read' or test_reference.numbers_of(check.case) != check.expected
+
+
 def results():
     shutil.rmtree(SCRATCH, ignore_errors=True)
     names, tasks = [], []
-    for edit in sorted((try_definitions.MODEL / 'must-fail').glob('*.edit')):
+    edits = [edit for crate in (try_definitions.MODEL, try_definitions.SYNTAX) for edit in sorted((crate / 'must-fail').glob('*.edit'))]
+    for edit in edits:
         text = edit.read_text(encoding='utf-8')
         try:
             checks = checks_of(edit.stem, text)
@@ -142,14 +150,14 @@ def results():
             continue
         if checks:
             names.append(edit.relative_to(ROOT))
-            tasks.append((edit.stem, changes_of(text), checks))
-    every = [check for _, _, checks in tasks for check in checks]
-    differing = {check.case['id'] for check in every if test_reference.numbers_of(check.case) != check.expected}
+            tasks.append((edit.parent.parent.name, edit.stem, changes_of(text), checks))
+    every = [check for *_, checks in tasks for check in checks]
+    differing = {check.case['id'] for check in every if differs(check)}
 
     with multiprocessing.Pool(JOBS) as pool:
-        first, *others = pool.map(refused, [('.unedited', [], every), *tasks], chunksize=1)
+        first, *others = pool.map(refused, [('model', '.unedited', [], every), *tasks], chunksize=1)
     yield 'the definitions as they are', unedited(first, differing)
-    for name, (_, _, checks), found in zip(names, tasks, others):
+    for name, (*_, checks), found in zip(names, tasks, others):
         yield name, verdict(checks, found, differing)
 
 

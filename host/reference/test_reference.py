@@ -25,7 +25,7 @@ def numbers_of(case):
     rule, sheet, record, text = (value_of(case.get(key)) for key in ("rule", "sheet", "record", "text"))
     if case["entry"] == "read":
         values, nesting, written = certlogic.measure(text)
-        return [values, nesting, *written]
+        return [0, values, nesting, *written]
     if case["entry"] == "check":
         refusal, words = certlogic.check(rule, sheet)
         return [refusal, sum(1 << try_definitions.WORDS.index(word) for word in words)]
@@ -45,6 +45,11 @@ def is_over_limit(case):
     return case["expect"].get("refusal") == 1 and "limit" in case and "short" not in case
 
 
+def is_unread(case):
+    """A text of it is refused: the reference reads no texts."""
+    return 2 <= case["expect"].get("refusal", 0) <= 5
+
+
 def main():
     cases = [
         json.loads(line)
@@ -53,7 +58,8 @@ def main():
     ]
     over_limit = [try_definitions.Check(case, "", [1, 0]) for case in cases if is_over_limit(case)]
     checks, skipped, faulty = try_definitions.sort_out(case for case in cases if not is_over_limit(case))
-    checks += over_limit
+    skipped["reading: refusals 2 to 5"] = sum(is_unread(check.case) for check in checks)
+    checks = [check for check in checks if not is_unread(check.case)] + over_limit
 
     disagreeing = [(case, fault) for case, fault in faulty]
     for check in checks:

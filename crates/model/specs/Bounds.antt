@@ -13,7 +13,7 @@ boundedScalar (integer z) = withinLimits z
 boundedScalar (string s) = true
 
 -- Every integer so, and every instant between the earliest and the latest (01, Dates).
--- What a text reads as is to be so: refusal 4 keeps its integers within the limits, and no text reads as an instant (proved with reading).
+-- What a text reads as is so: refusal 4 keeps its integers within the limits, and no text reads as an instant (`read-well-formed` of the crate syntax).
 unfoldable mutual
   pub bounded : Value → Bool
   bounded (scalar x) = boundedScalar x

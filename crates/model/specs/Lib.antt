@@ -1,4 +1,4 @@
--- The language of document 01 but for reading. The definitions, in the order to read them; then the theorems.
+-- The language of document 01 but for reading, which is the crate syntax. The definitions, in the order to read them; then the theorems.
 pub mod Limits
 pub mod Bytes
 pub mod Option

@@ -43,7 +43,7 @@ EndsWell ts (value v) = T (hasType ts v)
 EndsWell ts (refusal e) = (evalNumber e ≡ 9) ⊎ (evalNumber e ≡ 10)
 
 -- A rule that the kind check accepts, on a record that fits the sheet, under any limit up to the largest, ends well: never in 7 or 8.
--- (A record has no instant in it; that no text reads as one is to be proved with reading.)
+-- (A record has no instant in it: no text reads as one, `read-well-formed` of the crate syntax, which also has this theorem over texts.)
 pub demand-3a :
     (rule sheet record′ : Value) (r : Rule) (s : Sheet) (ts : Types) (limit : ℕ)
     → shape rule ≡ some r

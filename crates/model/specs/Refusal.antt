@@ -4,7 +4,8 @@ use Prim.Native.Nat.{ℕ}
 -- Reading a text.
 pub data ReadFault : Type 0 where
   notJson : ReadFault  -- 2: not an RFC 8259 text in UTF-8
-  notIJson : ReadFault  -- 3: a name twice in one object, or a lone surrogate escape
+  repeatedName : ReadFault  -- 3: a name twice in one object
+  loneSurrogate : ReadFault  -- 3: a lone surrogate escape
   badNumber : ReadFault  -- 4: a fraction or exponent, or an integer beyond the limit
   tooLarge : ReadFault  -- 5: text, nesting or number of values beyond its limit
 
@@ -31,7 +32,8 @@ pub data Refusal : Type 0 where
 
 abbrev pub readNumber : ReadFault → ℕ
 readNumber notJson = 2
-readNumber notIJson = 3
+readNumber repeatedName = 3
+readNumber loneSurrogate = 3
 readNumber badNumber = 4
 readNumber tooLarge = 5
 

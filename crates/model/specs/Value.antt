@@ -17,7 +17,7 @@ pub data Scalar : Type 0 where
   integer : ℤ → Scalar
   string : Bytes → Scalar
 
--- An instant is in milliseconds from 1970-01-01. Only evaluation gives one; that reading does not is proved with reading.
+-- An instant is in milliseconds from 1970-01-01. Only evaluation gives one; that no text reads as one is proved in the crate syntax (`read-well-formed`).
 mutual
   pub data Value : Type 0 where
     scalar : Scalar → Value
@@ -142,7 +142,7 @@ memberCount (member name v ms) = suc (memberCount ms)
 abbrev pub withinLimits : ℤ → Bool
 withinLimits z = leZ (negℤ (pos maxInteger)) z && leZ z (pos maxInteger)
 
--- No instant in it, at any depth. That whatever a text reads as is such is proved with reading.
+-- No instant in it, at any depth. Whatever a text reads as is such (`read-well-formed` of the crate syntax).
 unfoldable mutual
   pub instantFree : Value → Bool
   instantFree (scalar x) = true

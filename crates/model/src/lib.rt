@@ -1,4 +1,13 @@
-// The plain types that the definitions under specs/ and the code of the crates above share.
+// The limits of document 01 and the plain types that the definitions under specs/ and the code of the crates above share.
+
+// The limits that specs/Limits.antt has. Among the code they stand only here.
+pub const MAX_TEXT_BYTES: usize = 16384;
+
+pub const MAX_VALUES: usize = 1024;
+
+pub const MAX_NESTING: usize = 32;
+
+pub const MAX_INTEGER: u64 = 9007199254740991;
 
 // A unit of `plusTime`.
 pub enum TimeUnit {

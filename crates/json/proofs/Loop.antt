@@ -1,0 +1,190 @@
+-- The loops over items and members: whatever the rest reads as, the whole reads as that with what was passed in front. For any form of what is read.
+use mathlib.Core.Path.{_≡_, refl, sym, ap, _∙_, subst, subst⁻¹}
+use mathlib.Core.List.{[], _++_, append-nil}
+use Prim.Native.Nat.{ℕ, suc, _+_, _*_, _-_, _≤_, _<_}
+use native.Mathlib.Omega.{arith}
+use lib.ListN.{length, drop, length-append}
+use lib.Seq.{sets}
+use Rattle.area.specs.Laws.{sets-append}
+use Rattle.model.specs.Bytes.{Bytes}
+use Rattle.model.specs.Limits.{maxValues}
+use Rattle.names.specs.Index.{entry}
+use Rattle.syntax.specs.Layout.{rowBytes}
+use Rattle.syntax.specs.Read.{Parsed, ok, Parser, then, give}
+use Rattle.json.specs.declared.step.Step.{Step}
+use Rattle.json.specs.Inner.{rowsPart, Form, Wrote, Reads, step}
+use Rattle.json.proofs.Form.{by-fault, Got, Gone, got-at, gone-at, reads-ok, reads-bad, fuelled, refail}
+
+-- ---- one part in front
+-- What `cons` puts in front of the parts that follow lies in the areas, before what follows.
+pub record Front {X : Type 0} (F : Form X) (row used : ℕ) (T A : Bytes) (next to : ℕ) (T₁ A₁ : Bytes) (cons : X → X) : Type 0 where
+  pub n : ℕ
+  pub rs : Bytes
+  pub ts : Bytes
+  pub rows-cons : (x : X) → F .rows (cons x) row used ≡ rs ++ F .rows x (row + n) (used + length ts)
+  pub strings-cons : (x : X) → F .strings (cons x) ≡ ts ++ F .strings x
+  pub count-cons : (x : X) → F .count (cons x) ≡ n + F .count x
+  pub parts-cons : (x : X) → F .parts (cons x) ≡ suc (F .parts x)
+  pub size : length rs ≡ n * rowBytes
+  pub rows : next ≡ row + n
+  pub text : to ≡ used + length ts
+  pub table : rowsPart T₁ ≡ sets (rowsPart T) (row * rowBytes) rs
+  pub area : A₁ ≡ sets A used ts
+
+abbrev pub shift : ℕ → Step → Step
+shift n r = step (r .fault) (r .at) (r .row) (r .used) (r .count + n)
+
+module _ {X : Type 0} {F : Form X} {row used : ℕ} {T A : Bytes} {next to : ℕ} {T₁ A₁ : Bytes} {cons : X → X} (h : Front F row used T A next to T₁ A₁ cons) where
+  joined : (x : X) {s u : Bytes} {q : ℕ} {r : Step} {T₂ A₂ : Bytes} → Wrote F s next to T₁ A₁ x u q r T₂ A₂ → Wrote F s row used T A (cons x) u q (shift 1 r) T₂ A₂
+  unfolding rowBytes
+  joined x w =
+      let i : (row + h .n) * rowBytes ≡ row * rowBytes + length (h .rs) = omega (arith, h .size) in
+      record {
+        number = w .number;
+        place = w .place;
+        left = w .left;
+        rows = w .rows ∙ rw (h .count-cons) (omega (arith, h .rows));
+        text = w .text ∙ rw (h .strings-cons, length-append) (omega (arith, h .text));
+        parts = rw (h .parts-cons) (omega (arith, w .parts));
+        table = w .table ∙ (λ k. sets (h .table k) (h .rows k * rowBytes) (F .rows x (h .rows k) (h .text k)))
+            ∙ ap (λ (y : ℕ). sets (sets (rowsPart T) (row * rowBytes) (h .rs)) y (F .rows x (row + h .n) (used + length (h .ts)))) i
+            ∙ sets-append (h .rs) (F .rows x (row + h .n) (used + length (h .ts))) (rowsPart T) (row * rowBytes)
+            ∙ ap (sets (rowsPart T) (row * rowBytes)) (sym (h .rows-cons x));
+        area = w .area ∙ (λ k. sets (h .area k) (h .text k) (F .strings x)) ∙ sets-append (h .ts) (F .strings x) A used ∙ ap (sets A used) (sym (h .strings-cons x));
+      }
+
+  single : (x : X) {s : Bytes} (q : ℕ) → F .rows x (row + h .n) (used + length (h .ts)) ≡ [] → F .strings x ≡ [] → F .count x ≡ 0 → F .parts x ≡ 0
+      → Wrote F s row used T A (cons x) (drop q s) q (step 0 q next to 1) T₁ A₁
+  single x q r t c p = record {
+    number = refl;
+    place = refl;
+    left = refl;
+    rows = rw (h .count-cons) (omega (arith, h .rows));
+    text = rw (h .strings-cons, t, append-nil) (h .text);
+    parts = rw (h .parts-cons, p);
+    table = rw (h .rows-cons, r, append-nil) (h .table);
+    area = rw (h .strings-cons, t, append-nil) (h .area);
+  }
+
+-- What holds between two places of the loop.
+pub record Onward (b : ℕ) (s : Bytes) (at row used : ℕ) (T : Bytes) (here next to : ℕ) (T₁ : Bytes) : Type 0 where
+  pub on : at < here
+  pub inside : here ≤ length s
+  pub text : to ≤ here
+  pub more : used ≤ to
+  pub rows : next ≤ maxValues
+  pub less : row < next
+  pub kept : (e : ℕ) → 1 ≤ e → e < b → entry T₁ e ≡ entry T e
+
+-- One more part was read, and the rest follows.
+pub record More {X : Type 0} (F : Form X) (m m′ : Parser X) (s : Bytes) (at row used : ℕ) (T A : Bytes) (here next to : ℕ) (T₁ A₁ : Bytes) : Type 0 where
+  pub cons : X → X
+  pub front : Front F row used T A next to T₁ A₁ cons
+  pub is : m (drop at s) at ≡ then (m′ (drop here s) here) (λ x. give (cons x))
+
+-- One more part was read, and it is the last.
+pub record Last {X : Type 0} (F : Form X) (m : Parser X) (s : Bytes) (at row used : ℕ) (T A : Bytes) (here next to : ℕ) (T₁ A₁ : Bytes) : Type 0 where
+  pub cons : X → X
+  pub front : Front F row used T A next to T₁ A₁ cons
+  pub nil : X
+  pub none : (at used : ℕ) → F .rows nil at used ≡ []
+  pub empty : F .strings nil ≡ []
+  pub count : F .count nil ≡ 0
+  pub parts : F .parts nil ≡ 0
+  pub is : m (drop at s) at ≡ ok (cons nil) (drop here s) here
+
+module _ {X : Type 0} {F : Form X} {m : ℕ → Parser X} {b : ℕ} {s : Bytes} {at row used : ℕ} {T A : Bytes} {here next to : ℕ} {T₁ A₁ : Bytes}
+    (w : Onward b s at row used T here next to T₁) where
+  pub last : ((f : ℕ) → 2 * (length s - at) + 1 ≤ f → Last F (m (suc f)) s at row used T A here next to T₁ A₁)
+      → Reads F m 1 b s at row used T A (step 0 here next to 1) T₁ A₁
+  last g =
+      reads-ok
+      (record { on = w .on; inside = w .inside; text = w .text; more = w .more; rows = w .rows; less = w .less; count = omega arith; kept = w .kept })
+      (fuelled (λ (f : ℕ). Got F s row used T A (m f (drop at s) at) (step 0 here next to 1) T₁ A₁) (2 * (length s - at) + 1)
+      (λ f l. let o = g f l in
+      record { x = o .cons (o .nil); is = o .is; wrote = single (o .front) (o .nil) here (o .none (row + o .front .n) (used + length (o .front .ts))) (o .empty) (o .count) (o .parts) }))
+
+  pub more : {m′ : ℕ → Parser X} {t : Step} {T₂ A₂ : Bytes} → ((f : ℕ) → 2 * (length s - at) + 1 ≤ f → More F (m (suc f)) (m′ f) s at row used T A here next to T₁ A₁)
+      → Reads F m′ 1 b s here next to T₁ A₁ t T₂ A₂ → Reads F m 1 b s at row used T A (shift 1 t) T₂ A₂
+  unfolding then give
+  more {m′} {t} {T₂} {A₂} g h =
+      by-fault (t .fault)
+      (λ z. let safe = h .safe z in
+      reads-ok
+      (record {
+        on = omega arith;
+        inside = safe .inside;
+        text = safe .text;
+        more = omega arith;
+        rows = safe .rows;
+        less = omega arith;
+        count = omega arith;
+        kept = λ e o p. safe .kept e o p ∙ w .kept e o p;
+      })
+      (fuelled (λ (f : ℕ). Got F s row used T A (m f (drop at s) at) (shift 1 t) T₂ A₂) (2 * (length s - at) + 1)
+      (λ f l. let o = g f l in
+      let r = got-at h z f (omega arith) in
+      record { x = o .cons (r .x); is = o .is ∙ ap (λ (p : Parsed X). then p (λ x. give (o .cons x))) (r .is); wrote = joined (o .front) (r .x) (r .wrote) })))
+      (λ z. reads-bad z
+      (fuelled (λ (f : ℕ). Gone (m f (drop at s) at) (t .fault) (t .at)) (2 * (length s - at) + 1)
+      (λ f l. let o = g f l in
+      let r = gone-at h z f (omega arith) in
+      record { k = r .k; number = r .number; is = o .is ∙ ap (λ (p : Parsed X). then p (λ x. give (o .cons x))) (r .is) })))
+
+-- ---- the invariant
+-- m is the parser from the first part on, m′ that from `here` on.
+pub record Inv {X : Type 0} (F : Form X) (m m′ : ℕ → Parser X) (b : ℕ) (s : Bytes) (at row used : ℕ) (T A T₁ A₁ : Bytes) (here next to count : ℕ) : Type 0 where
+  pub on : at ≤ here
+  pub inside : here ≤ length s
+  pub text : to ≤ here
+  pub rows : next ≤ maxValues
+  pub order : row ≤ next
+  pub counted : row + count ≤ next
+  pub sameT : length T₁ ≡ length T
+  pub sameA : length A₁ ≡ length A
+  pub rest : (t : Step) (T₂ A₂ : Bytes) → Reads F m′ 1 b s here next to T₁ A₁ t T₂ A₂ → Reads F m 1 b s at row used T A (shift count t) T₂ A₂
+
+pub inv-start : {X : Type 0} {F : Form X} {m : ℕ → Parser X} {b : ℕ} {s : Bytes} {at row used : ℕ} {T A : Bytes}
+    → at ≤ length s → used ≤ at → row ≤ maxValues → Inv F m m b s at row used T A T A at row used 0
+inv-start {F = F} {m} {b} {s} {at} {row} {used} {T} {A} l u r = record {
+  on = omega arith;
+  inside = l;
+  text = u;
+  rows = r;
+  order = omega arith;
+  counted = omega arith;
+  sameT = refl;
+  sameA = refl;
+  rest = λ t T₂ A₂ h. subst⁻¹ (λ (n : ℕ). Reads F m 1 b s at row used T A (step (t .fault) (t .at) (t .row) (t .used) n) T₂ A₂) (omega arith) h;
+}
+
+module _ {X : Type 0} {F : Form X} {m m′ : ℕ → Parser X} {b : ℕ} {s : Bytes} {at row used : ℕ} {T A T₁ A₁ : Bytes} {here next to count : ℕ}
+    (inv : Inv F m m′ b s at row used T A T₁ A₁ here next to count) where
+  pub loop-bad : {r : Step} {T₂ A₂ : Bytes} → (r .fault ≡ 0 → ⊥) → ((f : ℕ) → 2 * (length s - here) + 1 ≤ f → Gone (m′ (suc f) (drop here s) here) (r .fault) (r .at))
+      → Reads F m 1 b s at row used T A r T₂ A₂
+  loop-bad {r} {T₂} {A₂} z g =
+      refail
+      (inv .rest r T₂ A₂ (reads-bad z (fuelled (λ (f : ℕ). Gone (m′ f (drop here s) here) (r .fault) (r .at)) (2 * (length s - here) + 1) g)))
+      z refl refl
+
+  pub loop-last : {here₁ next₁ to₁ : ℕ} {T₂ A₂ : Bytes} → Onward b s here next to T₁ here₁ next₁ to₁ T₂
+      → ((f : ℕ) → 2 * (length s - here) + 1 ≤ f → Last F (m′ (suc f)) s here next to T₁ A₁ here₁ next₁ to₁ T₂ A₂)
+      → Reads F m 1 b s at row used T A (step 0 here₁ next₁ to₁ (count + 1)) T₂ A₂
+  loop-last {here₁} {next₁} {to₁} {T₂} {A₂} w g =
+      subst (λ (n : ℕ). Reads F m 1 b s at row used T A (step 0 here₁ next₁ to₁ n) T₂ A₂) (omega arith) (inv .rest (step 0 here₁ next₁ to₁ 1) T₂ A₂ (last w g))
+
+  pub loop-more : {m″ : ℕ → Parser X} {here₁ next₁ to₁ : ℕ} {T₂ A₂ : Bytes} → Onward b s here next to T₁ here₁ next₁ to₁ T₂ → length T₂ ≡ length T → length A₂ ≡ length A
+      → ((f : ℕ) → 2 * (length s - here) + 1 ≤ f → More F (m′ (suc f)) (m″ f) s here next to T₁ A₁ here₁ next₁ to₁ T₂ A₂)
+      → Inv F m m″ b s at row used T A T₂ A₂ here₁ next₁ to₁ (count + 1)
+  loop-more {m″} {here₁} {next₁} {to₁} {T₂} {A₂} w lt la g = record {
+    on = omega arith;
+    inside = w .inside;
+    text = w .text;
+    rows = w .rows;
+    order = omega arith;
+    counted = omega arith;
+    sameT = lt;
+    sameA = la;
+    rest = λ t T₃ A₃ h. subst (λ (n : ℕ). Reads F m 1 b s at row used T A (step (t .fault) (t .at) (t .row) (t .used) n) T₃ A₃) (omega arith)
+        (inv .rest (shift 1 t) T₃ A₃ (more w g h));
+  }

@@ -1,0 +1,370 @@
+-- A value: a law for each return of the functions that read one. Over plain values.
+use mathlib.Core.Path.{_≡_, refl, sym, ap, _∙_, subst, subst⁻¹}
+use mathlib.Core.Bool.{Bool, true, false}
+use mathlib.Core.List.{[], append-nil}
+use Prim.Native.Nat.{ℕ, suc, _+_, _*_, _-_, _/_, _%_, _≤_, _<_}
+use native.Mathlib.Nat.{add-zero}
+use native.Mathlib.Numerals.{add-one}
+use native.Mathlib.Omega.{arith}
+use lib.ListN.{length, drop}
+use lib.Seq.{sets}
+use Rattle.model.specs.Bytes.{Bytes}
+use Rattle.model.specs.Limits.{maxValues}
+use Rattle.model.specs.Refusal.{ReadFault, notJson, tooLarge, readNumber}
+use Rattle.model.specs.Size.{valueCount}
+use Rattle.model.specs.Value.{Value, scalar, array, object, integer, string, no-items, no-members}
+use Rattle.names.specs.Index.{entry}
+use Rattle.scan.specs.Contract.{Skipped, Started, Separated, Stands, LiteralMeets, NumberMeets, CharsMeets, CharsPromise, wordValue}
+use Rattle.scan.specs.Laws.{eat-next, white-by, value-by, arrayBy, objectBy, array-by, object-by, some-fault, literal-whole, literal-wrong, number-whole, number-wrong}
+use Rattle.scan.specs.declared.token.Matched.{Matched}
+use Rattle.scan.specs.declared.number.Numeral.{Numeral}
+use Rattle.scan.specs.declared.chars.Decoded.{Decoded}
+use Rattle.syntax.specs.declared.Separator.{Separator}
+use Rattle.syntax.specs.declared.Start.{Start}
+use Rattle.syntax.specs.declared.Start.the-variants.{NoValue, TooMuch, Literal, Minus, Digit, Quote, Bracket, Brace}
+use Rattle.syntax.specs.declared.Word.{Word}
+use Rattle.syntax.specs.declared.Word.the-variants.{TrueWord, FalseWord, NullWord}
+use Rattle.syntax.specs.Layout.{rowBytes, rowsOf, scalarRow, stringsOf, biased, itemCount}
+use Rattle.syntax.specs.Layout as layout
+use Rattle.syntax.specs.Read.{Parsed, ok, bad, Parser, then, _>>=_, give, fail, if, eat, literal, int, chars, clear, quoted, name, value, items, members, onStart}
+use Rattle.json.specs.declared.list.After.{After}
+use Rattle.json.specs.declared.list.After.the-variants.{Done, More}
+use Rattle.json.specs.declared.step.Step.{Step}
+use Rattle.json.specs.declared.row.Label.{Label}
+use Rattle.json.specs.Inner.{rowsPart, labelOf, valueForm, itemsForm, membersForm, Reads, step, Emptied, Filled, kindOf, stringFrom, arrayFrom, objectFrom, ValueRead, RowRead, ItemsRead, MembersRead, Ended, Continued, FollowMeets, Followed}
+use Rattle.json.proofs.Rows.{length-row, rows-sets, entry-sets}
+use Rattle.json.proofs.Form.{Gone, gone, moved, reads-ok, reads-bad, fuelled, On, through, contained}
+
+-- ---- a value of one row
+-- What a parser gave has one row, bs, and brings the strings area from A to A′.
+record Single (g : Parsed Value) (s : Bytes) (q row used : ℕ) (name : layout.Label) (bs A : Bytes) (to : ℕ) (A′ : Bytes) : Type 0 where
+  v : Value
+  is : g ≡ ok v (drop q s) q
+  one : valueCount v ≡ 1
+  rows : rowsOf v row used name ≡ bs
+  text : to ≡ used + length (stringsOf v)
+  area : A′ ≡ sets A used (stringsOf v)
+
+one-row : {m : ℕ → Parser Value} {k : ℕ} {s : Bytes} {at row used to p : ℕ} {name : layout.Label} {T A T′ A′ : Bytes} (q : ℕ) (bs : Bytes)
+    → p ≡ q → at < q → q ≤ length s → used ≤ to → to ≤ q → row < maxValues → length bs ≡ rowBytes → T′ ≡ sets T (row * rowBytes) bs
+    → ((f : ℕ) → 2 * (length s - at) + k < f → Single (m f (drop at s) at) s q row used name bs A to A′)
+    → Reads (valueForm name) m k (row + 1) s at row used T A (step 0 p (row + 1) to 0) T′ A′
+unfolding rowBytes
+one-row {s = s} {row = row} {T = T} q bs y on inside more text few l t g =
+    let i : row * rowBytes + length bs ≤ maxValues * rowBytes = omega arith in
+    reads-ok
+    (record {
+      on = omega arith;
+      inside = omega arith;
+      text = omega arith;
+      more = more;
+      rows = omega arith;
+      less = omega arith;
+      count = omega arith;
+      kept = λ e o p. ap (λ (d : Bytes). entry d e) t ∙ entry-sets T (row * rowBytes) bs i e;
+    })
+    (λ f e. let o = g f e in record {
+      x = o .v;
+      is = o .is ∙ (λ i. ok (o .v) (drop (sym y i) s) (sym y i));
+      wrote = record {
+        number = refl;
+        place = refl;
+        left = refl;
+        rows = ap (λ (n : ℕ). row + n) (sym (o .one));
+        text = o .text;
+        parts = refl;
+        table = ap rowsPart t ∙ rows-sets T (row * rowBytes) bs i ∙ ap (sets (rowsPart T) (row * rowBytes)) (sym (o .rows));
+        area = o .area;
+      };
+    })
+
+-- ---- scalars
+-- What the contract of `chars` says, by its fault.
+pub record Text (g : Parsed Bytes) (s : Bytes) (at used : ℕ) (A : Bytes) (r : Decoded) (A′ : Bytes) : Type 0 where
+  pub bs : Bytes
+  pub is : g ≡ ok bs (drop (r .at) s) (r .at)
+  pub on : at + length bs ≤ r .at
+  pub inside : r .at < length s
+  pub text : r .used ≡ used + length bs
+  pub area : A′ ≡ sets A used bs
+
+module _ (s : Bytes) (at used : ℕ) (A : Bytes) (r : Decoded) (A′ : Bytes) where
+  chars-bad : (g : Parsed Bytes) → CharsMeets s at used A g r A′ → (r .fault ≡ 0 → ⊥) → Gone g (r .fault) (r .at)
+  chars-bad (ok v u q) m z = absurd (z (m .number))
+  chars-bad (bad k p) m z = record { k = k; number = m .number; is = ap (bad k) (sym (m .place)) }
+
+  chars-ok : (g : Parsed Bytes) → CharsMeets s at used A g r A′ → r .fault ≡ 0 → Text g s at used A r A′
+  chars-ok (ok bs u q) m z = record {
+    bs = bs;
+    is = ap (λ (t : Bytes). ok bs t q) (m .left) ∙ (λ i. ok bs (drop (sym (m .place) i) s) (sym (m .place) i));
+    on = omega arith;
+    inside = omega arith;
+    text = m .text;
+    area = m .area;
+  }
+  chars-ok (bad k p) m z = absurd (some-fault k (sym (m .number) ∙ z))
+
+module _ {s : Bytes} {at used : ℕ} {A : Bytes} {r : Decoded} {A′ : Bytes} (h : CharsPromise s at used A r A′) where
+  pub chars-gone : (r .fault ≡ 0 → ⊥) → (f : ℕ) → length s < at + f → Gone (chars f clear (drop at s) at) (r .fault) (r .at)
+  chars-gone z f l = chars-bad s at used A r A′ (chars f clear (drop at s) at) (h .run f l) z
+
+  pub chars-got : r .fault ≡ 0 → (f : ℕ) → length s < at + f → Text (chars f clear (drop at s) at) s at used A r A′
+  chars-got z f l = chars-ok s at used A r A′ (chars f clear (drop at s) at) (h .run f l) z
+
+  pub string-end : r .fault ≡ 0 → (r .at < length s) × (used ≤ r .used)
+  string-end z = let o = chars-got z (suc (length s)) (omega arith) in (o .inside, omega (arith, o .text))
+
+-- ---- a law for each return of `read_literal`, `read_number` and `read_string`
+word-row : (w : Word) (at used : ℕ) (name : layout.Label) → rowsOf (wordValue w) at used name ≡ layout.row (kindOf w) name 0 0
+unfolding rowsOf scalarRow
+word-row TrueWord at used name = refl
+word-row FalseWord at used name = refl
+word-row NullWord at used name = refl
+
+pub kind-small : (w : Word) → kindOf w < 256
+kind-small TrueWord = omega arith
+kind-small FalseWord = omega arith
+kind-small NullWord = omega arith
+
+word-strings : (w : Word) → stringsOf (wordValue w) ≡ []
+unfolding stringsOf
+word-strings TrueWord = refl
+word-strings FalseWord = refl
+word-strings NullWord = refl
+
+word-one : (w : Word) → valueCount (wordValue w) ≡ 1
+unfolding valueCount
+word-one TrueWord = refl
+word-one FalseWord = refl
+word-one NullWord = refl
+
+module _ {name : Label} {s : Bytes} {at row used : ℕ} {T : Bytes} where
+  module _ (w : Word) (l : Matched) (m : LiteralMeets s at w (literal w (drop at s) at) l) where
+    pub law-literal-bad : {r : Step} {T′ : Bytes} → (l .fault ≡ 0 → ⊥) → r .fault ≡ l .fault → r .at ≡ l .at → RowRead name (literal w) s at row used T r T′
+    law-literal-bad z e q = record {
+      reads = λ A. reads-bad (λ y. z (sym e ∙ y))
+          (λ f h. moved e q (gone (literal-wrong s at w (literal w (drop at s) at) l m z)));
+    }
+
+    pub law-literal : {T′ : Bytes} {kind : ℕ} → l .fault ≡ 0 → used ≤ at → row < maxValues → kind ≡ kindOf w → T′ ≡ sets T (row * rowBytes) (layout.row kind (labelOf name) 0 0)
+        → RowRead name (literal w) s at row used T (step 0 (l .at) (row + 1) used 0) T′
+    law-literal {kind = kind} z u few k t =
+        let o = literal-whole s at w (literal w (drop at s) at) l m z in
+        let p = o .promise in
+        record {
+          reads = λ A. one-row (o .end) _ (p .place) (p .on) (p .inside) (omega arith) (omega (arith, p .on)) few (length-row kind (labelOf name) 0 0) t
+              (λ f h. record {
+                v = wordValue w;
+                is = o .is ∙ (λ i. ok (p .is i) (p .left i) (o .end));
+                one = word-one w;
+                rows = word-row w row used (labelOf name) ∙ ap (λ (n : ℕ). layout.row n (labelOf name) 0 0) (sym k);
+                text = rw word-strings (omega arith);
+                area = rw word-strings;
+              });
+        }
+
+  module _ (negative : Bool) (n : Numeral) (m : NumberMeets s at (int negative (drop at s) at) n) where
+    pub law-number-bad : {r : Step} {T′ : Bytes} → (n .fault ≡ 0 → ⊥) → r .fault ≡ n .fault → r .at ≡ n .at → RowRead name (int negative) s at row used T r T′
+    law-number-bad z e q = record {
+      reads = λ A. reads-bad (λ y. z (sym e ∙ y))
+          (λ f h. moved e q (gone (number-wrong s at (int negative (drop at s) at) n m z)));
+    }
+
+    pub law-number : {T′ : Bytes} → n .fault ≡ 0 → used ≤ at → row < maxValues
+        → T′ ≡ sets T (row * rowBytes) (layout.row 4 (labelOf name) (n .biased % 4294967296) (n .biased / 4294967296))
+        → RowRead name (int negative) s at row used T (step 0 (n .at) (row + 1) used 0) T′
+    unfolding valueCount rowsOf scalarRow stringsOf
+    law-number z u few t =
+        let o = number-whole s at (int negative (drop at s) at) n m z in
+        let p = o .promise in
+        record {
+          reads = λ A. one-row (o .end) _ (p .place) (p .on) (p .inside) (omega arith) (omega (arith, p .on)) few
+              (length-row 4 (labelOf name) (n .biased % 4294967296) (n .biased / 4294967296)) t
+              (λ f h. record {
+                v = scalar (integer (p .z));
+                is = o .is ∙ (λ i. ok (p .is i) (p .left i) (o .end));
+                one = refl;
+                rows = ap (λ (b : ℕ). layout.row 4 (labelOf name) (b % 4294967296) (b / 4294967296)) (sym (p .content));
+                text = omega arith;
+                area = refl;
+              });
+        }
+
+  module _ {A A′ : Bytes} {d : Decoded} (c : CharsPromise s at used A d A′) where
+    pub law-string-bad : {r : Step} {T′ : Bytes} → (d .fault ≡ 0 → ⊥) → r .fault ≡ d .fault → r .at ≡ d .at
+        → ValueRead name stringFrom 0 s at row used T A r T′ A′
+    unfolding _>>=_ then
+    law-string-bad z e q = record {
+      reads = reads-bad (λ y. z (sym e ∙ y))
+          (λ f h. let g = chars-gone c z f (omega arith) in
+          record { k = g .k; number = e ∙ g .number; is = ap (λ (p : Parsed Bytes). then p (λ bs. eat (give (scalar (string bs))))) (g .is) ∙ ap (bad (g .k)) (sym q) });
+    }
+
+    pub law-string : {T′ : Bytes} → d .fault ≡ 0 → used ≤ at → row < maxValues → T′ ≡ sets T (row * rowBytes) (layout.row 5 (labelOf name) used (d .used - used))
+        → ValueRead name stringFrom 0 s at row used T A (step 0 (d .at + 1) (row + 1) (d .used) 0) T′ A′
+    unfolding _>>=_ then give valueCount rowsOf scalarRow stringsOf
+    law-string z u few t =
+        let o = chars-got c z (suc (length s)) (omega arith) in
+        record {
+          reads = one-row (d .at + 1) _ refl (omega (arith, o .on)) (omega (arith, o .inside)) (omega (arith, o .text)) (omega (arith, o .text, o .on)) few
+              (length-row 5 (labelOf name) used (d .used - used)) t
+              (λ f h.
+              let p = chars-got c z f (omega arith) in
+              let n : d .used - used ≡ length (p .bs) = omega (arith, p .text) in
+              record {
+                v = scalar (string (p .bs));
+                is = ap (λ (p : Parsed Bytes). then p (λ bs. eat (give (scalar (string bs))))) (p .is) ∙ eat-next (give (scalar (string (p .bs)))) s (d .at) (p .inside);
+                one = refl;
+                rows = ap (λ (k : ℕ). layout.row 5 (labelOf name) used k) (sym n);
+                text = p .text;
+                area = p .area;
+              });
+        }
+
+-- ---- a law for each return of `value`
+pub started : {s : Bytes} {row depth at : ℕ} {r g : Start} → Started s row depth at r → r ≡ g → Started s row depth at g
+started {s} {row} {depth} {at} h e = subst (λ (x : Start). Started s row depth at x) e h
+
+pub separated : {s : Bytes} {close at : ℕ} {r g : Separator} → Separated s close at r → r ≡ g → Separated s close at g
+separated {s} {close} {at} h e = subst (λ (x : Separator). Separated s close at x) e h
+
+module _ {t : Bytes} {s : Step} {count close : ℕ} {o : After} {r : Step} (h : Followed t s count close o) where
+  pub ended : o ≡ Done r → Ended t s count close r
+  ended e = subst (FollowMeets t s count close) e (h .meets)
+
+  pub continued : o ≡ More r → Continued t s count close r
+  continued e = subst (FollowMeets t s count close) e (h .meets)
+
+module _ {name : Label} {n : ℕ → Parser Value} {s : Bytes} {at row used : ℕ} {T A : Bytes} where
+  -- What a parser gives further on.
+  passes : {m : ℕ → Parser Value} {k at′ : ℕ} {r : Step} {T′ A′ : Bytes} → at ≤ at′
+      → Reads (valueForm (labelOf name)) m k (row + 1) s at′ row used T A r T′ A′
+      → ((f : ℕ) → 2 * (length s - at) ≤ f → On (n (suc f) (drop at s) at) m (2 * (length s - at′) + k) s at′)
+      → ValueRead name n 0 s at row used T A r T′ A′
+  passes {m} {k} {at′} l h g = record {
+    reads = through l h (λ f e. fuelled (λ (f : ℕ). On (n f (drop at s) at) m (2 * (length s - at′) + k) s at′) (2 * (length s - at)) g f (omega arith));
+  }
+
+  refuses : {r : Step} {T′ A′ : Bytes} (k : ReadFault) → ((f : ℕ) → n (suc f) (drop at s) at ≡ bad k at) → r .fault ≡ readNumber k → r .at ≡ at
+      → ValueRead name n 0 s at row used T A r T′ A′
+  refuses {r} k g e q = record {
+    reads = reads-bad (λ z. some-fault k (sym e ∙ z))
+        (λ f h. fuelled (λ (f : ℕ). Gone (n f (drop at s) at) (r .fault) (r .at)) (2 * (length s - at))
+        (λ f h. record { k = k; number = e; is = g f ∙ ap (bad k) (sym q) }) f (omega arith));
+  }
+
+module _ {name : Label} {s : Bytes} {at row used depth : ℕ} {T A : Bytes} where
+  pub law-none : {r : Step} {T′ A′ : Bytes} → Started s row depth at NoValue → r .fault ≡ 2 → r .at ≡ at → ValueRead name (λ f. value f row depth) 0 s at row used T A r T′ A′
+  unfolding onStart fail
+  law-none st e q = refuses notJson (λ f. value-by f st) e q
+
+  pub law-much : {r : Step} {T′ A′ : Bytes} → Started s row depth at TooMuch → r .fault ≡ 5 → r .at ≡ at → ValueRead name (λ f. value f row depth) 0 s at row used T A r T′ A′
+  unfolding onStart fail
+  law-much st e q = refuses tooLarge (λ f. value-by f st) e q
+
+  module _ {r : Step} {T′ : Bytes} where
+    pub law-word : {w : Word} → Started s row depth at (Literal w) → RowRead name (literal w) s at row used T r T′ → ValueRead name (λ f. value f row depth) 0 s at row used T A r T′ A
+    unfolding onStart
+    law-word st h = passes (omega arith) (h .reads A) (λ f l. record { fuel = suc (2 * (length s - at) + 0); steps = omega arith; is = value-by f st })
+
+    pub law-digit : Started s row depth at Digit → RowRead name (int false) s at row used T r T′ → ValueRead name (λ f. value f row depth) 0 s at row used T A r T′ A
+    unfolding onStart
+    law-digit st h = passes (omega arith) (h .reads A) (λ f l. record { fuel = suc (2 * (length s - at) + 0); steps = omega arith; is = value-by f st })
+
+    pub law-minus : Started s row depth at Minus → RowRead name (int true) s (at + 1) row used T r T′ → ValueRead name (λ f. value f row depth) 0 s at row used T A r T′ A
+    unfolding onStart
+    law-minus st h =
+        passes (omega arith) (h .reads A)
+        (λ f l. record { fuel = suc (2 * (length s - (at + 1)) + 0); steps = omega arith; is = value-by f st ∙ eat-next (int true) s at (st .room .0) })
+
+  module _ {r : Step} {T′ A′ : Bytes} where
+    pub law-quote : Started s row depth at Quote → ValueRead name stringFrom 0 s (at + 1) row used T A r T′ A′ → ValueRead name (λ f. value f row depth) 0 s at row used T A r T′ A′
+    unfolding onStart _>>=_ quoted
+    law-quote st h =
+        passes (omega arith) (h .reads)
+        (λ f l. record {
+          fuel = f;
+          steps = omega (arith, st .room);
+          is = value-by f st ∙ ap (λ (p : Parsed Bytes). then p (λ bs. eat (give (scalar (string bs))))) (eat-next (chars f clear) s at (st .room .0));
+        })
+
+    pub law-bracket : Started s row depth at Bracket → ValueRead name (λ f. arrayFrom f row depth) 1 s (at + 1) row used T A r T′ A′
+        → ValueRead name (λ f. value f row depth) 0 s at row used T A r T′ A′
+    unfolding onStart
+    law-bracket st h =
+        passes (omega arith) (h .reads)
+        (λ f l. record { fuel = f; steps = omega (arith, st .room); is = value-by f st ∙ eat-next (arrayFrom f row depth) s at (st .room .0) })
+
+    pub law-brace : Started s row depth at Brace → ValueRead name (λ f. objectFrom f row depth) 1 s (at + 1) row used T A r T′ A′
+        → ValueRead name (λ f. value f row depth) 0 s at row used T A r T′ A′
+    unfolding onStart
+    law-brace st h =
+        passes (omega arith) (h .reads)
+        (λ f l. record { fuel = f; steps = omega (arith, st .room); is = value-by f st ∙ eat-next (objectFrom f row depth) s at (st .room .0) })
+
+-- ---- a law for each return of `array` and `object`
+module _ (row depth : ℕ) {s : Bytes} {at first : ℕ} {b : Bool} (sk : Skipped s at first) where
+  array-as : Stands s first 93 b → (f : ℕ) → arrayFrom f row depth (drop at s) at ≡ arrayBy f row depth b (drop first s) first
+  array-as st f = white-by _ sk ∙ array-by f row depth st
+
+  object-as : Stands s first 125 b → (f : ℕ) → objectFrom f row depth (drop at s) at ≡ objectBy f row depth b (drop first s) first
+  object-as st f = white-by _ sk ∙ object-by f row depth st
+
+  array-none : Stands s first 93 b → b ≡ true → (f : ℕ) → arrayFrom f row depth (drop at s) at ≡ ok (array no-items) (drop (first + 1) s) (first + 1)
+  unfolding if give
+  array-none st e f = array-as st f ∙ ap (λ (c : Bool). arrayBy f row depth c (drop first s) first) e ∙ eat-next (give (array no-items)) s first (st .room e)
+
+  object-none : Stands s first 125 b → b ≡ true → (f : ℕ) → objectFrom f row depth (drop at s) at ≡ ok (object no-members) (drop (first + 1) s) (first + 1)
+  unfolding if give
+  object-none st e f = object-as st f ∙ ap (λ (c : Bool). objectBy f row depth c (drop first s) first) e ∙ eat-next (give (object no-members)) s first (st .room e)
+
+  array-some : Stands s first 93 b → b ≡ false → (f : ℕ) → arrayFrom f row depth (drop at s) at ≡ then (items f (row + 1) (depth + 1) (drop first s) first) (λ vs. give (array vs))
+  unfolding if
+  array-some st e f =
+      array-as st f ∙ ap (λ (c : Bool). arrayBy f row depth c (drop first s) first) e
+      ∙ (λ i. then (items f (sym (add-one row) i) (sym (add-one depth) i) (drop first s) first) (λ vs. give (array vs)))
+
+  object-some : Stands s first 125 b → b ≡ false → (f : ℕ)
+      → objectFrom f row depth (drop at s) at ≡ then (members f (row + 1) (depth + 1) [] (drop first s) first) (λ ms. give (object ms))
+  unfolding if
+  object-some st e f =
+      object-as st f ∙ ap (λ (c : Bool). objectBy f row depth c (drop first s) first) e
+      ∙ (λ i. then (members f (sym (add-one row) i) (sym (add-one depth) i) [] (drop first s) first) (λ ms. give (object ms)))
+
+module _ {name : Label} {s : Bytes} {at first row used : ℕ} {T A : Bytes} (sk : Skipped s at first) where
+  emptied : {m : ℕ → Parser Value} {kind : ℕ} {r : Step} {T′ : Bytes} (v : Value) → first < length s → used ≤ at → row < maxValues
+      → rowsOf v row used (labelOf name) ≡ layout.row kind (labelOf name) 0 (row + 1) → stringsOf v ≡ [] → valueCount v ≡ 1
+      → ((f : ℕ) → m f (drop at s) at ≡ ok v (drop (first + 1) s) (first + 1)) → Emptied T row kind name first used r T′
+      → ValueRead name m 1 s at row used T A r T′ A
+  emptied {m} {kind} {T′ = T′} v l u few rows strings one g h =
+      subst⁻¹ (λ (x : Step). ValueRead name m 1 s at row used T A x T′ A) (h .is)
+      (record {
+        reads = one-row (first + 1) _ refl (omega (arith, sk .on)) (omega arith) (omega arith) (omega (arith, sk .on)) few (length-row kind (labelOf name) 0 (row + 1)) (h .table)
+            (λ f e. record { v = v; is = g f; one = one; rows = rows; text = rw strings (omega arith); area = rw strings });
+      })
+
+module _ (depth : ℕ) {name : Label} {s : Bytes} {at first row used : ℕ} {T A : Bytes} {b : Bool} (sk : Skipped s at first) where
+  pub law-array-empty : {r : Step} {T′ : Bytes} → Stands s first 93 b → b ≡ true → used ≤ at → row < maxValues → Emptied T row 6 name first used r T′
+      → ValueRead name (λ f. arrayFrom f row depth) 1 s at row used T A r T′ A
+  unfolding rowsOf stringsOf valueCount itemCount
+  law-array-empty st e u few h = emptied sk (array no-items) (st .room e) u few (rw (append-nil, add-zero)) refl refl (array-none row depth sk st e) h
+
+  pub law-object-empty : {r : Step} {T′ : Bytes} → Stands s first 125 b → b ≡ true → used ≤ at → row < maxValues → Emptied T row 7 name first used r T′
+      → ValueRead name (λ f. objectFrom f row depth) 1 s at row used T A r T′ A
+  unfolding rowsOf stringsOf valueCount
+  law-object-empty st e u few h = emptied sk (object no-members) (st .room e) u few (rw (append-nil, add-zero)) refl refl (object-none row depth sk st e) h
+
+  module _ {r : Step} {T₁ A₁ : Bytes} {r₂ : Step} {T₂ : Bytes} where
+    pub law-array : Stands s first 93 b → b ≡ false → row < maxValues → ItemsRead s first (row + 1) used (depth + 1) T A r T₁ A₁ → Filled T₁ row 6 name r r₂ T₂
+        → ValueRead name (λ f. arrayFrom f row depth) 1 s at row used T A r₂ T₂ A₁
+    unfolding rowsOf stringsOf valueCount
+    law-array st e few it h = record {
+      reads = contained itemsForm array 6 name (λ x at used. refl) (λ x. refl) (λ x. refl) (it .reads) (sk .on) (λ f l. array-some row depth sk st e f) few h;
+    }
+
+    pub law-object : Stands s first 125 b → b ≡ false → row < maxValues → MembersRead [] s first (row + 1) used (depth + 1) T A r T₁ A₁ → Filled T₁ row 7 name r r₂ T₂
+        → ValueRead name (λ f. objectFrom f row depth) 1 s at row used T A r₂ T₂ A₁
+    unfolding rowsOf stringsOf valueCount
+    law-object st e few it h = record {
+      reads = contained membersForm object 7 name (λ x at used. refl) (λ x. refl) (λ x. refl) (it .reads) (sk .on) (λ f l. object-some row depth sk st e f) few h;
+    }

@@ -1,0 +1,75 @@
+-- Each way out is a law of All.
+use native.Mathlib.Omega.{arith}
+use Rattle.model.specs.Limits.{maxTextBytes, maxValues}
+use Rattle.syntax.specs.Layout.{rowBytes, entryBytes}
+use Rattle.json.proofs.All.{rows-few, law-short-table, law-short-strings, law-refused, law-done}
+use borrow.Author.Needs.{needs}
+use Rattle.json.proofs.read.Statement.{statement}
+use Rattle.json.proofs.read.Tie as tie
+
+returns : tie.Need-returns
+unfolding maxValues maxTextBytes rowBytes entryBytes
+returns c = law-short-table (c .if1 .taken)
+
+returns-2 : tie.Need-returns-2
+unfolding maxValues maxTextBytes rowBytes entryBytes
+returns-2 c = law-short-strings (c .before .if1 .left) (c .if2 .taken)
+
+read-text-requires : tie.Need-read-text-requires
+unfolding maxValues maxTextBytes rowBytes entryBytes
+read-text-requires c κs = (c .before .before .before .if1 .left, c .before .before .if2 .left)
+
+clear-from-requires : tie.Need-clear-from-requires
+clear-from-requires c κs = search needs
+
+clear-from-requires-2 : tie.Need-clear-from-requires-2
+clear-from-requires-2 c κs = search needs
+
+same-length : tie.Need-same-length
+same-length c = search needs
+
+same-length-2 : tie.Need-same-length-2
+same-length-2 c = search needs
+
+returns-3 : tie.Need-returns-3
+unfolding maxValues maxTextBytes rowBytes entryBytes
+returns-3 c = law-refused (c .before .before .before .before .before .before .before .before .before .before .before .before .before .before .before .before .before .before .if1 .left) (c .before .before .before .before .before .before .before .before .before .before .before .before .before .before .before .before .before .if2 .left) (c .before .before .before .before .before .before .before .before .before .before .before .before .before .before .read-text .ensures) (c .before .before .before .before .before .before .before .before .before .before .before .before .before .before .read-text .kept .1 .0) (c .before .before .before .before .before .before .before .before .before .before .before .before .before .before .read-text .kept .1 .1 .0) (c .before .before .before .before .before .before .before .before .if3 .taken) (c .before .before .before .before .before .before .clear-from .ensures) (c .before .before .clear-from2 .ensures)
+
+mul-clear-from : tie.Need-mul-clear-from
+unfolding maxValues
+mul-clear-from c = omega (arith, rows-few (c .before .before .before .before .before .before .before .before .read-text .ensures) (c .before .before .if3 .left))
+
+clear-from-requires-3 : tie.Need-clear-from-requires-3
+clear-from-requires-3 c κs = search needs
+
+clear-from-requires-4 : tie.Need-clear-from-requires-4
+clear-from-requires-4 c κs = search needs
+
+same-length-3 : tie.Need-same-length-3
+same-length-3 c = search needs
+
+same-length-4 : tie.Need-same-length-4
+same-length-4 c = search needs
+
+returns-4 : tie.Need-returns-4
+unfolding maxValues maxTextBytes rowBytes entryBytes
+returns-4 c = law-done (c .before .before .before .before .before .before .before .before .before .before .before .before .before .before .before .before .before .before .before .if1 .left) (c .before .before .before .before .before .before .before .before .before .before .before .before .before .before .before .before .before .before .if2 .left) (c .before .before .before .before .before .before .before .before .before .before .before .before .before .before .before .read-text .ensures) (c .before .before .before .before .before .before .before .before .before .before .before .before .before .before .before .read-text .kept .1 .0) (c .before .before .before .before .before .before .before .before .before .before .before .before .before .before .before .read-text .kept .1 .1 .0) (c .before .before .before .before .before .before .before .before .before .if3 .left) (c .before .before .before .before .before .before .clear-from3 .ensures) (c .before .before .clear-from4 .ensures)
+
+pub read-spec : {M : Type 1} → statement M
+read-spec =
+    tie.close
+    (tie.spec
+    returns
+    returns-2
+    read-text-requires
+    clear-from-requires
+    clear-from-requires-2
+    same-length
+    same-length-2
+    returns-3
+    mul-clear-from
+    clear-from-requires-3
+    clear-from-requires-4
+    same-length-3
+    same-length-4
+    returns-4)

@@ -1,0 +1,266 @@
+-- Inner: what the private functions ask and promise. A text s is read from an offset into a table and a strings area, which are T and A before and T′ and A′ after.
+use mathlib.Core.Path.{_≡_}
+use mathlib.Core.List.{List, [], _∷_, _++_}
+use Prim.Native.Nat.{ℕ, suc, _+_, _*_, _-_, _/_, _≤_, _<_}
+use lib.Dec.{eqb}
+use lib.ListN.{length, take, drop}
+use lib.Seq.{sets}
+use Rattle.model.specs.Bytes.{Bytes}
+use Rattle.model.specs.Limits.{maxTextBytes, maxValues}
+use Rattle.model.specs.Refusal.{number}
+use Rattle.model.specs.Size.{valueCount, itemsCount, membersCount}
+use Rattle.model.specs.Value.{Value, scalar, array, object, string, Values, no-items, Members, no-members, memberCount}
+use Rattle.area.specs.Words.{wordAt}
+use Rattle.names.specs.Index.{Entry, Indexed, Between, namesOf, part, entry}
+use Rattle.scan.specs.Contract.{Failed, Skipped, Separated}
+use Rattle.syntax.specs.Layout.{rowBytes, tableBytes, unnamed, rowsOf, itemRows, memberRows, stringsOf, itemStrings, memberStrings, itemCount}
+use Rattle.syntax.specs.Layout as layout
+use Rattle.syntax.specs.Read.{Parsed, ok, bad, Parser, then, _>>=_, give, if, peek, eat, white, chars, clear, name, items, members, Read, done, refuse, read}
+use Rattle.syntax.specs.declared.Word.{Word}
+use Rattle.syntax.specs.declared.Word.the-variants.{TrueWord, FalseWord, NullWord}
+use Rattle.syntax.specs.declared.Separator.the-variants.{Comma, Close, Neither}
+use Rattle.json.specs.declared.list.After.{After}
+use Rattle.json.specs.declared.list.After.the-variants.{Done, More}
+use Rattle.json.specs.declared.step.Step.{Step}
+use Rattle.json.specs.declared.row.Label.{Label}
+
+-- ---- where things lie
+-- The table's rows, in front of the index of names.
+unfoldable pub rowsPart : Bytes → Bytes
+rowsPart T = take (maxValues * rowBytes) T
+
+abbrev pub labelOf : Label → layout.Label
+labelOf name = record { start = name .start; size = name .size }
+
+-- How what is read lies in the areas: its rows, by the first of them and the strings' bytes before it, and its strings; how many rows it has; and how
+-- many items or members.
+pub record Form (X : Type 0) : Type 0 where
+  pub rows : X → ℕ → ℕ → Bytes
+  pub strings : X → Bytes
+  pub count : X → ℕ
+  pub parts : X → ℕ
+
+abbrev pub valueForm : layout.Label → Form Value
+valueForm name = record { rows = λ v at used. rowsOf v at used name; strings = stringsOf; count = valueCount; parts = λ v. 0 }
+
+abbrev pub itemsForm : Form Values
+itemsForm = record { rows = itemRows; strings = itemStrings; count = itemsCount; parts = itemCount }
+
+abbrev pub membersForm : Form Members
+membersForm = record { rows = memberRows; strings = memberStrings; count = membersCount; parts = memberCount }
+
+-- ---- what is asked and promised
+-- What a reading asks. The name of the value at `row` has `size` bytes.
+pub record Room (s T A : Bytes) (at row used size : ℕ) : Type 0 where
+  pub place : at ≤ length s
+  pub short : length s ≤ maxTextBytes
+  pub area : length s ≤ length A
+  pub table : tableBytes ≤ length T
+  pub text : used ≤ at
+  pub rows : row ≤ maxValues
+  pub label : size ≤ maxTextBytes
+
+-- Of the members of an object, the first of which has the row `row`.
+pub record MembersRoom (s T A : Bytes) (at row used : ℕ) : Type 0 where
+  pub room : Room s T A at row used 0
+  pub positive : 1 ≤ row
+
+-- Of a value that leaves the strings area as it is.
+pub record ScalarRoom (s T : Bytes) (at row used size : ℕ) : Type 0 where
+  pub place : at ≤ length s
+  pub short : length s ≤ maxTextBytes
+  pub table : tableBytes ≤ length T
+  pub text : used ≤ at
+  pub rows : row < maxValues
+  pub label : size ≤ maxTextBytes
+
+-- A reading that went well, of x, up to the offset q.
+pub record Wrote {X : Type 0} (F : Form X) (s : Bytes) (row used : ℕ) (T A : Bytes) (x : X) (u : Bytes) (q : ℕ) (r : Step) (T′ A′ : Bytes) : Type 0 where
+  pub number : r .fault ≡ 0
+  pub place : r .at ≡ q
+  pub left : u ≡ drop q s
+  pub rows : r .row ≡ row + F .count x
+  pub text : r .used ≡ used + length (F .strings x)
+  pub parts : r .count ≡ F .parts x
+  pub table : rowsPart T′ ≡ sets (rowsPart T) (row * rowBytes) (F .rows x row used)
+  pub area : A′ ≡ sets A used (F .strings x)
+
+abbrev pub Meets : {X : Type 0} → Form X → Bytes → ℕ → ℕ → Bytes → Bytes → Parsed X → Step → Bytes → Bytes → Type 0
+Meets F s row used T A (ok x u q) r T′ A′ = Wrote F s row used T A x u q r T′ A′
+Meets F s row used T A (bad k p) r T′ A′ = Failed k p (r .fault) (r .at)
+
+-- What a caller needs to go on, whatever was read. The index entries of the rows before `bound` stay.
+pub record Safe (bound : ℕ) (s : Bytes) (at row used : ℕ) (T : Bytes) (r : Step) (T′ : Bytes) : Type 0 where
+  pub on : at < r .at
+  pub inside : r .at ≤ length s
+  pub text : r .used ≤ r .at
+  pub more : used ≤ r .used
+  pub rows : r .row ≤ maxValues
+  pub less : row < r .row
+  pub count : row + r .count ≤ r .row
+  pub kept : (e : ℕ) → 1 ≤ e → e < bound → entry T′ e ≡ entry T e
+
+-- What is read at `at` is what the parser m gives, with steps enough: more than two for each byte that is left, and `more`.
+pub record Reads {X : Type 0} (F : Form X) (m : ℕ → Parser X) (more bound : ℕ) (s : Bytes) (at row used : ℕ) (T A : Bytes) (r : Step) (T′ A′ : Bytes) : Type 0 where
+  pub safe : r .fault ≡ 0 → Safe bound s at row used T r T′
+  pub run : (f : ℕ) → 2 * (length s - at) + more < f → Meets F s row used T A (m f (drop at s) at) r T′ A′
+
+-- ---- rows
+-- What a row asks.
+pub record RowRoom (T : Bytes) (row kind size : ℕ) : Type 0 where
+  pub rows : row < maxValues
+  pub table : tableBytes ≤ length T
+  pub kinds : kind < 256
+  pub label : size ≤ maxTextBytes
+
+pub record Stored (T : Bytes) (row : ℕ) (bs : Bytes) (T′ : Bytes) : Type 0 where
+  pub is : T′ ≡ sets T (row * rowBytes) bs
+
+abbrev pub step : ℕ → ℕ → ℕ → ℕ → ℕ → Step
+step fault at row used count = record { fault = fault; at = at; row = row; used = used; count = count }
+
+-- The row of an empty array or object.
+pub record Emptied (T : Bytes) (row kind : ℕ) (name : Label) (at used : ℕ) (r : Step) (T′ : Bytes) : Type 0 where
+  pub is : r ≡ step 0 (at + 1) (row + 1) used 0
+  pub table : T′ ≡ sets T (row * rowBytes) (layout.row kind (labelOf name) 0 (row + 1))
+
+-- The row of an array or object whose items or members are read, s being what came of them.
+pub record Filled (T : Bytes) (row kind : ℕ) (name : Label) (s r : Step) (T′ : Bytes) : Type 0 where
+  pub failed : (s .fault ≡ 0 → ⊥) → r ≡ s
+  pub is : s .fault ≡ 0 → r ≡ step 0 (s .at) (s .row) (s .used) 0
+  pub table : s .fault ≡ 0 → T′ ≡ sets T (row * rowBytes) (layout.row kind (labelOf name) (s .count) (s .row))
+
+-- ---- values
+abbrev pub kindOf : Word → ℕ
+kindOf NullWord = 1
+kindOf FalseWord = 2
+kindOf TrueWord = 3
+
+-- The parts of specs/Read.antt's `value` that have a function of their own: after a quote, after a bracket, after a brace.
+abbrev pub stringFrom : ℕ → Parser Value
+stringFrom f = chars f clear >>= λ bs. eat (give (scalar (string bs)))
+
+abbrev pub arrayFrom : ℕ → ℕ → ℕ → Parser Value
+arrayFrom f row depth =
+    white (peek >>= λ c. if (eqb c 0x5D) (eat (give (array no-items))) (λ u q. then (items f (suc row) (suc depth) u q) (λ vs. give (array vs))))
+
+abbrev pub objectFrom : ℕ → ℕ → ℕ → Parser Value
+objectFrom f row depth =
+    white (peek >>= λ c. if (eqb c 0x7D) (eat (give (object no-members))) (λ u q. then (members f (suc row) (suc depth) [] u q) (λ ms. give (object ms))))
+
+-- A value, by a parser m of values.
+pub record ValueRead (name : Label) (m : ℕ → Parser Value) (more : ℕ) (s : Bytes) (at row used : ℕ) (T A : Bytes) (r : Step) (T′ A′ : Bytes) : Type 0 where
+  pub reads : Reads (valueForm (labelOf name)) m more (row + 1) s at row used T A r T′ A′
+
+-- The same for a value that leaves the strings area as it is.
+pub record RowRead (name : Label) (m : Parser Value) (s : Bytes) (at row used : ℕ) (T : Bytes) (r : Step) (T′ : Bytes) : Type 0 where
+  pub reads : (A : Bytes) → Reads (valueForm (labelOf name)) (λ f. m) 0 (row + 1) s at row used T A r T′ A
+
+-- From the first byte of an item to the closing bracket.
+pub record ItemsRead (s : Bytes) (at row used depth : ℕ) (T A : Bytes) (r : Step) (T′ A′ : Bytes) : Type 0 where
+  pub reads : Reads itemsForm (λ f. items f row depth) 1 row s at row used T A r T′ A′
+
+-- From the first byte of a name to the closing brace, after members of the names `seen`.
+pub record MembersRead (seen : List Bytes) (s : Bytes) (at row used depth : ℕ) (T A : Bytes) (r : Step) (T′ A′ : Bytes) : Type 0 where
+  pub reads : Reads membersForm (λ f. members f row depth seen) 1 row s at row used T A r T′ A′
+
+-- ---- what follows an item or a member
+-- Before which there were `count`.
+pub record FollowRoom (s : Bytes) (count : ℕ) : Type 0 where
+  pub short : length s ≤ maxTextBytes
+  pub few : count ≤ maxValues
+
+-- How a list ends whose last part ended with s: that part failed, or neither a comma nor the closing byte follows, or the closing byte.
+pub data Ended (t : Bytes) (s : Step) (count close : ℕ) (r : Step) : Type 0 where
+  failed : (s .fault ≡ 0 → ⊥) → r ≡ s → Ended t s count close r
+  stopped : {end : ℕ} → s .fault ≡ 0 → Skipped t (s .at) end → Separated t close end Neither → r .fault ≡ 2 → r .at ≡ end → Ended t s count close r
+  closed : {end : ℕ} → s .fault ≡ 0 → Skipped t (s .at) end → Separated t close end Close → r ≡ step 0 (end + 1) (s .row) (s .used) (count + 1)
+      → Ended t s count close r
+
+-- A comma follows, and then a part.
+pub record Continued (t : Bytes) (s : Step) (count close : ℕ) (r : Step) : Type 0 where
+  pub end : ℕ
+  pub good : s .fault ≡ 0
+  pub skipped : Skipped t (s .at) end
+  pub comma : Separated t close end Comma
+  pub next : ℕ
+  pub white : Skipped t (end + 1) next
+  pub is : r ≡ step 0 next (s .row) (s .used) (count + 1)
+
+abbrev pub FollowMeets : Bytes → Step → ℕ → ℕ → After → Type 0
+FollowMeets t s count close (Done r) = Ended t s count close r
+FollowMeets t s count close (More r) = Continued t s count close r
+
+pub record Followed (t : Bytes) (s : Step) (count close : ℕ) (o : After) : Type 0 where
+  pub meets : FollowMeets t s count close o
+
+-- ---- names
+-- The rows of an object's members so far have their names, which end before `to`.
+unfoldable pub Holds : Bytes → Bytes → ℕ → List Entry → Type 0
+Holds T A to [] = Unit {0}
+Holds T A to (e ∷ es) =
+    (e .name ≡ part A (wordAt T (e .row * 16 + 4)) (wordAt T (e .row * 16) / 256))
+    × (wordAt T (e .row * 16 + 4) + wordAt T (e .row * 16) / 256 ≤ to)
+    × Holds T A to es
+
+-- The members es, of rows from `first` up to `row`, are in the table, its index and the strings area.
+pub record Has (T A : Bytes) (first row to : ℕ) (es : List Entry) : Type 0 where
+  pub indexed : Indexed T first es
+  pub holds : Holds T A to es
+  pub between : Between first row es
+  pub none : row ≡ first → es ≡ []
+  pub some : es ≡ [] → row ≡ first
+
+-- The member in a row, whose name lies in the strings area from `start` up to `end`.
+abbrev pub named : Bytes → ℕ → ℕ → ℕ → Entry
+named A row start end = record { row = row; name = part A start (end - start) }
+
+pub record NameRoom (s T A : Bytes) (at first row used : ℕ) : Type 0 where
+  pub room : Room s T A at row used 0
+  pub positive : 1 ≤ first
+  pub order : first ≤ row
+
+-- A name n, with its colon up to q and white space after that.
+pub record NameWrote (s : Bytes) (first row used : ℕ) (T A : Bytes) (es : List Entry) (n u : Bytes) (q : ℕ) (r : Step) (T′ A′ : Bytes) : Type 0 where
+  pub number : r .fault ≡ 0
+  pub skipped : Skipped s q (r .at)
+  pub left : u ≡ drop q s
+  pub text : r .used ≡ used + length n
+  pub area : A′ ≡ sets A used n
+  pub indexed : Indexed T′ first (es ++ (named A′ row used (r .used) ∷ []))
+
+abbrev pub NameMeets : Bytes → ℕ → ℕ → ℕ → Bytes → Bytes → List Entry → Parsed Bytes → Step → Bytes → Bytes → Type 0
+NameMeets s first row used T A es (ok n u q) r T′ A′ = NameWrote s first row used T A es n u q r T′ A′
+NameMeets s first row used T A es (bad k p) r T′ A′ = Failed k p (r .fault) (r .at)
+
+-- What a caller needs to go on, whatever was read.
+pub record NameSafe (s : Bytes) (at first used : ℕ) (T : Bytes) (r : Step) (T′ : Bytes) : Type 0 where
+  pub on : at < r .at
+  pub inside : r .at ≤ length s
+  pub text : r .used ≤ r .at
+  pub more : used ≤ r .used
+  pub rows : rowsPart T′ ≡ rowsPart T
+  pub kept : (e : ℕ) → 1 ≤ e → e < first → entry T′ e ≡ entry T e
+
+pub record NameRead (s : Bytes) (at first row used : ℕ) (T A : Bytes) (r : Step) (T′ A′ : Bytes) : Type 0 where
+  pub safe : r .fault ≡ 0 → NameSafe s at first used T r T′
+  pub run : (f : ℕ) → length s ≤ at + f → (es : List Entry) → Has T A first row used es
+      → NameMeets s first row used T A es (name f (namesOf es) (drop at s) at) r T′ A′
+
+-- ---- the whole text
+-- A text that reads as v.
+pub record Whole (v : Value) (T A : Bytes) (r : Step) (T′ A′ : Bytes) : Type 0 where
+  pub number : r .fault ≡ 0
+  pub rows : r .row ≡ valueCount v
+  pub text : r .used ≡ length (stringsOf v)
+  pub table : rowsPart T′ ≡ sets (rowsPart T) 0 (rowsOf v 0 0 unnamed)
+  pub area : A′ ≡ sets A 0 (stringsOf v)
+  pub few : r .row ≤ maxValues
+  pub fits : r .used ≤ maxTextBytes
+
+abbrev pub TextMeets : Read → Bytes → Bytes → Step → Bytes → Bytes → Type 0
+TextMeets (done v) T A r T′ A′ = Whole v T A r T′ A′
+TextMeets (refuse k p) T A r T′ A′ = Failed k p (r .fault) (r .at)
+
+pub record TextRead (s T A : Bytes) (r : Step) (T′ A′ : Bytes) : Type 0 where
+  pub meets : TextMeets (read s) T A r T′ A′

@@ -1,0 +1,3 @@
+-- What `read` promises, and what the private functions do.
+pub mod Contract
+pub mod Inner

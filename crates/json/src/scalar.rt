@@ -1,0 +1,108 @@
+// Values that have no parts.
+use crate::row::Label;
+use crate::row::put_row;
+use crate::step::Step;
+use crate::step::fail;
+use scan::chars::chars;
+use scan::number::number;
+use scan::token::literal;
+use syntax::Word;
+ghost use mathlib.Core.Path.{_≡_};
+ghost use Prim.Native.Nat.{_<_};
+ghost use Rattle.model.specs.Limits.{maxValues};
+ghost use Rattle.syntax.specs.Read as reading;
+ghost use Rattle.json.specs.Inner.{Room, ScalarRoom, RowRead, ValueRead, stringFrom, kindOf};
+
+// The number of a literal's kind.
+fn kind_of(word: Word) -> usize
+    ensures { λ r. ⌜ r ≡ kindOf word ⌝ }
+{
+    match word {
+        Word::NullWord => 1,
+        Word::FalseWord => 2,
+        Word::TrueWord => 3,
+    }
+}
+
+// The literal at `at`, for the value at `row`.
+pub fn read_literal(
+    text: &[u8],
+    at: usize,
+    table: &mut [u8],
+    row: usize,
+    used: usize,
+    name: Label,
+    word: Word,
+) -> Step
+    requires { ⌜ ScalarRoom (now text) (now table) at row used (name .size) ⌝ }
+    ensures { λ r. ⌜ RowRead name (reading.literal word) (now (text .entry)) at row used (now (table .entry)) r (now (table .exit)) ⌝ }
+{
+    let l = literal(text, at, word);
+    if l.fault != 0 {
+        return fail(l.fault, l.at);
+    }
+    put_row(table, row, kind_of(word), name, 0, 0);
+    Step {
+        fault: 0,
+        at: l.at,
+        row: row + 1,
+        used,
+        count: 0,
+    }
+}
+
+// The number at `at`, after its sign.
+pub fn read_number(
+    text: &[u8],
+    at: usize,
+    negative: bool,
+    table: &mut [u8],
+    row: usize,
+    used: usize,
+    name: Label,
+) -> Step
+    requires { ⌜ ScalarRoom (now text) (now table) at row used (name .size) ⌝ }
+    ensures { λ r. ⌜ RowRead name (reading.int negative) (now (text .entry)) at row used (now (table .entry)) r (now (table .exit)) ⌝ }
+{
+    let n = number(text, at, negative);
+    if n.fault != 0 {
+        return fail(n.fault, n.at);
+    }
+    let low = (n.biased % 4294967296) as usize;
+    let high = (n.biased / 4294967296) as usize;
+    put_row(table, row, 4, name, low, high);
+    Step {
+        fault: 0,
+        at: n.at,
+        row: row + 1,
+        used,
+        count: 0,
+    }
+}
+
+// The string whose first character is at `at`.
+pub fn read_string(
+    text: &[u8],
+    at: usize,
+    table: &mut [u8],
+    row: usize,
+    strings: &mut [u8],
+    used: usize,
+    name: Label,
+) -> Step
+    requires { ⌜ Room (now text) (now table) (now strings) at row used (name .size) × (row < maxValues) ⌝ }
+    ensures { λ r. ⌜ ValueRead name stringFrom 0 (now (text .entry)) at row used (now (table .entry)) (now (strings .entry)) r (now (table .exit)) (now (strings .exit)) ⌝ }
+{
+    let s = chars(text, at, strings, used);
+    if s.fault != 0 {
+        return fail(s.fault, s.at);
+    }
+    put_row(table, row, 5, name, used, s.used - used);
+    Step {
+        fault: 0,
+        at: s.at + 1,
+        row: row + 1,
+        used: s.used,
+        count: 0,
+    }
+}

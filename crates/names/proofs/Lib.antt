@@ -1,0 +1,5 @@
+pub mod Trie
+pub mod Table
+pub mod Bits
+pub mod Steps
+pub mod Whole

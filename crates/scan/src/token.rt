@@ -1,0 +1,175 @@
+// White space, literals, and what a single byte decides.
+use model::MAX_NESTING;
+use model::MAX_VALUES;
+use syntax::Separator;
+use syntax::Start;
+use syntax::Word;
+ghost use mathlib.Core.Path.{_≡_};
+ghost use Prim.Native.Nat.{_≤_};
+ghost use lib.ListN.{length, drop};
+ghost use Rattle.syntax.specs.Read as reading;
+ghost use Rattle.syntax.specs.Tokens as tokens;
+ghost use Rattle.scan.specs.Contract.{Skipped, Started, Separated, Stands, LiteralMeets};
+ghost use Rattle.scan.specs.Inner.{Compared};
+
+// The offset after the white space at `at`.
+pub fn skip_white(text: &[u8], at: usize) -> usize
+    ensures { λ r. ⌜ Skipped (now (text .entry)) at r ⌝ }
+{
+    let mut i = at;
+    while i < text.len() {
+        if !is_white(text[i]) {
+            return i;
+        }
+        i += 1;
+    }
+    i
+}
+
+fn is_white(b: u8) -> bool
+    ensures { λ r. ⌜ r ≡ tokens.isWhite b ⌝ }
+{
+    if b == 32 {
+        return true;
+    }
+    if b == 9 {
+        return true;
+    }
+    if b == 10 {
+        return true;
+    }
+    b == 13
+}
+
+// What stands at `at`, where a value is to begin: `row` values began before it, `depth` arrays and objects deep.
+pub fn start(text: &[u8], at: usize, row: usize, depth: usize) -> Start
+    ensures { λ r. ⌜ Started (now (text .entry)) row depth at r ⌝ }
+{
+    if text.len() <= at {
+        return Start::NoValue;
+    }
+    start_of(row, depth, text[at])
+}
+
+fn start_of(row: usize, depth: usize, b: u8) -> Start
+    ensures { λ r. ⌜ r ≡ tokens.startOf row depth b ⌝ }
+{
+    if b == 34 {
+        return counted(row, Start::Quote);
+    }
+    if b == 91 {
+        return counted(row, nested(depth, Start::Bracket));
+    }
+    if b == 123 {
+        return counted(row, nested(depth, Start::Brace));
+    }
+    if is_digit(b) {
+        return counted(row, Start::Digit);
+    }
+    if b == 45 {
+        return counted(row, Start::Minus);
+    }
+    if b == 116 {
+        return counted(row, Start::Literal(Word::TrueWord));
+    }
+    if b == 102 {
+        return counted(row, Start::Literal(Word::FalseWord));
+    }
+    if b == 110 {
+        return counted(row, Start::Literal(Word::NullWord));
+    }
+    Start::NoValue
+}
+
+fn counted(row: usize, kind: Start) -> Start
+    ensures { λ r. ⌜ r ≡ tokens.counted row kind ⌝ }
+{
+    if MAX_VALUES <= row {
+        return Start::TooMuch;
+    }
+    kind
+}
+
+fn nested(depth: usize, kind: Start) -> Start
+    ensures { λ r. ⌜ r ≡ tokens.nested depth kind ⌝ }
+{
+    if MAX_NESTING <= depth {
+        return Start::TooMuch;
+    }
+    kind
+}
+
+pub fn is_digit(b: u8) -> bool
+    ensures { λ r. ⌜ r ≡ tokens.isDigit b ⌝ }
+{
+    if b < 48 {
+        return false;
+    }
+    b <= 57
+}
+
+// What stands at `at`, after an item or a member.
+pub fn separator(text: &[u8], at: usize, close: u8) -> Separator
+    ensures { λ r. ⌜ Separated (now (text .entry)) close at r ⌝ }
+{
+    if text.len() <= at {
+        return Separator::Neither;
+    }
+    let b = text[at];
+    if b == 44 {
+        return Separator::Comma;
+    }
+    if b == close {
+        return Separator::Close;
+    }
+    Separator::Neither
+}
+
+// Whether the byte `b` stands at `at`.
+pub fn stands(text: &[u8], at: usize, b: u8) -> bool
+    ensures { λ r. ⌜ Stands (now (text .entry)) at b r ⌝ }
+{
+    if text.len() <= at {
+        return false;
+    }
+    text[at] == b
+}
+
+// Where a literal ends or fails.
+pub struct Matched {
+    pub fault: u32,
+    pub at: usize,
+}
+
+// The bytes of `word` at `at`, up to the first that differs.
+fn compare(text: &[u8], at: usize, word: &[u8]) -> Matched
+    requires { ⌜ at ≤ length (now text) ⌝ }
+    ensures { λ r. ⌜ Compared (now (text .entry)) at (now (word .entry)) r ⌝ }
+{
+    let mut i = 0;
+    while i < word.len() {
+        if !stands(text, at + i, word[i]) {
+            return Matched {
+                fault: 2,
+                at: at + i,
+            };
+        }
+        i += 1;
+    }
+    Matched {
+        fault: 0,
+        at: at + i,
+    }
+}
+
+// The literal at `at`.
+pub fn literal(text: &[u8], at: usize, word: Word) -> Matched
+    requires { ⌜ at ≤ length (now text) ⌝ }
+    ensures { λ r. ⌜ LiteralMeets (now (text .entry)) at word (reading.literal word (drop at (now (text .entry))) at) r ⌝ }
+{
+    match word {
+        Word::TrueWord => compare(text, at, b"true"),
+        Word::FalseWord => compare(text, at, b"false"),
+        Word::NullWord => compare(text, at, b"null"),
+    }
+}

@@ -1,0 +1,327 @@
+//! The C library against the independent reader: the same refusal, place and bytes of both areas, on the cases and
+//! texts of `vectors/`, on all small texts of some forms, and on random texts, whole and damaged.
+//!
+//!     differential [--seed N] [--count N]   so many random texts, made from this seed
+//!     differential --one N                  the random text of this number alone, as a difference names it
+//!     differential --say                    also prints the number of each random text before the call
+//!
+//! On a difference it prints the text, a shorter one that differs too, and what differs. It counts how often each class
+//! of random texts was met; a class that was met too rarely fails. The last line is 'N passed, M failed': one for each
+//! group of texts and one for each class.
+
+mod compare;
+mod damage;
+mod generate;
+mod random;
+mod small;
+
+use compare::{Comparer, Lent};
+use random::Random;
+use reader::{cases, judge, Fault, Form, Why};
+use std::collections::{BTreeMap, HashSet};
+use std::process::exit;
+use std::time::Instant;
+
+const COUNT: usize = 200_000; // random texts
+const LEAST: usize = 1_400; // of each class, among so many random texts
+const SHOWN: usize = 5; // differences that are printed
+const LONGEST_SHOWN: usize = 2_000; // bytes of a text that are printed
+
+/// Features of texts that read, each to be met often.
+type Feature = (&'static str, fn(&[u8], &Form) -> bool);
+const FEATURES: [Feature; 18] = [
+    ("an escape \\uXXXX", |text, _| has(text, b"\\u")),
+    ("a short escape", |text, _| text.windows(2).any(|two| two[0] == b'\\' && two[1] != b'u')),
+    ("an escaped surrogate pair", |text, form| {
+        has(text, b"\\u") && form.strings.iter().any(|&b| b >= 0xf0) && !text.iter().any(|&b| b >= 0xf0)
+    }),
+    ("a raw character of 2 bytes", |text, _| text.iter().any(|b| (0xc2..=0xdf).contains(b))),
+    ("a raw character of 3 bytes", |text, _| text.iter().any(|b| (0xe0..=0xef).contains(b))),
+    ("a raw character of 4 bytes", |text, _| text.iter().any(|b| *b >= 0xf0)),
+    ("a decoded U+0000", |_, form| form.strings.contains(&0)),
+    ("white space", |text, _| text.iter().any(|b| b" \t\n\r".contains(b))),
+    ("a largest integer", |_, form| {
+        form.rows.iter().any(|row| row[0] % 256 == 4 && (row[2..] == [1, 0] || row[2..] == [u32::MAX, 0x3f_ffff]))
+    }),
+    ("-0", |text, _| text.windows(3).any(|three| three[0] == b'-' && three[1] == b'0') || text == b"-0"),
+    ("an empty string or name", |text, _| has(text, b"\"\"")),
+    ("nesting of 32", |_, form| nesting(form) == reader::MAX_NESTING),
+    ("1,000 values or more", |_, form| form.rows.len() >= 1000),
+    ("exactly 1,024 values", |_, form| form.rows.len() == reader::MAX_VALUES),
+    ("exactly 16,384 bytes", |text, _| text.len() == reader::MAX_TEXT_BYTES),
+    ("16,000 bytes of strings or more", |_, form| form.strings.len() >= 16_000),
+    ("an object of 20 members or more", |_, form| form.rows.iter().any(|row| row[0] % 256 == 7 && row[2] >= 20)),
+    ("an object of 200 members or more", |_, form| form.rows.iter().any(|row| row[0] % 256 == 7 && row[2] >= 200)),
+];
+
+fn has(text: &[u8], piece: &[u8]) -> bool {
+    text.windows(piece.len()).any(|window| window == piece)
+}
+
+/// The deepest nesting: how many rows with a later end enclose a container, at most.
+fn nesting(form: &Form) -> usize {
+    let mut ends: Vec<usize> = Vec::new();
+    let mut deepest = 0;
+    for (at, row) in form.rows.iter().enumerate() {
+        ends.retain(|&end| end > at);
+        if row[0] % 256 >= 6 {
+            ends.push(row[3] as usize);
+            deepest = deepest.max(ends.len());
+        }
+    }
+    deepest
+}
+
+struct Group {
+    name: String,
+    texts: usize,
+    differences: usize,
+}
+
+#[derive(Default)]
+struct Run {
+    /// What was tried; the last one is the current one.
+    groups: Vec<Group>,
+    /// How often each class of random texts was met.
+    classes: BTreeMap<String, usize>,
+    differences: usize,
+}
+
+impl Run {
+    /// Compares one text of the current group; prints a difference.
+    fn try_text(
+        &mut self,
+        comparer: &mut Comparer,
+        text: &[u8],
+        lent: &Lent,
+        origin: &dyn Fn() -> String,
+    ) -> Result<Form, Fault> {
+        let judged = judge(text);
+        let difference = comparer.compare(text, &judged, lent);
+        let group = self.groups.last_mut().unwrap();
+        group.texts += 1;
+        if let Some(said) = difference {
+            group.differences += 1;
+            self.differences += 1;
+            if self.differences <= SHOWN {
+                let short = shorten(comparer, text, lent);
+                let said_of_short = comparer.compare(&short, &judge(&short), lent).unwrap_or_default();
+                println!("DIFFERENCE in {}: {}\n  text     {}", origin(), said, escaped(text));
+                println!("  shorter  {}\n  there    {}\n  areas    {:?}", escaped(&short), said_of_short, lent);
+            }
+        }
+        judged
+    }
+
+    fn begin(&mut self, name: &str) {
+        self.groups.push(Group { name: name.to_string(), texts: 0, differences: 0 });
+    }
+
+    fn met(&mut self, class: &str) {
+        *self.classes.entry(class.to_string()).or_default() += 1;
+    }
+
+    fn count(&mut self, text: &[u8], lent: &Lent, judged: &Result<Form, Fault>) {
+        if lent.is_short() {
+            return self.met(match (lent.table < reader::TABLE_BYTES, lent.strings < reader::STRINGS_BYTES) {
+                (true, true) => "1 both areas short",
+                (true, false) => "1 table short",
+                _ => "1 strings short",
+            });
+        }
+        match judged {
+            Err(fault) => self.met(&class(fault.why)),
+            Ok(form) => {
+                self.met("0 read");
+                for (name, holds) in FEATURES {
+                    if holds(text, form) {
+                        self.met(&format!("0 read, with {}", name));
+                    }
+                }
+                if lent.table > reader::TABLE_BYTES || lent.strings > reader::STRINGS_BYTES {
+                    self.met("0 read, with areas larger than stated");
+                }
+            }
+        }
+        if judged.is_err() && (lent.table > reader::TABLE_BYTES || lent.strings > reader::STRINGS_BYTES) {
+            self.met("2 to 5, with areas larger than stated");
+        }
+    }
+}
+
+fn class(why: Why) -> String {
+    format!("{} {:?}", why.refusal(), why)
+}
+
+/// All classes that are to be met.
+fn classes() -> Vec<String> {
+    let mut all: Vec<String> =
+        ["0 read", "0 read, with areas larger than stated", "1 both areas short", "1 table short", "1 strings short"]
+            .iter()
+            .map(|name| name.to_string())
+            .collect();
+    all.extend(FEATURES.iter().map(|(name, _)| format!("0 read, with {}", name)));
+    all.extend(Why::ALL.iter().map(|&why| class(why)));
+    all.push("2 to 5, with areas larger than stated".to_string());
+    all.sort();
+    all
+}
+
+/// A text in which pieces were left out as long as it still differs.
+fn shorten(comparer: &mut Comparer, text: &[u8], lent: &Lent) -> Vec<u8> {
+    let mut text = text.to_vec();
+    let mut piece = text.len();
+    while piece > 0 {
+        let mut at = 0;
+        while at + piece <= text.len() {
+            let mut fewer = text.clone();
+            fewer.drain(at..at + piece);
+            if comparer.compare(&fewer, &judge(&fewer), lent).is_some() {
+                text = fewer;
+            } else {
+                at += piece;
+            }
+        }
+        piece /= 2;
+    }
+    text
+}
+
+/// A text in printable ASCII.
+fn escaped(text: &[u8]) -> String {
+    let shown: String =
+        text.iter().take(LONGEST_SHOWN).flat_map(|&byte| std::ascii::escape_default(byte)).map(char::from).collect();
+    format!("b\"{}\"{} ({} bytes)", shown, if text.len() > LONGEST_SHOWN { ".." } else { "" }, text.len())
+}
+
+/// The random text of a number, with its areas.
+fn random_text(number: u64) -> (Vec<u8>, Lent) {
+    let mut random = Random::new(number);
+    let mut text = generate::text(&mut random);
+    if random.chance(45) {
+        damage::damage(&mut random, &mut text);
+    }
+    (text, Lent::new(&mut random))
+}
+
+/// What vectors/ holds: cases of `read` with what they expect, then every text.
+fn try_vectors(run: &mut Run, comparer: &mut Comparer) {
+    let mut random = Random::new(1);
+    let all = cases::all();
+    run.begin("cases of reading in vectors/");
+    for case in all.iter().filter(|case| case.entry == "read") {
+        let lent = Lent::sized(&mut random, case.table, case.strings);
+        let _ = run.try_text(comparer, &case.texts[0].1, &lent, &|| case.id.clone());
+        let group = run.groups.last_mut().unwrap();
+        if group.differences == 0 {
+            if let Err(fault) = case.check(&comparer.answer()) {
+                println!("DIFFERENCE in {}: {}", case.id, fault);
+                group.differences += 1;
+            }
+        }
+    }
+    run.begin("texts of vectors/");
+    let mut seen = HashSet::new();
+    for case in &all {
+        for (name, text) in case.texts.iter().filter(|(_, text)| seen.insert(text.clone())) {
+            let lent = Lent::new(&mut random);
+            let _ = run.try_text(comparer, text, &lent, &|| format!("{}, {}", case.id, name));
+        }
+    }
+}
+
+fn try_small(run: &mut Run, comparer: &mut Comparer) {
+    let mut random = Random::new(2);
+    for (name, make) in small::FORMS {
+        run.begin(name);
+        make(&mut |text| {
+            let lent = Lent::new(&mut random);
+            let _ = run.try_text(comparer, text, &lent, &|| name.to_string());
+        });
+    }
+}
+
+fn try_random(run: &mut Run, comparer: &mut Comparer, numbers: impl Iterator<Item = u64>, say: bool) {
+    run.begin("random texts");
+    for number in numbers {
+        if say {
+            eprintln!("--one {}", number);
+        }
+        let (text, lent) = random_text(number);
+        let judged = run.try_text(comparer, &text, &lent, &|| format!("the random text --one {}", number));
+        run.count(&text, &lent, &judged);
+    }
+}
+
+/// Prints what was met; gives the passed and the failed.
+fn report(run: &Run, least: Option<usize>) -> (usize, usize) {
+    let (mut passed, mut failed) = (0, 0);
+    let mut tell = |good: bool, line: String| {
+        println!("{}{}", line, if good { "" } else { "  FAILED" });
+        *(if good { &mut passed } else { &mut failed }) += 1;
+    };
+    println!("{:>9} {:>12}  group", "texts", "differences");
+    for Group { name, texts, differences } in &run.groups {
+        tell(*texts > 0 && *differences == 0, format!("{:>9} {:>12}  {}", texts, differences, name));
+    }
+    if let Some(least) = least {
+        println!("{:>9}  class of random texts (at least {})", "texts", least);
+        for class in classes() {
+            let met = run.classes.get(&class).copied().unwrap_or(0);
+            tell(met >= least, format!("{:>9}  {}", met, class));
+        }
+        for class in run.classes.keys().filter(|class| !classes().contains(class)) {
+            tell(false, format!("no such class: {}", class));
+        }
+    }
+    (passed, failed)
+}
+
+/// A whole number, decimal or hexadecimal.
+fn whole(word: Option<String>) -> u64 {
+    let word = word.unwrap_or_default();
+    let parsed = match word.strip_prefix("0x") {
+        Some(digits) => u64::from_str_radix(digits, 16),
+        None => word.parse(),
+    };
+    parsed.unwrap_or_else(|_| {
+        eprintln!("not a number: '{}'", word);
+        exit(2)
+    })
+}
+
+fn main() {
+    let (mut seed, mut count, mut one, mut say) = (20_261_115, COUNT, None, false);
+    let mut words = std::env::args().skip(1);
+    while let Some(word) = words.next() {
+        match word.as_str() {
+            "--seed" => seed = whole(words.next()),
+            "--count" => count = whole(words.next()) as usize,
+            "--one" => one = Some(whole(words.next())),
+            "--say" => say = true,
+            _ => {
+                eprintln!("usage: differential [--seed N] [--count N] [--one N] [--say]");
+                exit(2);
+            }
+        }
+    }
+    let began = Instant::now();
+    let mut run = Run::default();
+    let mut comparer = Comparer::new();
+    let least = if let Some(number) = one {
+        println!("{}", escaped(&random_text(number).0));
+        try_random(&mut run, &mut comparer, std::iter::once(number), say);
+        None
+    } else {
+        try_vectors(&mut run, &mut comparer);
+        try_small(&mut run, &mut comparer);
+        let mut numbers = Random::new(seed);
+        try_random(&mut run, &mut comparer, (0..count).map(|_| numbers.next()), say);
+        Some(LEAST).filter(|_| count >= COUNT)
+    };
+    let (passed, failed) = report(&run, least);
+    let texts: usize = run.groups.iter().map(|group| group.texts).sum();
+    println!("{} texts, seed {}, {:.1} s", texts, seed, began.elapsed().as_secs_f64());
+    println!("{} passed, {} failed", passed, failed);
+    exit(i32::from(failed > 0));
+}

@@ -1,0 +1,154 @@
+/*
+ * Jehvrukam: the C interface.
+ *
+ * Only numbers and byte areas cross it. The library allocates nothing and keeps nothing between calls, so calls on
+ * different areas may run at the same time. A call uses less than 16 KiB of stack (some 13 KB at the deepest
+ * nesting, measured: host/tests/stack.c). Link target/staticlib/libjehvrukam.a, which `rt staticlib jehvrukam`
+ * writes, for x86-64.
+ */
+#ifndef JEHVRUKAM_H
+#define JEHVRUKAM_H
+
+#include <stddef.h>
+#include <stdint.h>
+
+#ifdef __cplusplus
+extern "C" {
+#endif
+
+/* Limits of a text. */
+#define JEHVRUKAM_MAX_TEXT_BYTES 16384
+#define JEHVRUKAM_MAX_VALUES 1024
+#define JEHVRUKAM_MAX_NESTING 32
+#define JEHVRUKAM_MAX_INTEGER INT64_C(9007199254740991) /* either way */
+
+/* Work room for one text: the least lengths of its two areas. */
+#define JEHVRUKAM_TABLE_BYTES 28672   /* 28 for each value: its row, and 12 that are zero again after a call */
+#define JEHVRUKAM_STRINGS_BYTES 16384
+
+#define JEHVRUKAM_ROW_BYTES 16
+
+/* Refusals. What an entry answers. */
+enum {
+    JEHVRUKAM_DONE = 0,
+    JEHVRUKAM_BAD_SIZE = 1,         /* a work area below its stated size */
+    JEHVRUKAM_NOT_JSON = 2,         /* not an RFC 8259 text in UTF-8 */
+    JEHVRUKAM_NAME_OR_SURROGATE = 3, /* a name twice in one object, or a lone surrogate escape */
+    JEHVRUKAM_BAD_NUMBER = 4,       /* a fraction or exponent, or an integer beyond the limit */
+    JEHVRUKAM_TOO_LARGE = 5         /* text too long, nested too deep, or too many values */
+};
+
+/* Kinds of values. A row of kind 0 is unused. */
+enum {
+    JEHVRUKAM_NULL = 1,
+    JEHVRUKAM_FALSE = 2,
+    JEHVRUKAM_TRUE = 3,
+    JEHVRUKAM_INTEGER = 4,
+    JEHVRUKAM_STRING = 5,
+    JEHVRUKAM_ARRAY = 6,
+    JEHVRUKAM_OBJECT = 7
+};
+
+/*
+ * Reads a JSON text into a table of rows and an area of decoded names and strings.
+ *
+ * Given: a text of any length, 0 included; two areas, whatever they hold; and a place. No pointer is null. The text,
+ * the areas and the place lie apart: no byte belongs to two of them. No alignment is needed but that of `place`.
+ *
+ * Answers the first of these that applies:
+ *
+ *   1  table_len < JEHVRUKAM_TABLE_BYTES or strings_len < JEHVRUKAM_STRINGS_BYTES. Nothing is touched, nor *place.
+ *   5  text_len > JEHVRUKAM_MAX_TEXT_BYTES, at place JEHVRUKAM_MAX_TEXT_BYTES.
+ *   2 to 5  the fault of the text with the smallest place, which is a number of bytes from the text's begin:
+ *      2  the first byte with which the text no longer begins any RFC 8259 text in UTF-8; text_len if it ends too early
+ *      3  the closing quote of the second of two equal names of one object (equal when their decoded bytes are), or the
+ *         backslash of a complete surrogate escape without a partner
+ *      4  the dot, the e or E, or the digit that first passes the limit
+ *      5  the opening bracket of the 33rd nesting, or the first byte of the 1,025th value
+ *   0  done.
+ *
+ * After 2 to 5: *place is the place; both areas are zero, through their whole given lengths.
+ * After 0: *place is 0; the table has one row for each value, then zeros to its end; the strings area has the decoded
+ * UTF-8 bytes of all names and strings in text order, a member's name before its content, with nothing between them (no
+ * terminator either), then zeros to its end.
+ *
+ * A row has JEHVRUKAM_ROW_BYTES bytes, four 32-bit fields with the lowest byte first. Rows stand in text order, the root
+ * at 0; the first item of an array or the first member's content of an object at row r is row r + 1. Names have no row.
+ *
+ *   field 0     kind + 256 * length in bytes of the member's name (0 if the value is no member)
+ *   field 1     start of the member's name in the strings area (0 if the value is no member)
+ *   field 2, 3  null, false, true: 0, 0
+ *               integer: the 64-bit number that is 2^53 more, its low half, its high half
+ *               string: its start in the strings area, its length in bytes
+ *               array, object: the number of items or members, the row after its last descendant
+ */
+uint32_t jehvrukam_read(const uint8_t *text, size_t text_len,
+                        uint8_t *table, size_t table_len,
+                        uint8_t *strings, size_t strings_len,
+                        uint64_t *place);
+
+/*
+ * What a row of a table says. The table is one that jehvrukam_read filled, and the row one of its used rows; what is
+ * asked of a kind that does not have it is some number.
+ */
+
+static inline uint32_t jehvrukam_row_field(const uint8_t *table, size_t row, unsigned field)
+{
+    const uint8_t *bytes = table + row * JEHVRUKAM_ROW_BYTES + 4u * field;
+    return (uint32_t)bytes[0] | (uint32_t)bytes[1] << 8 | (uint32_t)bytes[2] << 16 | (uint32_t)bytes[3] << 24;
+}
+
+/* One of the kinds above; 0 for an unused row. */
+static inline uint32_t jehvrukam_row_kind(const uint8_t *table, size_t row)
+{
+    return jehvrukam_row_field(table, row, 0) & 255u;
+}
+
+/* Of a member's content: where its name starts in the strings area, and its length. A name may be empty, so whether a
+ * value is a member is known from the value that holds it: whether that is an object. */
+static inline uint32_t jehvrukam_row_name_start(const uint8_t *table, size_t row)
+{
+    return jehvrukam_row_field(table, row, 1);
+}
+
+static inline uint32_t jehvrukam_row_name_length(const uint8_t *table, size_t row)
+{
+    return jehvrukam_row_field(table, row, 0) >> 8;
+}
+
+/* Of an integer. */
+static inline int64_t jehvrukam_row_integer(const uint8_t *table, size_t row)
+{
+    const uint64_t zero = UINT64_C(1) << 53;
+    uint64_t shifted = (uint64_t)jehvrukam_row_field(table, row, 3) << 32 | jehvrukam_row_field(table, row, 2);
+    return shifted >= zero ? (int64_t)(shifted - zero) : -(int64_t)(zero - shifted);
+}
+
+/* Of a string: where it starts in the strings area, and its length. It may hold zero bytes. */
+static inline uint32_t jehvrukam_row_string_start(const uint8_t *table, size_t row)
+{
+    return jehvrukam_row_field(table, row, 2);
+}
+
+static inline uint32_t jehvrukam_row_string_length(const uint8_t *table, size_t row)
+{
+    return jehvrukam_row_field(table, row, 3);
+}
+
+/* The number of items or members; 0 for a scalar. */
+static inline uint32_t jehvrukam_row_count(const uint8_t *table, size_t row)
+{
+    return jehvrukam_row_kind(table, row) >= JEHVRUKAM_ARRAY ? jehvrukam_row_field(table, row, 2) : 0;
+}
+
+/* The row after the value and all that it holds: that of its next sibling, if it has one. */
+static inline size_t jehvrukam_row_end(const uint8_t *table, size_t row)
+{
+    return jehvrukam_row_kind(table, row) >= JEHVRUKAM_ARRAY ? jehvrukam_row_field(table, row, 3) : row + 1;
+}
+
+#ifdef __cplusplus
+}
+#endif
+
+#endif
