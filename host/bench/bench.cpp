@@ -6,13 +6,13 @@
 // both areas. What a peer allocates it allocates and frees in each read. The last two columns are our time for an
 // ordinary text of as many bytes, and our time for the text as a multiple of that.
 #include "jehvrukam.h"
+#include "measure.h"
 
 #include <cjson/cJSON.h>
 #include <jansson.h>
 #include <rapidjson/document.h>
 
 #include <algorithm>
-#include <chrono>
 #include <cstdio>
 #include <cstdlib>
 #include <cstring>
@@ -73,41 +73,6 @@ bool clear_only(const std::string &)
     return true;
 }
 
-// ---- measurements
-
-struct Measurement {
-    bool (*read)(const std::string &);
-    std::string text;
-    unsigned repeats;
-    double best; // nanoseconds
-
-    Measurement(bool (*read)(const std::string &), const std::string &text)
-        : read(read), text(text), repeats(1), best(1e18)
-    {
-    }
-
-    double once()
-    {
-        auto begin = std::chrono::steady_clock::now();
-        for (unsigned i = 0; i < repeats; i++)
-            read(text);
-        std::chrono::duration<double, std::nano> taken = std::chrono::steady_clock::now() - begin;
-        return taken.count() / repeats;
-    }
-
-    // Sees that the text is read, and finds how many reads take about a tenth of a millisecond.
-    bool prepare()
-    {
-        if (!read(text))
-            return false;
-        double first = once();
-        repeats = first > 100e3 ? 1 : static_cast<unsigned>(100e3 / first);
-        return true;
-    }
-
-    void measure() { best = std::min(best, once()); }
-};
-
 // A line of the table: a text with each library, and with ours an ordinary text as long.
 struct Line {
     std::string name;
@@ -138,12 +103,17 @@ std::string ordinary(size_t size)
     return text + std::string(size - text.size() - 2, 'x') + "\"}";
 }
 
+Measurement reading(bool (*read)(const std::string &), const std::string &text)
+{
+    return Measurement([read, text] { return read(text); });
+}
+
 void add(const std::string &name, const std::string &text)
 {
     std::vector<Measurement> cells;
     for (auto read : {read_ours, read_rapidjson, read_rapidjson_iterative, read_cjson, read_jansson})
-        cells.push_back(Measurement(read, text));
-    cells.push_back(Measurement(read_ours, text.size() < 100 ? text : ordinary(text.size())));
+        cells.push_back(reading(read, text));
+    cells.push_back(reading(read_ours, text.size() < 100 ? text : ordinary(text.size())));
     lines.push_back({name, text.size(), cells});
 }
 
@@ -266,13 +236,13 @@ int main(int argc, char **argv)
     add("record-15k.json", content_of(folder + "/record-15k.json"));
     add("the text 0", "0");
     add_hostile_texts();
-    Measurement clearing(clear_only, "");
+    Measurement clearing = reading(clear_only, "");
 
     clearing.prepare();
     for (Line &line : lines)
         for (Measurement &cell : line.cells)
             if (!cell.prepare()) {
-                std::fprintf(stderr, "%s: a text of %zu bytes does not read\n", line.name.c_str(), cell.text.size());
+                std::fprintf(stderr, "%s: a text of %zu bytes does not read\n", line.name.c_str(), line.bytes);
                 return 1;
             }
     for (int round = 0; round < rounds; round++) {

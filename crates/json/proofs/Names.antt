@@ -14,9 +14,10 @@ use Rattle.model.specs.Bytes.{Bytes, sameBytes}
 use Rattle.model.specs.Lists.{any}
 use Rattle.model.specs.Refusal.{notJson, repeatedName}
 use Rattle.names.specs.Index.{Entry, Indexed, Named, Between, EnterRoom, Entered, namesOf, part}
-use Rattle.scan.specs.Contract.{Skipped, Stands, CharsPromise}
+use Rattle.scan.specs.Contract.{Skipped, Stands}
 use Rattle.scan.specs.Laws.{eat-next, white-by, byte-by}
-use Rattle.scan.specs.declared.chars.Decoded.{Decoded}
+use Rattle.chars.specs.Contract.{CharsPromise}
+use Rattle.chars.specs.declared.Decoded.{Decoded}
 use Rattle.syntax.specs.Layout.{rowBytes, entryBytes}
 use Rattle.syntax.specs.Read.{Parsed, bad, Parser, then, _>>=_, give, fail, if, peek, eat, white, chars, clear, quoted, among, name}
 use Rattle.json.specs.declared.step.Step.{Step}

@@ -14,11 +14,12 @@ use Rattle.model.specs.Refusal.{ReadFault, notJson, tooLarge, readNumber}
 use Rattle.model.specs.Size.{valueCount}
 use Rattle.model.specs.Value.{Value, scalar, array, object, integer, string, no-items, no-members}
 use Rattle.names.specs.Index.{entry}
-use Rattle.scan.specs.Contract.{Skipped, Started, Separated, Stands, LiteralMeets, NumberMeets, CharsMeets, CharsPromise, wordValue}
+use Rattle.scan.specs.Contract.{Skipped, Started, Separated, Stands, LiteralMeets, NumberMeets, wordValue}
 use Rattle.scan.specs.Laws.{eat-next, white-by, value-by, arrayBy, objectBy, array-by, object-by, some-fault, literal-whole, literal-wrong, number-whole, number-wrong}
 use Rattle.scan.specs.declared.token.Matched.{Matched}
 use Rattle.scan.specs.declared.number.Numeral.{Numeral}
-use Rattle.scan.specs.declared.chars.Decoded.{Decoded}
+use Rattle.chars.specs.Contract.{CharsMeets, CharsPromise}
+use Rattle.chars.specs.declared.Decoded.{Decoded}
 use Rattle.syntax.specs.declared.Separator.{Separator}
 use Rattle.syntax.specs.declared.Start.{Start}
 use Rattle.syntax.specs.declared.Start.the-variants.{NoValue, TooMuch, Literal, Minus, Digit, Quote, Bracket, Brace}

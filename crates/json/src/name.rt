@@ -1,8 +1,8 @@
 // The name of a member.
 use crate::step::Step;
 use crate::step::fail;
+use chars::chars;
 use names::enter;
-use scan::chars::chars;
 use scan::token::skip_white;
 use scan::token::stands;
 ghost use Rattle.json.specs.Inner.{NameRoom, NameRead};

@@ -3,7 +3,7 @@ use crate::row::Label;
 use crate::row::put_row;
 use crate::step::Step;
 use crate::step::fail;
-use scan::chars::chars;
+use chars::chars;
 use scan::number::number;
 use scan::token::literal;
 use syntax::Word;

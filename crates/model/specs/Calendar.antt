@@ -39,7 +39,8 @@ unfoldable pub yearStart : ℕ → ℕ
 yearStart zero = 0
 yearStart (suc y) = yearStart y + yearDays y
 
--- The days from 0000-01-01 to a date: those of the years before, of the year's months before, and of the month's days before.
+-- The days from 0000-01-01 to a date: those of the years before, of the year's months before, and of the month's days before. (01's "day
+-- number", which shifts keep, is the day of the month.)
 abbrev pub dayNumber : Date → ℕ
 dayNumber w = yearStart (w .year) + sumFirst (w .month - 1) (months (w .year)) + (w .day - 1)
 

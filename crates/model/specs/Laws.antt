@@ -1,8 +1,10 @@
 -- Laws: what is proved of the definitions, a file for each subject. Main restates the theorems that matter most.
 pub mod Logic
+pub mod Branches
 pub mod Option
 pub mod Result
 pub mod Calendar
+pub mod DayCount
 pub mod DateText
 pub mod DateForms
 pub mod Shift

@@ -1,7 +1,8 @@
 -- Result: what an operation gives on the values of its operands, or the fault that refuses it; chained by `do`.
 use mathlib.Core.Bool.{Bool, true, false}
 use mathlib.Core.Option.{Option, none, some}
-use Rattle.model.specs.Refusal.{Fault}
+use Prim.Native.Nat.{ℕ}
+use Rattle.model.specs.Refusal.{Fault, faultNumber}
 
 pub data Result (A : Type 0) : Type 0 where
   ok : A → Result A
@@ -25,3 +26,8 @@ provided false e r = refuse e
 abbrev pub isOk : {A : Type 0} → Result A → Bool
 isOk (ok a) = true
 isOk (refuse e) = false
+
+-- 01's number: 0 is "done".
+abbrev pub resultNumber : {A : Type 0} → Result A → ℕ
+resultNumber (ok a) = 0
+resultNumber (refuse e) = faultNumber e

@@ -24,12 +24,14 @@ monthFirst (negsuc k) =
 abbrev pub monthNumber : Date → ℕ
 monthNumber w = w .year * 12 + (w .month - 1)
 
--- Counted on by months: the day number and the time of day stay.
-abbrev pub shiftMonths : ℤ → ℤ → Result ℤ
-shiftMonths t amount =
-    let u = sinceYear0 t in
+-- Milliseconds since 0000-01-01, counted on by months: the day of the month and the time of day stay.
+abbrev pub movedByMonths : ℕ → ℤ → Result ℤ
+movedByMonths u amount =
     let w = dateOfDay (u / msPerDay) in
     ranged (((monthFirst (pos (monthNumber w) +ℤ amount) +ℤ pos (w .day - 1)) *ℤ pos msPerDay +ℤ pos (u % msPerDay)) +ℤ earliest)
+
+abbrev pub shiftMonths : ℤ → ℤ → Result ℤ
+shiftMonths t amount = movedByMonths (sinceYear0 t) amount
 
 -- An instant in range, shifted; 9 where the shifted one is not in range.
 unfoldable pub shift : ℤ → ℤ → TimeUnit → Result ℤ

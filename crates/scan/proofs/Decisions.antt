@@ -1,8 +1,8 @@
 -- What one byte decides.
 use mathlib.Core.Path.{_≡_, refl, sym, _∙_, subst⁻¹}
-use mathlib.Core.Bool.{Bool, true, false, not, false≢true}
+use mathlib.Core.Bool.{Bool, true, false, false≢true}
 use Prim.Native.Nat.{ℕ, _≤_, _<_}
-use borrow.Author.Tests.{not-true, not-false, eq-eqb, ne-eqb, lt-ltb, le-ltb, leb-false}
+use borrow.Author.Tests.{eq-eqb, ne-eqb, lt-ltb, le-ltb, leb-false}
 use lib.Dec.{eqb, leb}
 use lib.ListN.{length, getD}
 use Rattle.model.specs.Bytes.{Bytes}
@@ -14,13 +14,6 @@ use Rattle.syntax.specs.declared.Separator.the-variants.{Comma, Close, Neither}
 use Rattle.syntax.specs.Read.{isPart}
 use Rattle.syntax.specs.Tokens.{isWhite, isDigit, isPoint, isE, counted, nested, startOf, separatorOf}
 use Rattle.scan.specs.Contract.{startAt, StartRoom, Started, separatorAt, Separated, standsAt, Stands}
-
--- What a call's answer says where the code negates it.
-pub answered-true : {r x : Bool} → r ≡ x → not r ≡ false → x ≡ true
-answered-true {r} e n = sym e ∙ not-false r n
-
-pub answered-false : {r x : Bool} → r ≡ x → not r ≡ true → x ≡ false
-answered-false {r} e n = sym e ∙ not-true r n
 
 pub white-last : (b : ℕ) → (b ≡ 32 → ⊥) → (b ≡ 9 → ⊥) → (b ≡ 10 → ⊥) → eqb b 13 ≡ isWhite b
 unfolding isWhite

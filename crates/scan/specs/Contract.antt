@@ -2,11 +2,10 @@
 use mathlib.Core.Path.{_≡_}
 use mathlib.Core.Bool.{Bool, true, false}
 use mathlib.Core.List.{[], _∷_}
-use Prim.Native.Nat.{ℕ, suc, _+_, _≤_, _<_}
+use Prim.Native.Nat.{ℕ, suc, _≤_, _<_}
 use lib.Dec.{ltb, eqb}
 use lib.IntN.{ℤ}
-use lib.ListN.{length, getD, drop, take}
-use lib.Seq.{sets}
+use lib.ListN.{length, getD, drop}
 use Rattle.model.specs.Bytes.{Bytes}
 use Rattle.model.specs.Limits.{maxValues, maxNesting}
 use Rattle.model.specs.Refusal.{ReadFault, readNumber}
@@ -18,11 +17,10 @@ use Rattle.syntax.specs.declared.Word.the-variants.{TrueWord, FalseWord, NullWo
 use Rattle.syntax.specs.declared.Separator.{Separator}
 use Rattle.syntax.specs.declared.Separator.the-variants.{Comma, Close, Neither}
 use Rattle.syntax.specs.Layout.{biased}
-use Rattle.syntax.specs.Read.{Parsed, ok, bad, literal, int, chars, clear}
+use Rattle.syntax.specs.Read.{Parsed, ok, bad}
 use Rattle.syntax.specs.Tokens.{isWhite, startOf, separatorOf}
 use Rattle.scan.specs.declared.token.Matched.{Matched}
 use Rattle.scan.specs.declared.number.Numeral.{Numeral}
-use Rattle.scan.specs.declared.chars.Decoded.{Decoded}
 
 -- A reading that went wrong: the fault's number and its place. What else the answer holds is then free; nobody looks at it.
 pub record Failed (k : ReadFault) (p : ℕ) (fault at : ℕ) : Type 0 where
@@ -110,25 +108,3 @@ pub record NumberRead (s : Bytes) (at : ℕ) (v : Value) (u : Bytes) (q : ℕ) (
 abbrev pub NumberMeets : Bytes → ℕ → Parsed Value → Numeral → Type 0
 NumberMeets s at (ok v u q) r = NumberRead s at v u q r
 NumberMeets s at (bad k p) r = Failed k p (r .fault) (r .at)
-
--- ---- strings
--- The characters bs from `at` up to the closing quote at q, decoded to `used`.
-pub record CharsRead (s : Bytes) (at used : ℕ) (A bs u : Bytes) (q : ℕ) (r : Decoded) (A′ : Bytes) : Type 0 where
-  pub number : r .fault ≡ 0
-  pub place : r .at ≡ q
-  pub text : r .used ≡ used + length bs
-  pub area : A′ ≡ sets A used bs
-  pub left : u ≡ drop q s
-  pub on : at + length bs ≤ q
-  pub inside : q < length s
-  pub quote : getD s q 0 ≡ 0x22
-
-abbrev pub CharsMeets : Bytes → ℕ → ℕ → Bytes → Parsed Bytes → Decoded → Bytes → Type 0
-CharsMeets s at used A (ok bs u q) r A′ = CharsRead s at used A bs u q r A′
-CharsMeets s at used A (bad k p) r A′ = Failed k p (r .fault) (r .at)
-
--- After a fault the area from `used` on is free: a caller clears it or reads over it.
-pub record CharsPromise (s : Bytes) (at used : ℕ) (A : Bytes) (r : Decoded) (A′ : Bytes) : Type 0 where
-  pub run : (f : ℕ) → length s < at + f → CharsMeets s at used A (chars f clear (drop at s) at) r A′
-  pub size : length A′ ≡ length A
-  pub kept : take used A′ ≡ take used A

@@ -1,4 +1,3 @@
-// The tokens of a text: white space, the decisions by one byte, literals, numbers, strings.
-pub mod chars;
+// The tokens of a text: white space, the decisions by one byte, literals, numbers.
 pub mod number;
 pub mod token;

@@ -13,11 +13,13 @@ mod compare;
 mod damage;
 mod generate;
 mod random;
+mod report;
 mod small;
 
 use compare::{Comparer, Lent};
 use random::Random;
 use reader::{cases, judge, Fault, Form, Why};
+use report::{report, Group};
 use std::collections::{BTreeMap, HashSet};
 use std::process::exit;
 use std::time::Instant;
@@ -72,12 +74,6 @@ fn nesting(form: &Form) -> usize {
     deepest
 }
 
-struct Group {
-    name: String,
-    texts: usize,
-    differences: usize,
-}
-
 #[derive(Default)]
 struct Run {
     /// What was tried; the last one is the current one.
@@ -99,7 +95,7 @@ impl Run {
         let judged = judge(text);
         let difference = comparer.compare(text, &judged, lent);
         let group = self.groups.last_mut().unwrap();
-        group.texts += 1;
+        group.inputs += 1;
         if let Some(said) = difference {
             group.differences += 1;
             self.differences += 1;
@@ -114,7 +110,7 @@ impl Run {
     }
 
     fn begin(&mut self, name: &str) {
-        self.groups.push(Group { name: name.to_string(), texts: 0, differences: 0 });
+        self.groups.push(Group { name: name.to_string(), inputs: 0, differences: 0 });
     }
 
     fn met(&mut self, class: &str) {
@@ -253,30 +249,6 @@ fn try_random(run: &mut Run, comparer: &mut Comparer, numbers: impl Iterator<Ite
     }
 }
 
-/// Prints what was met; gives the passed and the failed.
-fn report(run: &Run, least: Option<usize>) -> (usize, usize) {
-    let (mut passed, mut failed) = (0, 0);
-    let mut tell = |good: bool, line: String| {
-        println!("{}{}", line, if good { "" } else { "  FAILED" });
-        *(if good { &mut passed } else { &mut failed }) += 1;
-    };
-    println!("{:>9} {:>12}  group", "texts", "differences");
-    for Group { name, texts, differences } in &run.groups {
-        tell(*texts > 0 && *differences == 0, format!("{:>9} {:>12}  {}", texts, differences, name));
-    }
-    if let Some(least) = least {
-        println!("{:>9}  class of random texts (at least {})", "texts", least);
-        for class in classes() {
-            let met = run.classes.get(&class).copied().unwrap_or(0);
-            tell(met >= least, format!("{:>9}  {}", met, class));
-        }
-        for class in run.classes.keys().filter(|class| !classes().contains(class)) {
-            tell(false, format!("no such class: {}", class));
-        }
-    }
-    (passed, failed)
-}
-
 /// A whole number, decimal or hexadecimal.
 fn whole(word: Option<String>) -> u64 {
     let word = word.unwrap_or_default();
@@ -319,8 +291,8 @@ fn main() {
         try_random(&mut run, &mut comparer, (0..count).map(|_| numbers.next()), say);
         Some(LEAST).filter(|_| count >= COUNT)
     };
-    let (passed, failed) = report(&run, least);
-    let texts: usize = run.groups.iter().map(|group| group.texts).sum();
+    let (passed, failed) = report(&run.groups, &run.classes, &classes(), least);
+    let texts: usize = run.groups.iter().map(|group| group.inputs).sum();
     println!("{} texts, seed {}, {:.1} s", texts, seed, began.elapsed().as_secs_f64());
     println!("{} passed, {} failed", passed, failed);
     exit(i32::from(failed > 0));

@@ -1,4 +1,4 @@
--- Shift: a shift gives an instant in range or is refused as out of range; a shift by nothing; shifts by months and years in plain terms.
+-- Shift: a shift gives an instant in range or is refused as out of range; a shift by nothing; shifts by months and years in plain terms; one shift after another.
 use mathlib.Core.Path.{sym, _≡_, refl, _∙_, ap, subst}
 use mathlib.Core.Bool.{Bool, true, false, cond}
 use mathlib.Core.List.{List}
@@ -7,13 +7,13 @@ use native.Mathlib.Omega.{arith}
 use native.Mathlib.Decide.{decLt}
 use borrow.Author.Tests.{le-ltb, ltb-true, ltb-false}
 use lib.Dec.{T, ltb}
-use lib.IntN.{natAbs, pos-ne-negsuc, ℤ, pos, negsuc, negℤ, +ℤ-assoc, negℤ-+ℤ, -ℤ-+ℤ-cancel, _+ℤ_, _*ℤ_, +ℤ-idr}
+use lib.IntN.{zero-*ℤ, sucℤ, predℤ, +ℤ-sucℤ, sucℤ-*ℤ, +ℤ-predℤ, predℤ-*ℤ, natAbs, pos-ne-negsuc, ℤ, pos, negsuc, negℤ, +ℤ-assoc, negℤ-+ℤ, -ℤ-+ℤ-cancel, _+ℤ_, _*ℤ_, +ℤ-idr}
 use Rattle.model.specs.Bytes.{ascii}
 use Rattle.model.specs.Calendar.{date, monthDays, months, sumFirst, yearStart, dayNumber, dateOfDay}
 use Rattle.model.specs.DateText.{startsLike, dayText}
 use Rattle.model.specs.Instant.{earliest, inRange, ranged, fromYear0, sinceYear0, msPerDay, msPerHour}
 use Rattle.model.specs.Refusal.{Fault, wrongKind, badDate, outOfRange}
-use Rattle.model.specs.Result.{_>>=_, Result, ok, refuse}
+use Rattle.model.specs.Result.{_>>=_, Result, ok, refuse, provided}
 use Rattle.model.specs.Shift.{monthStart, monthFirst, monthNumber, shiftMonths, shift}
 use Rattle.model.specs.Laws.Calendar.{same-parts, year-cycle, months-cycle, sum-next, sum-step, Valid, date-of-day}
 use Rattle.model.specs.Laws.DateText.{Within, onlyOut, within-ranged, ranged-ok, since-back}
@@ -161,7 +161,7 @@ shift-to t a k e =
     ap (λ (z : ℤ). ranged (((monthFirst z +ℤ pos d) *ℤ pos msPerDay +ℤ pos (timeOf t)) +ℤ earliest)) e
     ∙ ap (λ (n : ℕ). ranged (fromYear0 (n * msPerDay + timeOf t))) f
 
--- "Year and month shifts keep the day number, and days past the month's end run on": dayNumber counts them on. Here k counts the months from 0000-01 to the month that is shifted to.
+-- "Year and month shifts keep the day number" (the day of the month), "and days past the month's end run on": dayNumber counts them on. Here k counts the months from 0000-01 to the month that is shifted to.
 pub shift-month : (t a : ℤ) (k : ℕ) → pos (monthNumber (dateOf t)) +ℤ a ≡ pos k → shift t a Month ≡ instantOf (date (k / 12) (suc (k % 12)) (dateOf t .day)) (timeOf t)
 unfolding shift
 shift-month t a k e = shift-to t a k e
@@ -201,3 +201,63 @@ leap-day-and-month = refl
 pub leap-day-and-year : (dayText (ascii "2020-02-29") >>= λ t. shift t (pos 1) Year) ≡ dayText (ascii "2021-03-01")
 unfolding shift dayText startsLike dateOfDay months sumFirst yearStart
 leap-day-and-year = refl
+
+-- ---- one shift as another, and one after another
+-- Twelve months are a year, and 24 hours a day.
+pub twelve-months : (t a : ℤ) → shift t (a *ℤ pos 12) Month ≡ shift t a Year
+unfolding shift
+twelve-months t a = refl
+
+hours-of-days : (a : ℤ) → a *ℤ pos 24 *ℤ pos msPerHour ≡ a *ℤ pos msPerDay
+hours-of-days (pos n) = ap pos (let e : n * 24 * 3600000 ≡ n * 86400000 = omega arith in e)
+hours-of-days (negsuc n) =
+    let e : suc n * 24 ≡ suc (n * 24 + 23) = omega arith in
+    let f : suc (n * 24 + 23) * 3600000 ≡ suc n * 86400000 = omega arith in
+    rw e (ap (λ (k : ℕ). negℤ (pos k)) f)
+
+pub hours-24 : (t a : ℤ) → shift t (a *ℤ pos 24) Hour ≡ shift t a Day
+unfolding shift
+hours-24 t a = ap (λ (z : ℤ). ranged (t +ℤ z)) (hours-of-days a)
+
+-- The sum of two amounts, times a unit: by counting the second amount up or down.
+sum-times : (k n m : ℤ) → (n +ℤ m) *ℤ k ≡ n *ℤ k +ℤ m *ℤ k
+sum-times k n m = go m
+  where
+    Sum : ℤ → Type 0
+    Sum m = (n +ℤ m) *ℤ k ≡ n *ℤ k +ℤ m *ℤ k
+
+    none : Sum (pos 0)
+    none = simp (+ℤ-idr, zero-*ℤ)
+
+    up : (m : ℤ) → Sum m → Sum (sucℤ m)
+    up m e = simp (+ℤ-sucℤ, sucℤ-*ℤ, e, +ℤ-assoc)
+
+    down : (m : ℤ) → Sum m → Sum (predℤ m)
+    down m e = simp (+ℤ-predℤ, predℤ-*ℤ, e, +ℤ-assoc)
+
+    go : (m : ℤ) → Sum m
+    go (pos zero) = none
+    go (pos (suc m)) = up (pos m) (go (pos m))
+    go (negsuc zero) = down (pos 0) none
+    go (negsuc (suc m)) = down (negsuc m) (go (negsuc m))
+
+ranged-is : (t r : ℤ) → ranged t ≡ ok r → t ≡ r
+ranged-is t r e = go (inRange t) e
+  where
+    go : (b : Bool) → provided b outOfRange (ok t) ≡ ok r → t ≡ r
+    go true e = cc
+    go false e = cc
+
+moved-twice : (k t s n m : ℤ) → ranged (t +ℤ n *ℤ k) ≡ ok s → ranged (s +ℤ m *ℤ k) ≡ ranged (t +ℤ (n +ℤ m) *ℤ k)
+moved-twice k t s n m e =
+    ap (λ (z : ℤ). ranged (z +ℤ m *ℤ k)) (sym (ranged-is (t +ℤ n *ℤ k) s e))
+    ∙ ap ranged (+ℤ-assoc t (n *ℤ k) (m *ℤ k) ∙ ap (λ (z : ℤ). t +ℤ z) (sym (sum-times k n m)))
+
+-- By n days and then by m is by n + m, where the first stays in range; so of hours.
+pub days-twice : (t s n m : ℤ) → shift t n Day ≡ ok s → shift s m Day ≡ shift t (n +ℤ m) Day
+unfolding shift
+days-twice = moved-twice (pos msPerDay)
+
+pub hours-twice : (t s n m : ℤ) → shift t n Hour ≡ ok s → shift s m Hour ≡ shift t (n +ℤ m) Hour
+unfolding shift
+hours-twice = moved-twice (pos msPerHour)

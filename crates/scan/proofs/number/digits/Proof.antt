@@ -3,7 +3,7 @@ use Prim.Native.Nat.{_-_}
 use native.Mathlib.Omega.{arith}
 use lib.ListN.{length}
 use Rattle.model.specs.Limits.{maxInteger}
-use Rattle.scan.proofs.Decisions.{answered-true, answered-false}
+use Rattle.model.specs.Laws.Branches.{answered-true, answered-false}
 use Rattle.scan.proofs.Numerals.{digit-low, digit-high, Counting, count-start, count-more, count-stop, count-past, count-end}
 use Rattle.scan.proofs.number.digits.Statement.{statement}
 use Rattle.scan.proofs.number.digits.Tie as tie

@@ -1,7 +1,7 @@
 use borrow.Author.Needs.{needs}
 use native.Mathlib.Omega.{arith}
 use Rattle.model.specs.Limits.{maxInteger}
-use Rattle.scan.proofs.Decisions.{answered-true, answered-false}
+use Rattle.model.specs.Laws.Branches.{answered-true, answered-false}
 use Rattle.scan.proofs.Numerals.{digit-low, digit-high, number-end, number-none, number-zero, number-digits}
 use Rattle.scan.proofs.number.number.Statement.{statement}
 use Rattle.scan.proofs.number.number.Tie as tie

@@ -2,7 +2,7 @@ use borrow.Author.Needs.{needs}
 use Prim.Native.Nat.{_-_}
 use native.Mathlib.Omega.{arith}
 use lib.ListN.{length}
-use Rattle.scan.proofs.Decisions.{answered-true, answered-false}
+use Rattle.model.specs.Laws.Branches.{answered-true, answered-false}
 use Rattle.scan.proofs.Words.{Skipping, skip-start, skip-more, skip-stop, skip-end}
 use Rattle.scan.proofs.token.skip_white.Statement.{statement}
 use Rattle.scan.proofs.token.skip_white.Tie as tie

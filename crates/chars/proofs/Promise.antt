@@ -1,0 +1,75 @@
+-- The whole reading of a string's characters: its turns, and its ends. Assumes nothing.
+use mathlib.Core.Path.{_≡_, refl, ap, _∙_, subst⁻¹}
+use mathlib.Core.Bool.{Bool, true}
+use mathlib.Core.List.{[], append-nil}
+use Prim.Native.Nat.{ℕ, suc, _+_, _-_, _≤_, _<_}
+use native.Mathlib.Omega.{arith}
+use lib.ListN.{length, drop, take}
+use lib.Seq.{length-sets}
+use Rattle.model.specs.Bytes.{Bytes}
+use Rattle.area.specs.Laws.{take-sets-before}
+use Rattle.syntax.specs.Read.{ok, then, give, chars, clear, grow}
+use Rattle.syntax.specs.Utf8.{leadOf}
+use Rattle.scan.specs.Contract.{Stands}
+use Rattle.chars.specs.declared.Decoded.{Decoded}
+use Rattle.chars.specs.Contract.{CharsMeets, CharsPromise}
+use Rattle.chars.specs.Pieces.{Room, Taken, Stopped}
+use Rattle.chars.proofs.Steps.{chars-closing}
+use Rattle.chars.proofs.Read.{char-closing}
+use Rattle.chars.proofs.Loops.{taken-length}
+use Rattle.chars.proofs.Halves.{stands-is}
+
+closing : {s : Bytes} {i : ℕ} {q : Bool} → Stands s i 34 q → q ≡ true → (f : ℕ) → chars (suc f) clear (drop i s) i ≡ ok [] (drop i s) i
+unfolding leadOf
+closing {s} {i} t e f = chars-closing f (drop i s) i (drop i s) i (char-closing s i (t .room e) (ap leadOf (stands-is t e)))
+
+module _ {s A B : Bytes} {at used i to : ℕ} (t : Taken s at used A i to B) where
+  -- The steps that are left after i.
+  rest : ℕ → ℕ
+  rest f = f - t .reads .steps
+
+  on : (f : ℕ) → length s < at + f → chars f clear (drop at s) at ≡ grow (t .bs) (chars (rest f) clear (drop i s) i)
+  unfolding rest
+  on f h =
+      let e : f ≡ t .reads .steps + (f - t .reads .steps) = omega (arith, t .reads .few, t .reads .inside) in
+      ap (λ g. chars g clear (drop at s) at) e ∙ t .reads .run (f - t .reads .steps)
+
+  -- What is decoded is never ahead of the text.
+  pub room-of : used ≤ at → length s ≤ length A → Room s i to B
+  room-of h l = record { inside = t .reads .inside; behind = omega (arith, t .reads .short); fits = omega (arith, taken-length t) }
+
+  promise : (r : Decoded) {C : Bytes} → C ≡ B → ((f : ℕ) → length s < at + f → CharsMeets s at used A (chars f clear (drop at s) at) r C) → CharsPromise s at used A r C
+  promise r e m =
+      record {
+        run = m;
+        size = ap length (e ∙ t .area) ∙ length-sets A used (t .bs);
+        kept = ap (take used) (e ∙ t .area) ∙ take-sets-before used (t .bs) A used (omega arith);
+      }
+
+  pub promise-closed : (r : Decoded) → r .fault ≡ 0 → r .at ≡ i → r .used ≡ to → {q : Bool} → Stands s i 34 q → q ≡ true → CharsPromise s at used A r B
+  unfolding rest grow then give
+  promise-closed r z p u x e =
+      promise r refl
+      (λ f h.
+      let k : rest f ≡ suc (rest f - 1) = omega (arith, t .reads .few, t .reads .inside) in
+      subst⁻¹ (λ g. CharsMeets s at used A g r B)
+      (on f h ∙ ap (λ n. grow (t .bs) (chars n clear (drop i s) i)) k ∙ ap (grow (t .bs)) (closing x e (rest f - 1))
+      ∙ ap (λ bs. ok bs (drop i s) i) (append-nil (t .bs)))
+      (record {
+        number = z;
+        place = p;
+        text = u ∙ t .next;
+        area = t .area;
+        left = refl;
+        on = t .reads .short;
+        inside = x .room e;
+        quote = stands-is x e;
+      }))
+
+  pub promise-stopped : (r : Decoded) {C : Bytes} → C ≡ B → Stopped s i (r .fault) (r .at) → CharsPromise s at used A r C
+  unfolding rest grow then
+  promise-stopped r {C} e x =
+      promise r e
+      (λ f h.
+      let l : length s < i + rest f = omega (arith, t .reads .few) in
+      subst⁻¹ (λ g. CharsMeets s at used A g r C) (on f h ∙ ap (grow (t .bs)) (x .run (rest f) l)) (record { number = x .number; place = refl }))

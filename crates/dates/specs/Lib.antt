@@ -1,0 +1,2 @@
+-- What the private functions of this crate are about.
+pub mod Inner
