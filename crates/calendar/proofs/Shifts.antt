@@ -16,7 +16,7 @@ use Rattle.model.specs.Calendar.{date, dayNumber}
 use Rattle.model.specs.Instant.{fromYear0, inRange, msPerDay, msPerHour, ranged, sinceYear0}
 use Rattle.model.specs.Refusal.{outOfRange}
 use Rattle.model.specs.Result.{Result, ok, refuse, provided, _>>=_}
-use Rattle.model.specs.Shift.{monthFirst, monthNumber, movedByMonths, shift, shiftMonths}
+use Rattle.model.specs.Shift.{after, monthFirst, monthNumber, movedByMonths, shift, shiftMonths}
 use Rattle.model.specs.Laws.Calendar.{Dated, month-day, parts-valid}
 use Rattle.model.specs.Laws.DateText.{ranged-ok, since-back, since-bound}
 use Rattle.model.specs.Laws.Logic.{true→T}
@@ -26,7 +26,7 @@ use Rattle.model.specs.declared.TimeUnit.the-variants.{Year, Month, Day, Hour}
 use Rattle.calendar.specs.Answer.{shifted}
 use Rattle.calendar.specs.Inner.{WithinYears, amountOf, inMonth, monthOf}
 use Rattle.calendar.specs.Laws.Instant.{from-late, minus, minus-below, moved-back, moved-on, moved-out}
-use Rattle.calendar.specs.Laws.Shift.{after, in-month}
+use Rattle.calendar.specs.Laws.Shift.{in-month}
 use Rattle.calendar.specs.declared.shift.Move.{Move}
 use Rattle.calendar.specs.declared.shift.Move.the-variants.{On, Back}
 

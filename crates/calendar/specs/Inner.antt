@@ -6,7 +6,7 @@ use lib.Dec.{T, ltb}
 use lib.IntN.{ℤ, pos, negsuc, negℤ}
 use Rattle.model.specs.Bytes.{Bytes, ascii}
 use Rattle.model.specs.Calendar.{isValid}
-use Rattle.model.specs.Instant.{fromYear0, msPerDay, ranged}
+use Rattle.model.specs.Instant.{fromYear0, latest, msPerDay, ranged, sinceYear0}
 use Rattle.model.specs.InstantText.{dateDigits, timeDigits}
 use Rattle.model.specs.Refusal.{outOfRange}
 use Rattle.model.specs.Result.{Result, refuse}
@@ -19,6 +19,10 @@ use Rattle.calendar.specs.declared.shift.Move.the-variants.{On, Back}
 pub record WithinYears (w : Date) : Type 0 where
   pub valid : T (isValid w)
   pub year-high : w .year ≤ 9999
+
+-- The milliseconds from 0000-01-01 to the latest instant.
+abbrev pub latestSinceYear0 : ℕ
+latestSinceYear0 = sinceYear0 latest
 
 abbrev pub amountOf : Move → ℤ
 amountOf (On n) = pos n

@@ -9,10 +9,10 @@ use model::TimeUnit;
 ghost use mathlib.Core.Path.{_≡_};
 ghost use Prim.Native.Nat.{_<_, _≤_};
 ghost use lib.IntN.{pos, _+ℤ_, _*ℤ_};
-ghost use Rattle.model.specs.Instant.{latestSinceYear0, msPerDay, msPerHour, ranged, fromYear0};
+ghost use Rattle.model.specs.Instant.{msPerDay, msPerHour, ranged, fromYear0};
 ghost use Rattle.model.specs.Shift.{movedByMonths};
 ghost use Rattle.calendar.specs.Answer.{instantResult, shifted};
-ghost use Rattle.calendar.specs.Inner.{amountOf, rangeMonths, monthOf, inMonth};
+ghost use Rattle.calendar.specs.Inner.{amountOf, latestSinceYear0, rangeMonths, monthOf, inMonth};
 
 const MS_PER_HOUR: u64 = MS_PER_DAY / 24;
 

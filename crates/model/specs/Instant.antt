@@ -17,10 +17,6 @@ earliest = negℤ (pos msBefore1970)
 abbrev pub latest : ℤ
 latest = pos 253402300799999
 
--- The milliseconds from 0000-01-01 to the latest instant.
-abbrev pub latestSinceYear0 : ℕ
-latestSinceYear0 = 315569519999999
-
 abbrev pub inRange : ℤ → Bool
 inRange t = leZ earliest t && leZ t latest
 

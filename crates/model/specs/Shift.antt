@@ -24,11 +24,15 @@ monthFirst (negsuc k) =
 abbrev pub monthNumber : Date → ℕ
 monthNumber w = w .year * 12 + (w .month - 1)
 
+-- The instant some days and milliseconds after the start of a day, which is counted from 0000-01-01 and may be before it.
+abbrev pub after : ℕ → ℕ → ℤ → Result ℤ
+after days time first = ranged (((first +ℤ pos days) *ℤ pos msPerDay +ℤ pos time) +ℤ earliest)
+
 -- Milliseconds since 0000-01-01, counted on by months: the day of the month and the time of day stay.
 abbrev pub movedByMonths : ℕ → ℤ → Result ℤ
 movedByMonths u amount =
     let w = dateOfDay (u / msPerDay) in
-    ranged (((monthFirst (pos (monthNumber w) +ℤ amount) +ℤ pos (w .day - 1)) *ℤ pos msPerDay +ℤ pos (u % msPerDay)) +ℤ earliest)
+    after (w .day - 1) (u % msPerDay) (monthFirst (pos (monthNumber w) +ℤ amount))
 
 abbrev pub shiftMonths : ℤ → ℤ → Result ℤ
 shiftMonths t amount = movedByMonths (sinceYear0 t) amount

@@ -11,10 +11,10 @@ use lib.Dec.{T, lit≤}
 use lib.IntN.{ℤ, pos, negsuc, _+ℤ_, _*ℤ_, negℤ, natAbs, pos-ne-negsuc, +ℤ-comm}
 use lib.ListN.{getD}
 use Rattle.model.specs.Calendar.{date, dayNumber, isLeap, monthDays, monthTable, months, sumFirst, yearStart}
-use Rattle.model.specs.Instant.{earliest, fromYear0, inRange, msPerDay, ranged, sinceYear0}
+use Rattle.model.specs.Instant.{fromYear0, inRange, msPerDay, ranged, sinceYear0}
 use Rattle.model.specs.Refusal.{outOfRange}
-use Rattle.model.specs.Result.{Result, ok, refuse}
-use Rattle.model.specs.Shift.{monthFirst, monthNumber, monthStart, shift}
+use Rattle.model.specs.Result.{ok, refuse}
+use Rattle.model.specs.Shift.{after, monthFirst, monthNumber, monthStart, shift}
 use Rattle.model.specs.Laws.Calendar.{Dated, Valid, dated, date-of-day, day-bound, december, month-28, month-day, sum-step, year-10000, year-mono}
 use Rattle.model.specs.Laws.DateText.{from-in-range, ranged-ok, since-bound}
 use Rattle.model.specs.Laws.DayCount.{date-again}
@@ -49,10 +49,6 @@ month-ends c (suc d) j e =
     omega (arith, month-next j)
 
 -- ---- the days and the time of day from there
--- The instant `days` days and `time` milliseconds after a day's start.
-abbrev pub after : ℕ → ℕ → ℤ → Result ℤ
-after days time first = ranged (((first +ℤ pos days) *ℤ pos msPerDay +ℤ pos time) +ℤ earliest)
-
 module _ (days time : ℕ) (days-high : days ≤ 30) (time-high : time < 86400000) where
   after-early : (n : ℕ) → 30 ≤ n → after days time (negsuc n) ≡ refuse outOfRange
   after-early n h =

@@ -14,7 +14,7 @@ use Rattle.model.specs.DateText.{startsLike, dayText}
 use Rattle.model.specs.Instant.{earliest, inRange, ranged, fromYear0, sinceYear0, msPerDay, msPerHour}
 use Rattle.model.specs.Refusal.{Fault, wrongKind, badDate, outOfRange}
 use Rattle.model.specs.Result.{_>>=_, Result, ok, refuse, provided}
-use Rattle.model.specs.Shift.{monthStart, monthFirst, monthNumber, shiftMonths, shift}
+use Rattle.model.specs.Shift.{after, monthStart, monthFirst, monthNumber, shiftMonths, shift}
 use Rattle.model.specs.Laws.Calendar.{same-parts, year-cycle, months-cycle, sum-next, sum-step, Valid, date-of-day}
 use Rattle.model.specs.Laws.DateText.{Within, onlyOut, within-ranged, ranged-ok, since-back}
 use Rattle.model.specs.declared.Date.{Date}
@@ -158,7 +158,7 @@ shift-to : (t a : ℤ) (k : ℕ) → pos (monthNumber (dateOf t)) +ℤ a ≡ pos
 shift-to t a k e =
     let d = dateOf t .day - 1 in
     let f : 146097 * (k / 4800) + monthStart (k % 4800) + d ≡ dayNumber (date (k / 12) (suc (k % 12)) (dateOf t .day)) = omega (arith, month-first k) in
-    ap (λ (z : ℤ). ranged (((monthFirst z +ℤ pos d) *ℤ pos msPerDay +ℤ pos (timeOf t)) +ℤ earliest)) e
+    ap (λ (z : ℤ). after d (timeOf t) (monthFirst z)) e
     ∙ ap (λ (n : ℕ). ranged (fromYear0 (n * msPerDay + timeOf t))) f
 
 -- "Year and month shifts keep the day number" (the day of the month), "and days past the month's end run on": dayNumber counts them on. Here k counts the months from 0000-01 to the month that is shifted to.
