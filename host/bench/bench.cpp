@@ -7,6 +7,7 @@
 // ordinary text of as many bytes, and our time for the text as a multiple of that.
 #include "jehvrukam.h"
 #include "measure.h"
+#include "texts.h"
 
 #include <cjson/cJSON.h>
 #include <jansson.h>
@@ -16,8 +17,6 @@
 #include <cstdio>
 #include <cstdlib>
 #include <cstring>
-#include <fstream>
-#include <iterator>
 #include <string>
 #include <vector>
 
@@ -146,14 +145,6 @@ std::string chained(unsigned n)
     return std::string(n / 6, 'o') + static_cast<char>('o' ^ (32 >> n % 6));
 }
 
-std::string repeated(const std::string &piece, size_t times)
-{
-    std::string text;
-    for (size_t i = 0; i < times; i++)
-        text += piece;
-    return text;
-}
-
 void add_hostile_texts()
 {
     std::vector<std::string> names;
@@ -210,16 +201,6 @@ void add_hostile_texts()
     add("escaped surrogate pairs only", "\"" + repeated("\\ud83d\\ude00", 1250) + "\"");
     add("two-byte UTF-8 only", "\"" + repeated("\xc3\xa9", 7500) + "\"");
     add("white space only", repeated(" ", 15000) + "0");
-}
-
-std::string content_of(const std::string &path)
-{
-    std::ifstream file(path, std::ios::binary);
-    if (!file) {
-        std::fprintf(stderr, "cannot read %s\n", path.c_str());
-        std::exit(2);
-    }
-    return std::string(std::istreambuf_iterator<char>(file), std::istreambuf_iterator<char>());
 }
 
 } // namespace

@@ -12,6 +12,7 @@ use Rattle.syntax.specs.declared.Lead.the-variants.{Backslash, Char}
 use Rattle.syntax.specs.declared.Escape.the-variants.{Letter, Unicode, NoEscape}
 use Rattle.syntax.specs.declared.Unit as units
 use Rattle.syntax.specs.declared.Unit.the-variants.{Plain, High, Low}
+use Rattle.syntax.specs.Laws.Utf8.{utf8-most}
 use Rattle.syntax.specs.Read.{ok, bad, then, give, bytes, unit, hexes, char, chars, clear, high}
 use Rattle.syntax.specs.Tokens.{escapeOf}
 use Rattle.syntax.specs.Utf8.{unitOf, utf8, pairOf}
@@ -19,7 +20,6 @@ use Rattle.chars.specs.declared.Decoded.{Decoded}
 use Rattle.chars.specs.Pieces.{Taken, Stopped, Pieced, Leads, Tailed, UnitRead, Unicodes, Escaped, Put}
 use Rattle.chars.proofs.Steps.{chars-bytes, chars-bad, chars-plain, chars-high, chars-low, chars-pair, reads-one}
 use Rattle.chars.proofs.Read.{char-escape, char-lead, escape-end, escape-letter, escape-not, escape-unicode}
-use Rattle.chars.proofs.Utf8.{utf8-most}
 
 -- ---- a piece that was read, and one that was not
 number-some : (k : ReadFault) → readNumber k ≡ 0 → ⊥

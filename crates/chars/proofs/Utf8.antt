@@ -1,27 +1,14 @@
 -- The UTF-8 of a code point, by its size and as stores in an area. Assumes nothing.
 use mathlib.Core.Path.{_≡_, ap}
-use mathlib.Core.Bool.{Bool, true, false}
 use mathlib.Core.List.{[], _∷_}
 use Prim.Native.Nat.{ℕ, _+_, _/_, _%_, _≤_, _<_}
 use native.Mathlib.Omega.{arith}
 use native.Mathlib.Numerals.{add-one, add-two, add-three}
 use borrow.Author.Tests.{lt-ltb, le-ltb}
-use lib.Dec.{ltb}
 use lib.ListN.{length, set}
 use Rattle.model.specs.Bytes.{Bytes}
 use Rattle.syntax.specs.Utf8.{utf8}
 use Rattle.chars.specs.Pieces.{Put}
-
-one-of : (a b c : Bool) (x y z w : Bytes) (n : ℕ) → length x ≤ n → length y ≤ n → length z ≤ n → length w ≤ n
-    → length {A = ℕ} (elim a [ true ↦ x | false ↦ elim b [ true ↦ y | false ↦ elim c [ true ↦ z | false ↦ w ] ] ]) ≤ n
-one-of true b c x y z w n h k l m = h
-one-of false true c x y z w n h k l m = k
-one-of false false true x y z w n h k l m = l
-one-of false false false x y z w n h k l m = m
-
-pub utf8-most : (u : ℕ) → length (utf8 u) ≤ 4
-unfolding utf8
-utf8-most u = one-of (ltb u 128) (ltb u 2048) (ltb u 65536) _ _ _ _ 4 (omega arith) (omega arith) (omega arith) (omega arith)
 
 module _ (u : ℕ) where
   utf8-one : u < 128 → utf8 u ≡ u ∷ []

@@ -17,12 +17,13 @@ use Rattle.scan.specs.Contract.{Skipped}
 use Rattle.scan.specs.Laws.{white-by, ended-in, ended-end, some-fault}
 use Rattle.syntax.specs.Entry.{ReadAnswer, tooShort, readInto, readEntry}
 use Rattle.syntax.specs.Layout.{rowBytes, tableBytes, stringsBytes, unnamed, rowsOf, stringsOf, padded}
+use Rattle.syntax.specs.Laws.Layout.{length-rows}
 use Rattle.syntax.specs.Read.{Parsed, then, _>>=_, white, value, ended, text, Read, done, refuse, answer, read}
 use Rattle.json.specs.declared.Answer.{Answer}
 use Rattle.json.specs.declared.step.Step.{Step}
 use Rattle.json.specs.Contract.{answerOf, AllRead}
 use Rattle.json.specs.Inner.{rowsPart, valueForm, ValueRead, Whole, TextMeets, TextRead}
-use Rattle.json.proofs.Rows.{length-rows, take-rows, length-rowsPart}
+use Rattle.json.proofs.Rows.{take-rows, length-rowsPart}
 use Rattle.json.proofs.Form.{Got, got-at, gone-at}
 use Rattle.json.proofs.Items.{bare}
 

@@ -18,11 +18,12 @@ use Rattle.names.specs.Index.{entry}
 use Rattle.scan.specs.Laws.{some-fault, Wrong}
 use Rattle.syntax.specs.Layout.{rowBytes, rowsOf, stringsOf}
 use Rattle.syntax.specs.Layout as layout
+use Rattle.syntax.specs.Laws.Layout.{length-row}
 use Rattle.syntax.specs.Read.{Parsed, ok, bad, Parser, then, give}
 use Rattle.json.specs.declared.row.Label.{Label}
 use Rattle.json.specs.declared.step.Step.{Step}
 use Rattle.json.specs.Inner.{rowsPart, labelOf, Form, valueForm, Wrote, Meets, Safe, Reads, step, Filled}
-use Rattle.json.proofs.Rows.{length-row, rows-sets, entry-sets}
+use Rattle.json.proofs.Rows.{rows-sets, entry-sets}
 
 -- ---- what a contract says, by the fault
 pub by-fault : {P : Type 0} (fault : ℕ) → (fault ≡ 0 → P) → ((fault ≡ 0 → ⊥) → P) → P

@@ -12,12 +12,12 @@ use Rattle.scan.specs.Laws.{eat-next, white-by, separator-by}
 use Rattle.syntax.specs.declared.Separator.{Separator}
 use Rattle.syntax.specs.declared.Separator.the-variants.{Comma, Close, Neither}
 use Rattle.syntax.specs.Layout.{unnamed, rowsOf, stringsOf, itemCount}
+use Rattle.syntax.specs.Laws.Layout.{length-rows}
 use Rattle.syntax.specs.Read.{Parsed, ok, bad, then, _>>=_, give, fail, peek, eat, white, onSeparator, value, items}
 use Rattle.syntax.specs.Tokens.{separatorOf}
 use Rattle.json.specs.declared.step.Step.{Step}
 use Rattle.json.specs.declared.row.Label.{Label}
 use Rattle.json.specs.Inner.{valueForm, itemsForm, Wrote, ValueRead, ItemsRead, Room, step, Ended, failed, stopped, closed, Continued}
-use Rattle.json.proofs.Rows.{length-rows}
 use Rattle.json.proofs.Form.{got-at, gone-at}
 use Rattle.json.proofs.Loop.{Front, Onward, Inv, inv-start, loop-bad, loop-last, loop-more}
 

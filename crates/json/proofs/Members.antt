@@ -21,12 +21,13 @@ use Rattle.syntax.specs.declared.Separator.{Separator}
 use Rattle.syntax.specs.declared.Separator.the-variants.{Comma, Close, Neither}
 use Rattle.syntax.specs.Layout.{rowBytes, tableBytes, rowsOf, stringsOf, memberRows, memberStrings}
 use Rattle.syntax.specs.Layout as layout
+use Rattle.syntax.specs.Laws.Layout.{count-positive, length-rows}
 use Rattle.syntax.specs.Read.{Parsed, ok, bad, then, _>>=_, give, fail, peek, eat, white, onSeparator, name, value, members}
 use Rattle.syntax.specs.Tokens.{separatorOf}
 use Rattle.json.specs.declared.step.Step.{Step}
 use Rattle.json.specs.declared.row.Label.{Label}
 use Rattle.json.specs.Inner.{rowsPart, valueForm, membersForm, Wrote, ValueRead, MembersRead, MembersRoom, Holds, Has, named, NameMeets, NameRead, step, Ended, failed, stopped, closed, Continued}
-use Rattle.json.proofs.Rows.{count-positive, length-rows, length-rowsPart, take-rows, first-row, row-size, row-start}
+use Rattle.json.proofs.Rows.{length-rowsPart, take-rows, first-row, row-size, row-start}
 use Rattle.json.proofs.Form.{Got, Gone, got-at, gone-at}
 use Rattle.json.proofs.Loop.{Front, Onward, Inv, inv-start, loop-bad, loop-last, loop-more}
 use Rattle.json.proofs.Names.{holds-kept, holds-snoc, between-more, between-snoc, names-snoc, part-kept}

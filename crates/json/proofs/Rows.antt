@@ -1,58 +1,22 @@
--- The rows of a value: how many bytes they are, the first of them, and where they lie in the table.
+-- The rows of a value: the first of them, and where they lie in the table.
 use mathlib.Core.Path.{_≡_, refl, sym, ap, _∙_}
 use mathlib.Core.Bool.{true, false}
 use mathlib.Core.List.{[], _++_, append-nil, append-assoc}
 use Prim.Native.Nat.{ℕ, _+_, _*_, _-_, _/_, _≤_, _<_}
 use native.Mathlib.Omega.{arith}
-use lib.ListN.{length, take, length-append}
+use lib.ListN.{length, take}
 use lib.Seq.{sets, take-take, length-take-le}
 use Rattle.area.specs.Words.{word, wordAt}
 use Rattle.area.specs.Laws.{sets-append, take-sets, drop-sets-behind, wordAt-word, wordAt-append}
 use Rattle.model.specs.Bytes.{Bytes}
 use Rattle.model.specs.Limits.{maxTextBytes, maxValues}
-use Rattle.model.specs.Size.{valueCount, itemsCount, membersCount}
-use Rattle.model.specs.Value.{Value, scalar, instant, array, object, Scalar, null, boolean, integer, string, Values, no-items, item, Members, no-members, member, memberCount}
+use Rattle.model.specs.Size.{itemsCount, membersCount}
+use Rattle.model.specs.Value.{Value, scalar, instant, array, object, Scalar, null, boolean, integer, string, memberCount}
 use Rattle.names.specs.Index.{entry}
 use Rattle.names.specs.Slots as slots
-use Rattle.syntax.specs.Layout.{rowBytes, entryBytes, tableBytes, Label, unnamed, row, rowsOf, itemRows, memberRows, scalarRow, stringsOf, itemCount}
+use Rattle.syntax.specs.Layout.{rowBytes, entryBytes, tableBytes, Label, row, rowsOf, itemRows, memberRows, scalarRow, itemCount}
+use Rattle.syntax.specs.Laws.Layout.{size-above}
 use Rattle.json.specs.Inner.{rowsPart}
-
--- ---- sizes
-pub length-row : (kind : ℕ) (name : Label) (a b : ℕ) → length (row kind name a b) ≡ rowBytes
-unfolding row rowBytes word
-length-row kind name a b = refl
-
-length-scalar : (x : Scalar) (used : ℕ) (name : Label) → length (scalarRow x used name) ≡ rowBytes
-unfolding scalarRow
-length-scalar null used name = length-row 1 name 0 0
-length-scalar (boolean false) used name = length-row 2 name 0 0
-length-scalar (boolean true) used name = length-row 3 name 0 0
-length-scalar (integer z) used name = length-row 4 name _ _
-length-scalar (string s) used name = length-row 5 name used (length s)
-
-mutual
-  unfolding rowsOf valueCount rowBytes
-
-  pub length-rows : (v : Value) (at used : ℕ) (name : Label) → length (rowsOf v at used name) ≡ valueCount v * rowBytes
-  length-rows (scalar x) at used name = rw length-scalar (omega arith)
-  length-rows (instant t) at used name = rw length-row (omega arith)
-  length-rows (array vs) at used name = rw (length-append, length-row, length-items vs (at + 1) used) (omega arith)
-  length-rows (object ms) at used name = rw (length-append, length-row, length-members ms (at + 1) used) (omega arith)
-
-  pub length-items : (vs : Values) (at used : ℕ) → length (itemRows vs at used) ≡ itemsCount vs * rowBytes
-  length-items no-items at used = omega arith
-  length-items (item v vs) at used = rw (length-append, length-rows v at used unnamed, length-items vs (at + valueCount v) (used + length (stringsOf v))) (omega arith)
-
-  pub length-members : (ms : Members) (at used : ℕ) → length (memberRows ms at used) ≡ membersCount ms * rowBytes
-  length-members no-members at used = omega arith
-  length-members (member n v ms) at used = rw (length-append, length-rows v at (used + length n) (record { start = used; size = length n }), length-members ms (at + valueCount v) (used + length n + length (stringsOf v))) (omega arith)
-
-pub count-positive : (v : Value) → 0 < valueCount v
-unfolding valueCount
-count-positive (scalar x) = omega arith
-count-positive (instant t) = omega arith
-count-positive (array vs) = omega arith
-count-positive (object ms) = omega arith
 
 -- ---- the first row
 pub record First (v : Value) (at used : ℕ) (name : Label) : Type 0 where
@@ -79,16 +43,13 @@ first-row (array vs) at used name = record { kind = 6; a = itemCount vs; b = at 
 first-row (object ms) at used name = record { kind = 7; a = memberCount ms; b = at + 1 + membersCount ms; rest = memberRows ms (at + 1) used; small = omega arith; is = refl }
 
 -- ---- the words of a row: the name's length and start
-over : (kind size : ℕ) → kind < 256 → (kind + 256 * size) / 256 ≡ size
-over kind size h = omega arith
-
 module _ (kind : ℕ) (name : Label) (a b : ℕ) (rest : Bytes) (small : kind < 256) (short : name .size ≤ maxTextBytes) (start : name .start ≤ maxTextBytes) where
   pub row-size : wordAt (row kind name a b ++ rest) 0 / 256 ≡ name .size
   unfolding row maxTextBytes
   row-size =
       ap (λ (bs : Bytes). wordAt bs 0 / 256) (append-assoc (word (kind + 256 * name .size)) (word (name .start) ++ (word a ++ word b)) rest)
       ∙ ap (λ (x : ℕ). x / 256) (wordAt-word (kind + 256 * name .size) ((word (name .start) ++ (word a ++ word b)) ++ rest) (omega arith))
-      ∙ over kind (name .size) small
+      ∙ size-above kind (name .size) small
 
   pub row-start : wordAt (row kind name a b ++ rest) 4 ≡ name .start
   unfolding row word maxTextBytes

@@ -27,13 +27,14 @@ use Rattle.syntax.specs.declared.Word.{Word}
 use Rattle.syntax.specs.declared.Word.the-variants.{TrueWord, FalseWord, NullWord}
 use Rattle.syntax.specs.Layout.{rowBytes, rowsOf, scalarRow, stringsOf, biased, itemCount}
 use Rattle.syntax.specs.Layout as layout
+use Rattle.syntax.specs.Laws.Layout.{length-row}
 use Rattle.syntax.specs.Read.{Parsed, ok, bad, Parser, then, _>>=_, give, fail, if, eat, literal, int, chars, clear, quoted, name, value, items, members, onStart}
 use Rattle.json.specs.declared.list.After.{After}
 use Rattle.json.specs.declared.list.After.the-variants.{Done, More}
 use Rattle.json.specs.declared.step.Step.{Step}
 use Rattle.json.specs.declared.row.Label.{Label}
 use Rattle.json.specs.Inner.{rowsPart, labelOf, valueForm, itemsForm, membersForm, Reads, step, Emptied, Filled, kindOf, stringFrom, arrayFrom, objectFrom, ValueRead, RowRead, ItemsRead, MembersRead, Ended, Continued, FollowMeets, Followed}
-use Rattle.json.proofs.Rows.{length-row, rows-sets, entry-sets}
+use Rattle.json.proofs.Rows.{rows-sets, entry-sets}
 use Rattle.json.proofs.Form.{Gone, gone, moved, reads-ok, reads-bad, fuelled, On, through, contained}
 
 -- ---- a value of one row

@@ -1,10 +1,8 @@
--- Bounds: values whose integers and instants, and rules whose literals, are within the bounds of document 01, at any depth.
+-- Bounds: values whose integers and instants are within the bounds of document 01, at any depth.
 use mathlib.Core.Bool.{Bool, true, _&&_}
 use Rattle.model.specs.Instant.{inRange}
-use Rattle.model.specs.Rule.{Rule, literal, var, if, and, reduce, apply, Rules, no-rules, rule, literalValue}
 use Rattle.model.specs.Value.{Value, scalar, instant, array, object, Scalar, null, boolean, integer, string, Values, no-items, item, Members, no-members, member, withinLimits}
 
--- ---- values
 -- 01, refusal 4: an integer not "beyond 9007199254740991 either way".
 abbrev pub boundedScalar : Scalar → Bool
 boundedScalar null = true
@@ -28,18 +26,3 @@ unfoldable mutual
   pub boundedMembers : Members → Bool
   boundedMembers no-members = true
   boundedMembers (member name v ms) = bounded v && boundedMembers ms
-
--- ---- rules
--- Every literal so. The bare integers of `plusTime` and `extractFromUVCI` are no literals: nothing is asked of them.
-unfoldable mutual
-  pub boundedRule : Rule → Bool
-  boundedRule (literal l) = bounded (literalValue l)
-  boundedRule (var q) = true
-  boundedRule (if guard second third) = boundedRule guard && (boundedRule second && boundedRule third)
-  boundedRule (and r rs) = boundedRule r && boundedRules rs
-  boundedRule (reduce r lambda initial) = boundedRule r && (boundedRule lambda && boundedRule initial)
-  boundedRule (apply o rs) = boundedRules rs
-
-  pub boundedRules : Rules → Bool
-  boundedRules no-rules = true
-  boundedRules (rule r rs) = boundedRule r && boundedRules rs

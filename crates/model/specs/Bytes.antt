@@ -41,7 +41,7 @@ abbrev pub digitByte : ℕ → ℕ
 digitByte n = byte "0" + n % 10
 
 -- The fragments of a string between its separators. A string without a separator is one fragment, "" too.
-abbrev consHead : ℕ → List Bytes → List Bytes
+abbrev pub consHead : ℕ → List Bytes → List Bytes
 consHead x [] = (x ∷ []) ∷ []
 consHead x (f ∷ fs) = (x ∷ f) ∷ fs
 

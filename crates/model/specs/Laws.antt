@@ -20,5 +20,8 @@ pub mod Unbegun
 pub mod Replace
 pub mod Runs
 pub mod Soundness
+pub mod Kept
 pub mod Bounds
+pub mod Writing
+pub mod Textual
 pub mod Rows

@@ -27,6 +27,7 @@ pub mod Sheet
 pub mod TypeCheck
 pub mod Writing
 pub mod Size
+pub mod Textual
 pub mod Judgement
 pub mod Main
 pub mod Laws

@@ -14,7 +14,7 @@ use Rattle.model.specs.Value.{Value, scalar, instant, array, object, Sca
 
 -- ---- integers: decimal digits without leading zeros
 -- The fuel k is a bound of the number of digits but one.
-abbrev decimalWithin : ℕ → ℕ → Bytes
+abbrev pub decimalWithin : ℕ → ℕ → Bytes
 decimalWithin zero n = digitByte n ∷ []
 decimalWithin (suc k) n =
     let more = decimalWithin k (n / 10) ++ (digitByte n ∷ []) in

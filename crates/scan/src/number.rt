@@ -1,6 +1,7 @@
 // Numbers: integers within the limits.
 use crate::token::is_digit;
 use model::MAX_INTEGER;
+use syntax::BIAS;
 ghost use mathlib.Core.Path.{_≡_};
 ghost use Prim.Native.Nat.{_≤_};
 ghost use lib.ListN.{length, drop};
@@ -35,13 +36,13 @@ fn signed(at: usize, negative: bool, n: u64) -> Numeral
         return Numeral {
             fault: 0,
             at,
-            biased: 9007199254740992 - n,
+            biased: BIAS - n,
         };
     }
     Numeral {
         fault: 0,
         at,
-        biased: 9007199254740992 + n,
+        biased: BIAS + n,
     }
 }
 

@@ -6,9 +6,8 @@ use mathlib.Core.Option.{some}
 use Prim.Native.Nat.{ℕ, _≤_}
 use lib.Dec.{T}
 use lib.ListN.{length}
-use Rattle.model.specs.Bounds.{bounded}
 use Rattle.model.specs.Bytes.{Bytes}
-use Rattle.model.specs.Eval.{run, value, outcome}
+use Rattle.model.specs.Eval.{run, outcome}
 use Rattle.model.specs.Judgement.{judgeEvaluate}
 use Rattle.model.specs.Limits.{maxTextBytes, maxValues, maxNesting, maxSteps}
 use Rattle.model.specs.Main as Model
@@ -50,17 +49,6 @@ pub demand-3a-bytes :
     → EndsWell ts (outcome (run r record′ limit))
 demand-3a-bytes rule-text sheet-text record-text rule sheet record′ r s ts limit reads is-rule reads₂ is-sheet accepted reads₃ fit within =
     Model.demand-3a rule sheet record′ r s ts limit is-rule is-sheet accepted (WellFormedLaws.read-well-formed record-text record′ reads₃ .no-instants) fit within
-
--- The integers of the answer are within the limits, and its instants in range.
-pub answer-bounded-bytes :
-    (rule-text record-text : Bytes) (rule record′ : Value) (r : Rule) (limit : ℕ) (v : Value)
-    → read rule-text ≡ done rule
-    → shape rule ≡ some r
-    → read record-text ≡ done record′
-    → outcome (run r record′ limit) ≡ value v
-    → T (bounded v)
-answer-bounded-bytes rule-text record-text rule record′ r limit v reads is-rule reads₂ ends =
-    Model.answer-bounded rule record′ r limit v is-rule (read-well-formed rule-text rule reads .within-limits) (read-well-formed record-text record′ reads₂ .within-limits) ends
 
 -- ---- demand 3b
 -- For any rule text of right shape, record text and limit: the bytes `old` of an operand rule that the run never begins give way to any text

@@ -7,6 +7,7 @@ pub mod SoundScalars
 pub mod SoundStrings
 pub mod Sound
 pub mod Meaning
+pub mod Layout
 pub mod FaultScalars
 pub mod FaultStrings
 pub mod Faults
@@ -23,10 +24,18 @@ pub mod Rows
 pub mod Derivations
 pub mod Abnf
 pub mod Utf8
+pub mod StringsFit
 pub mod WellFormed
+pub mod Answers
 pub mod Locate
 pub mod Operands
 pub mod OnlyLimits
 pub mod Substitution
 pub mod OnePlace
+pub mod WrittenNumbers
+pub mod WrittenStrings
+pub mod Written
+pub mod Textual
+pub mod RoundTrip
+pub mod Answered
 pub mod Example

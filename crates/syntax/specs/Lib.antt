@@ -10,6 +10,9 @@ pub mod WellFormed
 pub mod Locate
 pub mod Layout
 pub mod Entry
+pub mod Output
+pub mod ReadsBack
 pub mod Main
+pub mod Demand2
 pub mod Demand3
 pub mod Laws

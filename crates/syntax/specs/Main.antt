@@ -1,30 +1,37 @@
--- Main: the theorems of reading, restated with nothing else; the proofs are in Laws. `read` is 01's Reading as a parser; beside it stand the rules of RFC 8259:
+-- Main: the theorems of reading, and of reading what is written, restated with nothing else; the proofs are in Laws. `read` is 01's Reading as a parser; beside it stand the rules of RFC 8259:
 -- a derivation d spells the bytes `spell d`, has the meaning `meaning d` where it has one in our domain, and the faults `faults d` of refusals 3 to 5.
 -- Sentences of 01 at their edges are in Laws.Rows.
 use mathlib.Core.Path.{_≡_}
+use mathlib.Core.Bool.{false}
 use mathlib.Core.List.{List, _∷_, _++_, List·Memᴰ}
 use mathlib.Core.Logic.{_⊎_, _↔_}
 use mathlib.Core.Option.{some}
 use Prim.Native.Nat.{ℕ, suc, _≤_, _<_}
 use lib.ListN.{length, take, drop}
 use Rattle.model.specs.Bytes.{Bytes}
+use Rattle.model.specs.Judgement.{Judged, writtenWithin}
 use Rattle.model.specs.Limits.{maxTextBytes, maxValues, maxNesting}
 use Rattle.model.specs.Refusal.{ReadFault, notJson, loneSurrogate, tooLarge, readNumber}
-use Rattle.model.specs.Size.{valueCount, nesting}
+use Rattle.model.specs.Size.{valueCount, nesting, isTooLarge}
+use Rattle.model.specs.Textual.{textual}
 use Rattle.model.specs.Value.{Value}
+use Rattle.model.specs.Writing.{valueText}
 use Rattle.syntax.specs.Faults.{Fault, fault, faults, placeOf, FirstFault, Begins, NotJson, OverLong, Lone, Stated, Has}
 use Rattle.syntax.specs.Abnf.{RText, spellRText}
 use Rattle.syntax.specs.Grammar.{JText, spell, meaning}
+use Rattle.syntax.specs.Layout.{stringsOf}
 use Rattle.syntax.specs.Locate.{Positions, replacePart, StandsAt}
 use Rattle.syntax.specs.Read.{done, refuse, read}
-use Rattle.syntax.specs.WellFormed.{WellFormedValue}
+use Rattle.syntax.specs.WellFormed.{WellFormedValue, WellFormedAnswer}
 use Rattle.syntax.specs.Laws.Abnf as AbnfLaws
 use Rattle.syntax.specs.Laws.Complete as Complete
 use Rattle.syntax.specs.Laws.Exact as Exact
 use Rattle.syntax.specs.Laws.Faults as FaultsLaws
 use Rattle.syntax.specs.Laws.Order as Order
+use Rattle.syntax.specs.Laws.RoundTrip as RoundTrip
 use Rattle.syntax.specs.Laws.Smallest as Smallest
 use Rattle.syntax.specs.Laws.Sound as Sound
+use Rattle.syntax.specs.Laws.StringsFit as StringsFit
 use Rattle.syntax.specs.Laws.Substitution as SubstitutionLaws
 use Rattle.syntax.specs.Laws.WellFormed as WellFormedLaws
 
@@ -58,6 +65,10 @@ unambiguous = Complete.unambiguous
 -- What reads is well formed: strings and names in UTF-8, names distinct, integers within the limits, no instant.
 pub well-formed : (s : Bytes) (v : Value) → read s ≡ done v → WellFormedValue v
 well-formed = WellFormedLaws.read-well-formed
+
+-- Its strings are no longer than the text. A strings area as long as the largest text has room for all strings.
+pub strings-fit : (s : Bytes) (v : Value) → read s ≡ done v → length (stringsOf v) ≤ length s
+strings-fit = StringsFit.strings-fit
 
 -- "the bytes of that one value give way": the bytes `old` at some positions to a text `new` that reads. If the whole reads, it is the old value with the new one there.
 pub replaced :
@@ -128,3 +139,16 @@ refused-counts = Smallest.stated-has
 -- what reads has none.
 pub read-faultless : (s : Bytes) (v : Value) (k : ReadFault) (p : ℕ) → read s ≡ done v → 3 ≤ readNumber k → Has s k p → ⊥
 read-faultless = Smallest.read-faultless
+
+-- ---- what is written
+-- A well-formed answer that is not refused with 11, once written, reads as that value with its instants as their texts.
+pub written-reads : (v : Value) → WellFormedAnswer v → isTooLarge v ≡ false → read (valueText v) ≡ done (textual v)
+written-reads = RoundTrip.answer-reads
+
+-- "An answer holding no date-time, once written, reads back as the same value."
+pub written-reads-back : (v : Value) → WellFormedValue v → isTooLarge v ≡ false → read (valueText v) ≡ done v
+written-reads-back = RoundTrip.reads-back
+
+-- The text that is written to an output area reads as the answer, with the texts of its instants.
+pub output-reads : (room : ℕ) (v : Value) (t : Bytes) → WellFormedAnswer v → writtenWithin room v ≡ Judged.done t → read t ≡ done (textual v)
+output-reads = RoundTrip.output-reads

@@ -65,3 +65,10 @@ pub record WellFormedValue (v : Value) : Type 0 where
   pub distinct-names : T (distinctNames v)
   pub within-limits : T (bounded v)
   pub no-instants : T (instantFree v)
+
+-- The same of a value with instants, which are between the earliest and the latest: what holds of every answer.
+pub record WellFormedAnswer (v : Value) : Type 0 where
+  pub utf8-strings : AllStrings WellFormed v
+  pub byte-strings : AllStrings (λ s. T (areBytes s)) v
+  pub distinct-names : T (distinctNames v)
+  pub within-limits : T (bounded v)

@@ -1,5 +1,6 @@
 // The decisions that reading a text makes byte by byte, as types that the definitions under specs/ and the code of the crates above share.
 
+use model::MAX_INTEGER;
 use model::MAX_TEXT_BYTES;
 use model::MAX_VALUES;
 
@@ -11,6 +12,9 @@ pub const ENTRY_BYTES: usize = 12;
 pub const TABLE_BYTES: usize = MAX_VALUES * (ROW_BYTES + ENTRY_BYTES);
 
 pub const STRINGS_BYTES: usize = MAX_TEXT_BYTES;
+
+// What is added to an integer in a row: 2^53.
+pub const BIAS: u64 = MAX_INTEGER + 1;
 
 // What stands where a value is to begin.
 pub enum Start {

@@ -13,6 +13,8 @@ pub struct Case {
     /// Sizes of the areas of `read`, in bytes.
     pub table: usize,
     pub strings: usize,
+    /// Bytes of the output area, of the entries that have one.
+    pub out: usize,
     expect: String,
 }
 
@@ -66,14 +68,25 @@ fn case(line: &str) -> Case {
         texts: names.iter().filter_map(|name| Some((*name, bytes(member(inputs, name)?)))).collect(),
         table: number(inputs, "table").unwrap_or(MAX_VALUES) * VALUE_BYTES,
         strings: number(inputs, "area").unwrap_or(STRINGS_BYTES),
+        out: number(inputs, "out").unwrap_or(0),
         expect: expect.to_string(),
     }
 }
 
 impl Case {
+    /// The refusal that is expected, 0 for none.
+    pub fn refusal(&self) -> Option<u32> {
+        number(&self.expect, "refusal").map(|refusal| refusal as u32)
+    }
+
+    /// A text that is expected: the `answer` of an evaluation, or how a read value is `written`.
+    pub fn expected_text(&self, name: &str) -> Option<Vec<u8>> {
+        member(&self.expect, name).map(bytes)
+    }
+
     /// What a reader is to say to one of the texts, refusal and place, as far as the case decides it.
     pub fn verdict(&self, name: &str) -> Option<(u32, u64)> {
-        let refusal = number(&self.expect, "refusal")? as u32;
+        let refusal = self.refusal()?;
         let place = number(&self.expect, "place").map(|place| place as u64);
         match (self.entry.as_str(), refusal) {
             ("read", 0) => Some((0, 0)),

@@ -35,6 +35,14 @@ pub or-f : (a : Bool) → T (a || false) → T a
 or-f true h = tt
 or-f false h = h
 
+pub or-false-l : (a b : Bool) → a || b ≡ false → a ≡ false
+or-false-l true b e = e
+or-false-l false b e = refl
+
+pub or-false-r : (a b : Bool) → a || b ≡ false → b ≡ false
+or-false-r true b e = cc
+or-false-r false b e = e
+
 pub T→true : (b : Bool) → T b → b ≡ true
 T→true true h = refl
 T→true false h = absurd h

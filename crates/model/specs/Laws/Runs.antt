@@ -1,6 +1,6 @@
 -- Runs: what holds of every value that a run gives, and of every refusal that it meets.
 use mathlib.Core.Path.{_≡_, subst}
-use mathlib.Core.Bool.{Bool, false}
+use mathlib.Core.Bool.{false}
 use mathlib.Core.List.{List, [], _∷_}
 use Prim.Native.Nat.{ℕ, zero, suc}
 use lib.Dec.{T}
@@ -9,8 +9,8 @@ use Rattle.model.specs.Refusal.{Fault, wrongKind, EvalFault, fault, outO
 use Rattle.model.specs.Result.{Result, ok, refuse}
 use Rattle.model.specs.Run.{Name, Ended, got, failed, Run, log, return, refused, lift, begin, continue, _>>=_}
 use Rattle.model.specs.Truth.{Truth, truthy, falsy, neither}
-use Rattle.model.specs.Value.{Value, Values, no-items, item, allItems}
-use Rattle.model.specs.Laws.Logic.{and-l, and-r, true→T}
+use Rattle.model.specs.Value.{Value, Values, no-items, item}
+use Rattle.model.specs.Laws.Logic.{true→T}
 use Rattle.model.specs.Laws.Result.{Yields}
 use Rattle.model.specs.Laws.Types.{decided}
 
@@ -67,11 +67,12 @@ module _ (R : EvalFault → Type 0) where
   always-goOn P falsy v m d h k = always-return P v h
   always-goOn P neither v m d h k = always-refused P (fault wrongKind) (d (λ x. x))
 
-  -- A lambda that keeps P of the accumulator, for each item of which a test holds.
-  pub always-fold : (P : Value → Type 0) (f : Value → Value → Run Value) (test : Value → Bool) → ((v w : Value) → T (test v) → P w → Always P (f v w)) → (vs : Values) → T (allItems test vs) → (w : Value) → P w → Always P (fold f vs w)
-  always-fold P f test m no-items h w k = always-return P w k
-  always-fold P f test m (item v vs) h w k =
-      always-bind P P (f v w) (fold f vs) (m v w (and-l (test v) _ h) k) (λ a x. always-fold P f test m vs (and-r (test v) _ h) a x)
+  -- A lambda that keeps P of the accumulator, for each item of which Q holds; R of the items is Q of the first and R of the others.
+  pub always-fold : (P Q : Value → Type 0) (R : Values → Type 0) → ((v : Value) (vs : Values) → R (item v vs) → Q v × R vs) → (f : Value → Value → Run Value) → ((v w : Value) → Q v → P w → Always P (f v w)) → (vs : Values) → R vs → (w : Value) → P w → Always P (fold f vs w)
+  always-fold P Q R each f m no-items h w k = always-return P w k
+  always-fold P Q R each f m (item v vs) h w k =
+      let (first, others) = each v vs h in
+      always-bind P P (f v w) (fold f vs) (m v w first k) (λ a x. always-fold P Q R each f m vs others a x)
 
   -- So of the value that a run ends in.
   pub always-value : (P : Value → Type 0) (m : Run Value) → Always P m → (n : ℕ) (v : Value) → outcome (m n) ≡ value v → P v

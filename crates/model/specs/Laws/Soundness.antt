@@ -304,7 +304,8 @@ mutual
       (eval-sound initial us (2 ∷ p) c (body-sound initial e (2 ∷ p) c (and-l (accepts initial e) _ h₁) F))
       (λ i y. always-bind Late (λ vs. T (allItems (hasType (itemsTypes ts)) vs)) (Has us) (lift (required wrongKind (asArray v))) _
       (runs-lift _ (required wrongKind (asArray v)) (items-sound ts v x (passes-sound v ts (Ty.array ∷ []) x (and-l (passes ts (Ty.array ∷ [])) _ h₂))))
-      (λ vs z. always-fold Late (Has us) (λ cur acc. eval lambda (1 ∷ p) (context cur acc)) (hasType (itemsTypes ts))
+      (λ vs z. always-fold Late (Has us) (Has (itemsTypes ts)) (λ ws. T (allItems (hasType (itemsTypes ts)) ws)) (λ w ws k. (and-l (hasType (itemsTypes ts) w) _ k, and-r (hasType (itemsTypes ts) w) _ k))
+      (λ cur acc. eval lambda (1 ∷ p) (context cur acc))
       (λ cur acc a b. always-map Late (Has ws) (Has us) (eval lambda (1 ∷ p) (context cur acc)) (λ w k. passes-sound w ws us k (and-r (accepts lambda inner) _ h₃))
       (eval-sound lambda ws (1 ∷ p) (context cur acc) (body-sound lambda inner (1 ∷ p) (context cur acc) (and-l (accepts lambda inner) _ h₃) (lambda-typed (itemsTypes ts) us cur acc a b))))
       vs z i y)))

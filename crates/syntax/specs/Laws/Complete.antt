@@ -13,7 +13,7 @@ use Rattle.model.specs.Laws.Option.{none-some}
 use Rattle.model.specs.Limits.{maxTextBytes, maxValues, maxNesting, maxInteger}
 use Rattle.model.specs.Refusal.{notJson, readNumber, tooLarge}
 use Rattle.model.specs.Size.{valueCount, itemsCount, membersCount, nesting, itemsNesting, membersNesting}
-use Rattle.model.specs.Value.{Value, scalar, instant, array, object, string, Values, no-items, item, Members, no-members}
+use Rattle.model.specs.Value.{Value, scalar, array, object, string, Values, no-items, item, Members, no-members}
 use Rattle.syntax.specs.declared.Unit.{Unit}
 use Rattle.syntax.specs.declared.Unit.the-variants.{Plain, High, Low}
 use Rattle.syntax.specs.Faults.{Fault, fault, faultsDigits, faultsInt, faultsFrac, faultsExp, faultsNumber, aloneHigh, aloneLow, faultsChars, faultsName, manyAt, deepAt, countValue, faultsValue, faultsElements, faultsMembers, faults}
@@ -23,6 +23,7 @@ use Rattle.syntax.specs.Tokens.{digitValue}
 use Rattle.syntax.specs.Utf8.{utf8, unitOf, pairOf}
 use Rattle.syntax.specs.Laws.Faults.{one-more, TextMeets, text-meets}
 use Rattle.syntax.specs.Laws.FaultStrings.{unit-faults-plain, unit-faults-high, unit-faults-low, unit-means-plain, unit-means-high, unit-means-low, unit-means-nothing, plain-means-nothing, high-means-nothing, backslashOf, repeated-no}
+use Rattle.syntax.specs.Laws.Layout.{count-positive}
 use Rattle.syntax.specs.Laws.Meaning.{some-is, map-some, map₂-some, member-some, fresh-some, count-value}
 use Rattle.syntax.specs.Laws.SoundStrings.{waiting}
 
@@ -97,13 +98,6 @@ few-faultless row at l = rw (lt-leb maxValues row l, manyAt)
 flat-faultless : (depth at : ℕ) → depth < maxNesting → deepAt depth at ≡ []
 unfolding deepAt
 flat-faultless depth at l = rw (lt-leb maxNesting depth l, deepAt)
-
-count-positive : (v : Value) → 1 ≤ valueCount v
-unfolding valueCount
-count-positive (scalar x) = lit≤ tt
-count-positive (instant t) = lit≤ tt
-count-positive (array vs) = omega arith
-count-positive (object ms) = omega arith
 
 mutual
   unfolding valueMeaning faultsValue valueCount nesting

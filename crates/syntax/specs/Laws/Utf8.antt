@@ -10,9 +10,11 @@ use native.Mathlib.Decide.{decLe}
 use native.Mathlib.Omega.{arith}
 use borrow.Author.Tests.{ne-eqb}
 use lib.Dec.{T, ltb, eqb, ltb→lt, lt→ltb, eqb→eq}
+use lib.ListN.{length}
 use Rattle.model.specs.Bytes.{Bytes}
 use Rattle.model.specs.Laws.Logic.{and-l, and-r, and-i, T→true, true→T}
 use Rattle.model.specs.Laws.Option.{All}
+use Rattle.model.specs.Lists.{all}
 use Rattle.syntax.specs.declared.Lead.{Lead}
 use Rattle.syntax.specs.declared.Lead.the-variants.{Closing, Backslash, Never, Char}
 use Rattle.syntax.specs.declared.Escape.{Escape}
@@ -43,7 +45,7 @@ not-below : (m n : ℕ) → n ≤ m → T (ltb m n) → ⊥
 not-below m n h t = let x = ltb→lt m n t in omega arith
 
 -- ---- the bytes of a code point, by their number (RFC 3629, section 3)
-utf8-1 : (u : ℕ) → u < 0x80 → utf8 u ≡ u ∷ []
+pub utf8-1 : (u : ℕ) → u < 0x80 → utf8 u ≡ u ∷ []
 unfolding utf8
 utf8-1 u h = chosen (ltb u 0x80) _ _ (lt→ltb u 0x80 h)
 
@@ -64,6 +66,13 @@ utf8-4 u h =
     passed-over (ltb u 0x80) _ _ (not-below u 0x80 (omega arith))
     ∙ passed-over (ltb u 0x800) _ _ (not-below u 0x800 (omega arith))
     ∙ passed-over (ltb u 0x10000) _ _ (not-below u 0x10000 h)
+
+-- At most four.
+pub utf8-most : (u : ℕ) → length (utf8 u) ≤ 4
+unfolding utf8
+utf8-most u =
+    let P : Bytes → Type 0 = λ s. length s ≤ 4 in
+    branch P (ltb u 0x80) _ _ (λ h. omega arith) (branch P (ltb u 0x800) _ _ (λ h. omega arith) (branch P (ltb u 0x10000) _ _ (λ h. omega arith) (omega arith)))
 
 -- ---- and back: the code point that the bytes of a character encode
 -- A code point up to 10FFFF that is no surrogate, in UTF-8.
@@ -319,9 +328,12 @@ in-ascii b =
     (branch InAscii (eqb b 0x75) Unicode _ (λ h. tt) tt))))))))
 
 -- The letter of an escape stands for a character in ASCII.
+pub letter-ascii : (b d : ℕ) → escapeOf b ≡ Letter d → d < 0x80
+letter-ascii b d e = subst InAscii e (in-ascii b)
+
 pub letter-character : (b d : ℕ) → escapeOf b ≡ Letter d → Character (d ∷ [])
 letter-character b d e =
-    let h : d < 0x80 = subst InAscii e (in-ascii b) in
+    let h = letter-ascii b d e in
     (d, omega arith, λ x y. omega arith, utf8-1 d h)
 
 -- ---- code units
@@ -450,6 +462,13 @@ utf8-bytes u h =
     (branch InBytes (ltb u 0x800) _ _ (λ k. let l = ltb→lt u 0x800 k in byte (0xC0 + u / 64) (omega arith) (tail-byte u no-bytes))
     (branch InBytes (ltb u 0x10000) _ _ (λ k. let l = ltb→lt u 0x10000 k in byte (0xE0 + u / 4096) (omega arith) (tail-byte (u / 64) (tail-byte u no-bytes)))
     (byte (0xF0 + u / 262144) (omega arith) (tail-byte (u / 4096) (tail-byte (u / 64) (tail-byte u no-bytes))))))
+
+-- ASCII is well-formed UTF-8.
+pub ascii-well-formed : (s : Bytes) → T (all (λ b. ltb b 0x80) s) → WellFormed s
+ascii-well-formed [] h = nothing
+ascii-well-formed (b ∷ s) h =
+    let l = ltb→lt b 0x80 (and-l (ltb b 0x80) _ h) in
+    subst (λ x. WellFormed (x ++ s)) (utf8-1 b l) (character b (omega arith) (λ i j. omega arith) (ascii-well-formed s (and-r (ltb b 0x80) _ h)))
 
 -- Well-formed UTF-8 is in bytes.
 pub well-formed-bytes : (s : Bytes) → WellFormed s → T (areBytes s)

@@ -146,7 +146,7 @@ mutual
 mutual
   unfolding AllStrings
 
-  strings-map : (P Q : Bytes → Type 0) → ((s : Bytes) → P s → Q s) → (v : Value) → AllStrings P v → AllStrings Q v
+  pub strings-map : (P Q : Bytes → Type 0) → ((s : Bytes) → P s → Q s) → (v : Value) → AllStrings P v → AllStrings Q v
   strings-map P Q f (scalar x) h = go x h
     where
       go : (x : Scalar) → AllInScalar P x → AllInScalar Q x

@@ -1,0 +1,221 @@
+-- ReadForm: what reading leaves in its areas means the value that was read.
+use mathlib.Core.Path.{_≡_, refl, sym, ap, subst, _∙_}
+use mathlib.Core.Bool.{true, false, cond}
+use mathlib.Core.List.{_++_, append-assoc}
+use Prim.Native.Nat.{ℕ, _+_, _*_, _-_, _/_, _%_, _≤_, _<_}
+use native.Mathlib.Omega.{arith}
+use borrow.Author.Tests.{lt-ltb}
+use lib.Dec.{T, ltb}
+use lib.ListN.{length, take, drop, replicate, length-append}
+use lib.Seq.{drop-drop, drop-append-seam, take-append-seam}
+use Rattle.area.specs.Words.{word, wordAt}
+use Rattle.area.specs.Laws.{wordAt-word, wordAt-drop}
+use Rattle.model.specs.Bounds.{bounded, boundedItems, boundedMembers}
+use Rattle.model.specs.Bytes.{Bytes}
+use Rattle.model.specs.Laws.Logic.{and-l, and-r}
+use Rattle.model.specs.Limits.{maxTextBytes, maxValues}
+use Rattle.model.specs.Size.{valueCount, itemsCount, membersCount}
+use Rattle.model.specs.Value.{Value, scalar, instant, array, object, Scalar, null, boolean, integer, string, Values, no-items, item, Members, no-members, member, memberCount, instantFree, instantFreeItems, instantFreeMembers}
+use Rattle.syntax.specs.Layout.{rowBytes, Label, unnamed, row, biased, itemCount, scalarRow, rowsOf, itemRows, memberRows, stringsOf, itemStrings, memberStrings, padded, tableOf, stringsAreaOf}
+use Rattle.syntax.specs.Laws.Layout.{length-row, length-rows, count-positive, kind-below, size-above}
+use Rattle.syntax.specs.Laws.Sound.{sound}
+use Rattle.syntax.specs.Laws.StringsFit.{strings-small}
+use Rattle.syntax.specs.Laws.WellFormed.{read-well-formed}
+use Rattle.syntax.specs.Read.{done, read}
+use Rattle.syntax.specs.WellFormed.{WellFormedValue}
+use Rattle.heap.specs.declared.part.Label.the-variants.{Name}
+use Rattle.heap.specs.Handles.{ofRow, rowHandle, nextRow}
+use Rattle.heap.specs.Means.{Means, means-null, means-false, means-true, means-integer, means-string, means-items, means-members, RowItems, no-row-items, row-item, RowMembers, no-row-members, row-member}
+use Rattle.heap.specs.Parts.{rowLabel}
+use Rattle.heap.specs.Strings.{part}
+use Rattle.heap.specs.Unfold.{Areas}
+use Rattle.heap.specs.Laws.Numbers.{biased-small, text-small, values-small}
+
+-- ---- bytes at a place of an area
+record Stands (A : Bytes) (at : ℕ) (bs : Bytes) : Type 0 where
+  rest : Bytes
+  is : drop at A ≡ bs ++ rest
+  inside : at + length bs ≤ length A
+
+module _ {A : Bytes} {at : ℕ} (xs ys : Bytes) (s : Stands A at (xs ++ ys)) where
+  front : Stands A at xs
+  front = record { rest = ys ++ s .rest; is = s .is ∙ append-assoc xs ys (s .rest); inside = (let l = length-append xs ys in omega arith) }
+
+  back : Stands A (at + length xs) ys
+  back = record {
+    rest = s .rest;
+    is = sym (drop-drop (length xs) at A) ∙ ap (drop (length xs)) (s .is ∙ append-assoc xs ys (s .rest)) ∙ drop-append-seam xs (ys ++ s .rest);
+    inside = (let l = length-append xs ys in omega arith);
+  }
+
+part-stands : {A : Bytes} {at : ℕ} (bs : Bytes) → Stands A at bs → bs ≡ part A at (length bs)
+part-stands bs s = sym (ap (take (length bs)) (s .is) ∙ take-append-seam bs (s .rest))
+
+word-stands : {A : Bytes} {at : ℕ} (x : ℕ) → Stands A at (word x) → x < 4294967296 → wordAt A at ≡ x
+word-stands {A} {at} x s l =
+    let e : at ≡ at + 0 = omega arith in
+    ap (wordAt A) e ∙ sym (wordAt-drop at A 0) ∙ ap (λ (bs : Bytes). wordAt bs 0) (s .is) ∙ wordAt-word x (s .rest) l
+
+-- ---- a row of the table
+record Row (A : Bytes) (i kind : ℕ) (name : Label) (x y : ℕ) : Type 0 where
+  handle : rowHandle A i ≡ ofRow kind (i + 1) x y
+  next : nextRow A i ≡ cond (ltb kind 6) (i + 1) y
+  label : rowLabel A i ≡ Name (name .start) (name .size)
+
+record Short (name : Label) : Type 0 where
+  start-short : name .start ≤ maxTextBytes
+  size-short : name .size ≤ maxTextBytes
+
+unnamed-short : Short unnamed
+unnamed-short = record { start-short = omega arith; size-short = omega arith }
+
+row-word : (n : ℕ) → n ≤ maxValues → n < 4294967296
+row-word n h = let l = values-small h in omega arith
+
+row-stands : {A : Bytes} {i : ℕ} (kind : ℕ) (name : Label) (x y : ℕ) → Stands A (i * rowBytes) (row kind name x y) → Short name
+    → kind < 256 → x < 4294967296 → y < 4294967296 → Row A i kind name x y
+unfolding rowBytes row word rowHandle nextRow rowLabel
+row-stands {A} {i} kind name x y s n k p q =
+    let first = kind + 256 * name .size in
+    let others = word (name .start) ++ (word x ++ word y) in
+    let s₁ = back (word first) others s in
+    let s₂ = back (word (name .start)) (word x ++ word y) s₁ in
+    let s₃ = back (word x) (word y) s₂ in
+    let size = text-small (n .size-short) in
+    let start = text-small (n .start-short) in
+    let e₂ : i * 16 + 4 + 4 ≡ i * 16 + 8 = omega arith in
+    let e₃ : i * 16 + 4 + 4 + 4 ≡ i * 16 + 12 = omega arith in
+    let w₀ : wordAt A (i * 16) ≡ first = word-stands first (front (word first) others s) (omega arith) in
+    let w₁ : wordAt A (i * 16 + 4) ≡ name .start = word-stands (name .start) (front (word (name .start)) (word x ++ word y) s₁) (omega arith) in
+    let w₂ : wordAt A (i * 16 + 8) ≡ x = rw e₂ at (word-stands x (front (word x) (word y) s₂) p) in
+    let w₃ : wordAt A (i * 16 + 12) ≡ y = rw e₃ at (word-stands y s₃ q) in
+    let l : ltb i (length A / 16) ≡ true = lt-ltb i (length A / 16) (omega arith) in
+    record {
+      handle = rw (l, w₀, kind-below kind (name .size) k, w₂, w₃);
+      next = rw (l, w₀, kind-below kind (name .size) k, w₃);
+      label = rw (l, w₀, w₁, size-above kind (name .size) k);
+    }
+
+-- The rows behind n rows.
+behind : {A : Bytes} (i n : ℕ) (xs ys : Bytes) → Stands A (i * rowBytes) (xs ++ ys) → length xs ≡ n * rowBytes → Stands A ((i + n) * rowBytes) ys
+unfolding rowBytes
+behind {A} i n xs ys s e =
+    let p : i * 16 + length xs ≡ (i + n) * 16 = omega arith in
+    subst (λ (at : ℕ). Stands A at ys) p (back xs ys s)
+
+-- ---- counts
+items-few : (vs : Values) → itemCount vs ≤ itemsCount vs
+unfolding itemCount itemsCount
+items-few no-items = omega arith
+items-few (item v vs) = omega (arith, count-positive v, items-few vs)
+
+members-few : (ms : Members) → memberCount ms ≤ membersCount ms
+unfolding membersCount
+members-few no-members = omega arith
+members-few (member n v ms) = omega (arith, count-positive v, members-few ms)
+
+-- ---- values
+module _ (a : Areas) where
+  -- What stands in a row.
+  record Stored (v : Value) (i : ℕ) (name : Label) : Type 0 where
+    means : Means a 0 v (rowHandle (a .table) i)
+    next : nextRow (a .table) i ≡ i + valueCount v
+    label : rowLabel (a .table) i ≡ Name (name .start) (name .size)
+
+  scalar-read : (x : Scalar) (i used : ℕ) (name : Label) → T (bounded (scalar x)) → used + length (stringsOf (scalar x)) ≤ maxTextBytes → Short name
+      → Stands (a .table) (i * rowBytes) (scalarRow x used name) → Stands (a .strings) used (stringsOf (scalar x)) → Stored (scalar x) i name
+  unfolding bounded valueCount stringsOf scalarRow
+  scalar-read null i used name w f n s b =
+      let r = row-stands 1 name 0 0 s n (omega arith) (omega arith) (omega arith) in
+      record { means = rw (r .handle) means-null; next = r .next; label = r .label }
+  scalar-read (boolean false) i used name w f n s b =
+      let r = row-stands 2 name 0 0 s n (omega arith) (omega arith) (omega arith) in
+      record { means = rw (r .handle) means-false; next = r .next; label = r .label }
+  scalar-read (boolean true) i used name w f n s b =
+      let r = row-stands 3 name 0 0 s n (omega arith) (omega arith) (omega arith) in
+      record { means = rw (r .handle) means-true; next = r .next; label = r .label }
+  scalar-read (integer z) i used name w f n s b =
+      let l = biased-small z w in
+      let r = row-stands 4 name (biased z % 4294967296) (biased z / 4294967296) s n (omega arith) (omega arith) (omega arith) in
+      let e : biased z % 4294967296 + biased z / 4294967296 * 4294967296 ≡ biased z = omega arith in
+      record { means = rw (r .handle) (means-integer w e); next = r .next; label = r .label }
+  scalar-read (string t) i used name w f n s b =
+      let l = text-small f in
+      let r = row-stands 5 name used (length t) s n (omega arith) (omega arith) (omega arith) in
+      record {
+        means = rw (r .handle) (means-string (record { is = part-stands t b; inside = b .inside; short = f }));
+        next = r .next;
+        label = r .label;
+      }
+
+  mutual
+    unfolding bounded instantFree valueCount stringsOf rowsOf
+
+    value-read : (v : Value) (i used : ℕ) (name : Label) → T (bounded v) → T (instantFree v) → i + valueCount v ≤ maxValues → used + length (stringsOf v) ≤ maxTextBytes → Short name
+        → Stands (a .table) (i * rowBytes) (rowsOf v i used name) → Stands (a .strings) used (stringsOf v) → Stored v i name
+    value-read (scalar x) i used name w c k f n s b = scalar-read x i used name w f n s b
+    value-read (instant t) i used name w c k f n s b = absurd c
+    value-read (array vs) i used name w c k f n s b =
+        let x = itemCount vs in
+        let y = i + 1 + itemsCount vs in
+        let rows = itemRows vs (i + 1) used in
+        let l = items-few vs in
+        let r = row-stands {i = i} 6 name x y (front (row 6 name x y) rows s) n (omega arith) (row-word x (omega arith)) (row-word y (omega arith)) in
+        let items = items-read vs (i + 1) used w c (omega arith) f (behind i 1 (row 6 name x y) rows s (omega (arith, length-row 6 name x y))) b in
+        record { means = rw (r .handle) (means-items {vs = vs} refl (omega arith) items); next = r .next ∙ omega arith; label = r .label }
+    value-read (object ms) i used name w c k f n s b =
+        let x = memberCount ms in
+        let y = i + 1 + membersCount ms in
+        let rows = memberRows ms (i + 1) used in
+        let l = members-few ms in
+        let r = row-stands {i = i} 7 name x y (front (row 7 name x y) rows s) n (omega arith) (row-word x (omega arith)) (row-word y (omega arith)) in
+        let members = members-read ms (i + 1) used w c (omega arith) f (behind i 1 (row 7 name x y) rows s (omega (arith, length-row 7 name x y))) b in
+        record { means = rw (r .handle) (means-members {ms = ms} refl (omega arith) members); next = r .next ∙ omega arith; label = r .label }
+
+    items-read : (vs : Values) (i used : ℕ) → T (boundedItems vs) → T (instantFreeItems vs) → i + itemsCount vs ≤ maxValues → used + length (itemStrings vs) ≤ maxTextBytes
+        → Stands (a .table) (i * rowBytes) (itemRows vs i used) → Stands (a .strings) used (itemStrings vs) → RowItems a i vs
+    items-read no-items i used w c k f s b = no-row-items {row = i} (omega arith)
+    items-read (item v vs) i used w c k f s b =
+        let rows = rowsOf v i used unnamed in
+        let others = itemRows vs (i + valueCount v) (used + length (stringsOf v)) in
+        let l = length-append (stringsOf v) (itemStrings vs) in
+        let r = value-read v i used unnamed (and-l (bounded v) _ w) (and-l (instantFree v) _ c) (omega arith) (omega arith) unnamed-short
+        (front rows others s) (front (stringsOf v) (itemStrings vs) b) in
+        row-item {row = i} {vs = vs} (omega arith) (r .means)
+        (rw (r .next)
+        (items-read vs (i + valueCount v) (used + length (stringsOf v)) (and-r (bounded v) _ w) (and-r (instantFree v) _ c) (omega arith) (omega arith)
+        (behind i (valueCount v) rows others s (length-rows v i used unnamed)) (back (stringsOf v) (itemStrings vs) b)))
+
+    members-read : (ms : Members) (i used : ℕ) → T (boundedMembers ms) → T (instantFreeMembers ms) → i + membersCount ms ≤ maxValues → used + length (memberStrings ms) ≤ maxTextBytes
+        → Stands (a .table) (i * rowBytes) (memberRows ms i used) → Stands (a .strings) used (memberStrings ms) → RowMembers a i ms
+    members-read no-members i used w c k f s b = no-row-members {row = i} (omega arith)
+    members-read (member n v ms) i used w c k f s b =
+        let name : Label = record { start = used; size = length n } in
+        let rows = rowsOf v i (used + length n) name in
+        let others = memberRows ms (i + valueCount v) (used + length n + length (stringsOf v)) in
+        let l = length-append n (stringsOf v ++ memberStrings ms) in
+        let l′ = length-append (stringsOf v) (memberStrings ms) in
+        let b′ = back n (stringsOf v ++ memberStrings ms) b in
+        let r = value-read v i (used + length n) name (and-l (bounded v) _ w) (and-l (instantFree v) _ c) (omega arith) (omega arith) (record { start-short = omega arith; size-short = omega arith })
+        (front rows others s) (front (stringsOf v) (memberStrings ms) b′) in
+        row-member {row = i} {n = n} {ms = ms} (omega arith) (rw (r .label) (part-stands n (front n (stringsOf v ++ memberStrings ms) b))) (r .means)
+        (rw (r .next)
+        (members-read ms (i + valueCount v) (used + length n + length (stringsOf v)) (and-r (bounded v) _ w) (and-r (instantFree v) _ c) (omega arith) (omega arith)
+        (behind i (valueCount v) rows others s (length-rows v i (used + length n) name)) (back (stringsOf v) (memberStrings ms) b′)))
+
+-- ---- the areas
+starts : (A bs : Bytes) (n : ℕ) → A ≡ padded n bs → Stands A 0 bs
+unfolding padded
+starts A bs n e =
+    record { rest = replicate (n - length bs) 0; is = e; inside = omega (arith, ap length e, length-append bs (replicate (n - length bs) 0)) }
+
+read-means : (v : Value) (a : Areas) (n m : ℕ) → WellFormedValue v → valueCount v ≤ maxValues → length (stringsOf v) ≤ maxTextBytes
+    → a .table ≡ tableOf v n → a .strings ≡ stringsAreaOf v m → Means a 0 v (rowHandle (a .table) 0)
+unfolding rowBytes
+read-means v a n m w k f t s =
+    value-read a v 0 0 unnamed (w .within-limits) (w .no-instants) (omega arith) (omega arith) unnamed-short
+    (starts (a .table) (rowsOf v 0 0 unnamed) n t) (starts (a .strings) (stringsOf v) m s) .means
+
+-- So it is of any text that reads.
+pub text-means : (s : Bytes) (v : Value) (a : Areas) (n m : ℕ) → read s ≡ done v → a .table ≡ tableOf v n → a .strings ≡ stringsAreaOf v m → Means a 0 v (rowHandle (a .table) 0)
+text-means s v a n m e = read-means v a n m (read-well-formed s v e) (sound s v e .0 .few) (strings-small s v e)

@@ -1,0 +1,140 @@
+// Cells: a handle in eight bytes of the heap.
+use crate::handle::Area;
+use crate::handle::Form;
+use crate::handle::Handle;
+use crate::handle::compound;
+use crate::handle::string;
+use area::get_word;
+use area::put_word;
+ghost use mathlib.Core.Path.{_≡_};
+ghost use Prim.Native.Nat.{_+_, _*_, _<_};
+ghost use Rattle.heap.specs.Cells.{Packs, spanTag, partsTag, packedOf, ofPacked, cellHandle, stored};
+
+pub const CELL_BYTES: usize = 8;
+
+// A handle as three numbers: its tag, a number of 32 bits and one of 24.
+pub struct Packed {
+    pub tag: usize,
+    pub low: usize,
+    pub high: usize,
+}
+
+fn numbers(tag: usize, low: usize, high: usize) -> Packed
+    ensures { λ r. ⌜ r ≡ record { tag = tag; low = low; high = high } ⌝ }
+{
+    Packed { tag, low, high }
+}
+
+fn span_tag(area: Area) -> usize
+    ensures { λ r. ⌜ (r ≡ spanTag area) × (r < 16) ⌝ }
+{
+    match area {
+        Area::Rule => 5,
+        Area::Record => 6,
+    }
+}
+
+fn parts_tag(form: Form) -> usize
+    ensures { λ r. ⌜ (r ≡ partsTag form) × (r < 16) ⌝ }
+{
+    match form {
+        Form::Items => 7,
+        Form::Members => 8,
+        Form::List => 9,
+        Form::Context => 10,
+    }
+}
+
+fn pack(h: Handle) -> Packed
+    ensures { λ r. ⌜ r ≡ packedOf h ⌝ }
+{
+    match h {
+        Handle::Null => numbers(0, 0, 0),
+        Handle::False => numbers(1, 0, 0),
+        Handle::True => numbers(2, 0, 0),
+        Handle::Integer(n) => numbers(3, (n % 4294967296) as usize, (n / 4294967296) as usize),
+        Handle::Instant(n) => numbers(4, (n % 4294967296) as usize, (n / 4294967296) as usize),
+        Handle::String(s) => {
+            let area = s.area;
+            numbers(span_tag(area), s.start, s.size)
+        }
+        Handle::Compound(p) => {
+            let form = p.form;
+            numbers(parts_tag(form), p.first, p.count)
+        }
+    }
+}
+
+// The number of 64 bits with these halves.
+fn joined(low: usize, high: usize) -> u64
+    requires { ⌜ (low < 4294967296) × (high < 4294967296) ⌝ }
+    ensures { λ r. ⌜ r ≡ low + high * 4294967296 ⌝ }
+{
+    low as u64 + high as u64 * 4294967296
+}
+
+fn unpack(p: Packed) -> Handle
+    requires { ⌜ Packs p ⌝ }
+    ensures { λ r. ⌜ r ≡ ofPacked p ⌝ }
+{
+    let tag = p.tag;
+    let low = p.low;
+    let high = p.high;
+    if tag == 1 {
+        return Handle::False;
+    }
+    if tag == 2 {
+        return Handle::True;
+    }
+    if tag == 3 {
+        return Handle::Integer(joined(low, high));
+    }
+    if tag == 4 {
+        return Handle::Instant(joined(low, high));
+    }
+    if tag == 5 {
+        return string(Area::Rule, low, high);
+    }
+    if tag == 6 {
+        return string(Area::Record, low, high);
+    }
+    if tag == 7 {
+        return compound(Form::Items, low, high);
+    }
+    if tag == 8 {
+        return compound(Form::Members, low, high);
+    }
+    if tag == 9 {
+        return compound(Form::List, low, high);
+    }
+    if tag == 10 {
+        return compound(Form::Context, low, high);
+    }
+    Handle::Null
+}
+
+// The handle in a cell; null where there is no such cell.
+pub fn get(cells: &[u8], cell: usize) -> Handle
+    ensures { λ r. ⌜ r ≡ cellHandle (now (cells .entry)) cell ⌝ }
+{
+    if cell >= cells.len() / CELL_BYTES {
+        return Handle::Null;
+    }
+    let at = cell * CELL_BYTES;
+    let low = get_word(cells, at);
+    let high = get_word(cells, at + 4);
+    unpack(numbers(high / 16777216, low, high % 16777216))
+}
+
+// A handle into a cell; nothing where there is no such cell.
+pub fn put(cells: &mut [u8], cell: usize, h: Handle)
+    ensures { λ _. ⌜ now (cells .exit) ≡ stored (now (cells .entry)) cell h ⌝ }
+{
+    if cell >= cells.len() / CELL_BYTES {
+        return;
+    }
+    let at = cell * CELL_BYTES;
+    let p = pack(h);
+    put_word(cells, at, p.low);
+    put_word(cells, at + 4, p.high % 16777216 + p.tag * 16777216);
+}
