@@ -207,14 +207,10 @@ void add_hostile_texts()
 
 int main(int argc, char **argv)
 {
-    if (argc < 2) {
-        std::fprintf(stderr, "usage: %s FOLDER [ROUNDS]\n", argv[0]);
-        return 2;
-    }
-    std::string folder = argv[1];
-    int rounds = argc > 2 ? std::atoi(argv[2]) : 200;
-    add("record-300.json", content_of(folder + "/record-300.json"));
-    add("record-15k.json", content_of(folder + "/record-15k.json"));
+    Arguments given(argc, argv);
+    int rounds = given.rounds;
+    add("record-300.json", given.record("record-300.json"));
+    add("record-15k.json", given.record("record-15k.json"));
     add("the text 0", "0");
     add_hostile_texts();
     Measurement clearing = reading(clear_only, "");

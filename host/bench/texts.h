@@ -1,4 +1,4 @@
-// Texts that are read or written.
+// Texts that are read or written, and where they come from.
 #ifndef TEXTS_H
 #define TEXTS_H
 
@@ -25,5 +25,23 @@ inline std::string content_of(const std::string &path)
     }
     return std::string(std::istreambuf_iterator<char>(file), std::istreambuf_iterator<char>());
 }
+
+// What a benchmark is run with: the folder of the records, and how many rounds.
+struct Arguments {
+    std::string folder;
+    int rounds;
+
+    Arguments(int argc, char **argv)
+    {
+        if (argc < 2) {
+            std::fprintf(stderr, "usage: %s FOLDER [ROUNDS]\n", argv[0]);
+            std::exit(2);
+        }
+        folder = argv[1];
+        rounds = argc > 2 ? std::atoi(argv[2]) : 200;
+    }
+
+    std::string record(const char *name) const { return content_of(folder + "/" + name); }
+};
 
 #endif

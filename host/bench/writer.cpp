@@ -231,14 +231,10 @@ bool prepare(Line &line)
 
 int main(int argc, char **argv)
 {
-    if (argc < 2) {
-        std::fprintf(stderr, "usage: %s FOLDER [ROUNDS]\n", argv[0]);
-        return 2;
-    }
-    std::string folder = argv[1];
-    int rounds = argc > 2 ? std::atoi(argv[2]) : 200;
-    add("record-300.json", content_of(folder + "/record-300.json"));
-    add("record-15k.json", content_of(folder + "/record-15k.json"));
+    Arguments given(argc, argv);
+    int rounds = given.rounds;
+    add("record-300.json", given.record("record-300.json"));
+    add("record-15k.json", given.record("record-15k.json"));
     add("a string of 15,000 bytes", "\"" + repeated("x", 15000) + "\"");
     add("2,700 control characters", "\"" + repeated("\\u0001", 2700) + "\"");
     add("960 integers of 16 digits", "[" + repeated("1234567890123456,", 959) + "1234567890123456]");

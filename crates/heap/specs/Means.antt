@@ -10,7 +10,7 @@ use Rattle.model.specs.Eval.{context}
 use Rattle.model.specs.Instant.{inRange, sinceYear0}
 use Rattle.model.specs.Limits.{maxTextBytes, maxValues}
 use Rattle.model.specs.Value.{Value, scalar, instant, array, object, null, boolean, integer, string, Values, no-items, item, Members as ValueMembers, no-members, member, memberCount, withinLimits}
-use Rattle.syntax.specs.Layout.{biased, itemCount}
+use Rattle.syntax.specs.Layout.{biased, itemCount, rowBytes}
 use Rattle.heap.specs.declared.handle.Handle.{Handle}
 use Rattle.heap.specs.declared.handle.Handle.the-variants.{Null, False, True, Integer, Instant, String, Compound}
 use Rattle.heap.specs.declared.handle.Area.{Area}
@@ -27,7 +27,7 @@ pub record Lies (A : Bytes) (start size : ℕ) (s : Bytes) : Type 0 where
   pub inside : start + size ≤ length A
   pub short : start + size ≤ maxTextBytes
 
--- Every cell that a handle refers to is one of the heap's and lies below `top`, and what stands in a cell refers to older cells only: so the
+-- Every row that a handle refers to is one of the table's, every cell one of the heap's and below `top`; what stands in a cell refers to older cells only: so the
 -- meaning of a handle is kept while the heap grows, and a value is never part of itself.
 mutual
   pub data Means (a : Areas) : ℕ → Value → Handle → Type 0 where
@@ -45,11 +45,11 @@ mutual
   -- The items of a read array, from a row on. A row refers to no cell.
   pub data RowItems (a : Areas) : ℕ → Values → Type 0 where
     no-row-items : {row : ℕ} → row ≤ maxValues → RowItems a row no-items
-    row-item : {row : ℕ} {v : Value} {vs : Values} → row ≤ maxValues → Means a 0 v (rowHandle (a .table) row) → RowItems a (nextRow (a .table) row) vs → RowItems a row (item v vs)
+    row-item : {row : ℕ} {v : Value} {vs : Values} → row ≤ maxValues → row < length (a .table) / rowBytes → Means a 0 v (rowHandle (a .table) row) → RowItems a (nextRow (a .table) row) vs → RowItems a row (item v vs)
 
   pub data RowMembers (a : Areas) : ℕ → ValueMembers → Type 0 where
     no-row-members : {row : ℕ} → row ≤ maxValues → RowMembers a row no-members
-    row-member : {row : ℕ} {n : Bytes} {v : Value} {ms : ValueMembers} → row ≤ maxValues → n ≡ labelBytes (a .strings) (rowLabel (a .table) row) → Means a 0 v (rowHandle (a .table) row)
+    row-member : {row : ℕ} {n : Bytes} {v : Value} {ms : ValueMembers} → row ≤ maxValues → row < length (a .table) / rowBytes → n ≡ labelBytes (a .strings) (rowLabel (a .table) row) → Means a 0 v (rowHandle (a .table) row)
         → RowMembers a (nextRow (a .table) row) ms → RowMembers a row (member n v ms)
 
   -- The items of a computed list, from a cell on.

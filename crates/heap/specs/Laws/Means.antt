@@ -60,9 +60,9 @@ module _ {a : Areas} (C : Bytes) (longer : length (a .cells) ≤ length C) where
             (rw (g cell (omega arith)) at (k (λ j l. g j (omega arith))))
             (rw (g (suc cell) (omega arith)) at (l (λ j l. g j (omega arith))))
         | no-row-items b ↦ no-row-items b
-        | row-item b (m → k) (r → ks) ↦ row-item b (k (λ j l. absurd (omega arith))) ks
+        | row-item b t (m → k) (r → ks) ↦ row-item b t (k (λ j l. absurd (omega arith))) ks
         | no-row-members b ↦ no-row-members b
-        | row-member b e (m → k) (r → ks) ↦ row-member b e (k (λ j l. absurd (omega arith))) ks
+        | row-member b t e (m → k) (r → ks) ↦ row-member b t e (k (λ j l. absurd (omega arith))) ks
         | no-cell-items ↦ λ g. no-cell-items
         | cell-item {cell = cell} i (m → k) (r → ks) ↦ λ g.
             cell-item {cell = cell} (omega arith) (rw (g cell (omega arith)) at (k (λ j l. g j (omega arith)))) (ks (λ j l. g j (omega arith)))
@@ -126,9 +126,9 @@ module _ {a : Areas} where
           | suc deep ↦ λ n. rw (k deep (omega arith), next-cell (a .cells) cell (omega arith), l deep (omega arith))
         ]
         | no-row-items b ↦ λ count deep n. refl
-        | row-item b (m → k) (r → ks) ↦ λ count deep n. ap₂ item (k deep (omega arith)) (ks (count - 1) deep (omega arith))
+        | row-item b t (m → k) (r → ks) ↦ λ count deep n. ap₂ item (k deep (omega arith)) (ks (count - 1) deep (omega arith))
         | no-row-members b ↦ λ count deep n. refl
-        | row-member b e (m → k) (r → ks) ↦ λ count deep n.
+        | row-member b t e (m → k) (r → ks) ↦ λ count deep n.
             let y = k deep (omega arith) in
             let z = ks (count - 1) deep (omega arith) in
             λ i. member (sym e i) (y i) (z i)
@@ -177,9 +177,9 @@ module _ {a : Areas} where
               (omega arith)))
         ]
         | no-row-items b ↦ λ count deep n. n
-        | row-item {v = v} {vs = vs} b (m → k) (r → ks) ↦ λ count deep n. deeper-max deep (nesting v) (itemsNesting vs) _ _ (k deep) (ks (count - 1) deep) n
+        | row-item {v = v} {vs = vs} b t (m → k) (r → ks) ↦ λ count deep n. deeper-max deep (nesting v) (itemsNesting vs) _ _ (k deep) (ks (count - 1) deep) n
         | no-row-members b ↦ λ count deep n. n
-        | row-member {v = v} {ms = ms} b e (m → k) (r → ks) ↦ λ count deep n. deeper-max deep (nesting v) (membersNesting ms) _ _ (k deep) (ks (count - 1) deep) n
+        | row-member {v = v} {ms = ms} b t e (m → k) (r → ks) ↦ λ count deep n. deeper-max deep (nesting v) (membersNesting ms) _ _ (k deep) (ks (count - 1) deep) n
         | no-cell-items ↦ λ count deep n. n
         | cell-item {cell = cell} {v = v} {vs = vs} i (m → k) (r → ks) ↦ λ count deep n.
             rw (next-cell (a .cells) cell i) (deeper-max deep (nesting v) (itemsNesting vs) _ _ (k deep) (ks (count - 1) deep) n)
@@ -197,11 +197,11 @@ means-written {a} {top} {v} {h} m room = go (decLt maxNesting (nesting v))
 -- ---- what a cell can hold
 items-row : {a : Areas} {row : ℕ} {vs : Values} → RowItems a row vs → row ≤ maxValues
 items-row (no-row-items b) = b
-items-row (row-item b m r) = b
+items-row (row-item b t m r) = b
 
 members-row : {a : Areas} {row : ℕ} {ms : Members} → RowMembers a row ms → row ≤ maxValues
 members-row (no-row-members b) = b
-members-row (row-member b e m r) = b
+members-row (row-member b t e m r) = b
 
 pub means-small : {a : Areas} {top : ℕ} {v : Value} {h : Handle} → Means a top v h → top ≤ heapCells → Packs (packedOf h)
 means-small means-null l = omega arith
@@ -227,7 +227,7 @@ array-count (means-list e b r) = e
 
 pub array-parts : {a : Areas} {top : ℕ} {v : Value} {vs : Values} {p : Parts} → Means a top (array (item v vs)) (variants.Compound p) → ArrayParts a top v vs p
 unfolding itemCount
-array-parts {vs = vs} (means-items {count = count} e f (row-item b m r)) = record { head = raised m (omega arith); rest = means-items {vs = vs} {count = count - 1} (omega arith) (omega arith) r }
+array-parts {vs = vs} (means-items {count = count} e f (row-item b t m r)) = record { head = raised m (omega arith); rest = means-items {vs = vs} {count = count - 1} (omega arith) (omega arith) r }
 array-parts {a} {top} {vs = vs} (means-list {cell = cell} {count = count} e b (cell-item i m r)) = record {
   head = raised m (omega arith);
   rest = rw (next-cell (a .cells) cell i) (means-list {top = top} {vs = vs} {cell = suc cell} {count = count - 1} (omega arith) (omega arith) r);
@@ -244,7 +244,7 @@ object-count (means-members e f r) = e
 object-count (means-context b i m n) = refl
 
 pub object-parts : {a : Areas} {top : ℕ} {n : Bytes} {v : Value} {ms : Members} {p : Parts} → Means a top (object (member n v ms)) (variants.Compound p) → p .form ≡ forms.Members → ObjectParts a top n v ms p
-object-parts {ms = ms} (means-members {count = count} e f (row-member b w m r)) q = record { name = w; head = raised m (omega arith); rest = means-members {ms = ms} {count = count - 1} (omega arith) (omega arith) r }
+object-parts {ms = ms} (means-members {count = count} e f (row-member b t w m r)) q = record { name = w; head = raised m (omega arith); rest = means-members {ms = ms} {count = count - 1} (omega arith) (omega arith) r }
 object-parts (means-context b i m n) q = absurd (let z : _≡_ {A = ℕ} 0 1 = cc in omega arith)
 
 -- The two parts of a context.

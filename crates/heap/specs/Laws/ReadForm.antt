@@ -103,6 +103,11 @@ behind {A} i n xs ys s e =
     let p : i * 16 + length xs ≡ (i + n) * 16 = omega arith in
     subst (λ (at : ℕ). Stands A at ys) p (back xs ys s)
 
+-- The first of some rows is one of the table's.
+there : {A : Bytes} (i n : ℕ) (xs ys : Bytes) → Stands A (i * rowBytes) (xs ++ ys) → length xs ≡ n * rowBytes → 0 < n → i < length A / rowBytes
+unfolding rowBytes
+there i n xs ys s e k = omega (arith, s .inside, length-append xs ys)
+
 -- ---- counts
 items-few : (vs : Values) → itemCount vs ≤ itemsCount vs
 unfolding itemCount itemsCount
@@ -181,7 +186,7 @@ module _ (a : Areas) where
         let l = length-append (stringsOf v) (itemStrings vs) in
         let r = value-read v i used unnamed (and-l (bounded v) _ w) (and-l (instantFree v) _ c) (omega arith) (omega arith) unnamed-short
         (front rows others s) (front (stringsOf v) (itemStrings vs) b) in
-        row-item {row = i} {vs = vs} (omega arith) (r .means)
+        row-item {row = i} {vs = vs} (omega arith) (there i (valueCount v) rows others s (length-rows v i used unnamed) (count-positive v)) (r .means)
         (rw (r .next)
         (items-read vs (i + valueCount v) (used + length (stringsOf v)) (and-r (bounded v) _ w) (and-r (instantFree v) _ c) (omega arith) (omega arith)
         (behind i (valueCount v) rows others s (length-rows v i used unnamed)) (back (stringsOf v) (itemStrings vs) b)))
@@ -198,7 +203,7 @@ module _ (a : Areas) where
         let b′ = back n (stringsOf v ++ memberStrings ms) b in
         let r = value-read v i (used + length n) name (and-l (bounded v) _ w) (and-l (instantFree v) _ c) (omega arith) (omega arith) (record { start-short = omega arith; size-short = omega arith })
         (front rows others s) (front (stringsOf v) (memberStrings ms) b′) in
-        row-member {row = i} {n = n} {ms = ms} (omega arith) (rw (r .label) (part-stands n (front n (stringsOf v ++ memberStrings ms) b))) (r .means)
+        row-member {row = i} {n = n} {ms = ms} (omega arith) (there i (valueCount v) rows others s (length-rows v i (used + length n) name) (count-positive v)) (rw (r .label) (part-stands n (front n (stringsOf v ++ memberStrings ms) b))) (r .means)
         (rw (r .next)
         (members-read ms (i + valueCount v) (used + length n + length (stringsOf v)) (and-r (bounded v) _ w) (and-r (instantFree v) _ c) (omega arith) (omega arith)
         (behind i (valueCount v) rows others s (length-rows v i (used + length n) name)) (back (stringsOf v) (memberStrings ms) b′)))
