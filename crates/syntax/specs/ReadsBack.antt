@@ -9,14 +9,16 @@ use Rattle.model.specs.Rule.{Rule}
 use Rattle.model.specs.Shape.{shape}
 use Rattle.model.specs.Textual.{textual}
 use Rattle.model.specs.Value.{Value, instantFree}
+use Rattle.model.specs.Writing.{valueText}
 use Rattle.syntax.specs.Read.{done, read}
 
--- The text t is that of the value in which the rule, evaluated on the record, ends: it reads as this value, with the text of each date-time in its place,
+-- The text t is that of the value in which the rule, evaluated on the record, ends; it reads as this value, with the text of each date-time in its place,
 -- and so as the value itself where it holds none.
 pub record ReadsBack (rule record′ : Value) (limit : ℕ) (t : Bytes) : Type 0 where
   pub r : Rule
   pub is-rule : shape rule ≡ some r
   pub v : Value
   pub ends : outcome (run r record′ limit) ≡ value v
+  pub is-text : t ≡ valueText v
   pub reads : read t ≡ done (textual v)
   pub reads-back : T (instantFree v) → read t ≡ done v

@@ -19,7 +19,7 @@ use Rattle.syntax.specs.Read.{done}
 use Rattle.syntax.specs.ReadsBack.{ReadsBack}
 use Rattle.syntax.specs.WellFormed.{WellFormedValue}
 use Rattle.syntax.specs.Laws.Answers.{answer-well-formed}
-use Rattle.syntax.specs.Laws.RoundTrip.{output-reads}
+use Rattle.syntax.specs.Laws.RoundTrip.{output-text, output-reads}
 
 -- What a check passes is the rule.
 checked-rule : (rule sheet : Value) (c : Checked) → checked rule sheet ≡ Judged.done c → shape rule ≡ some (c .rule)
@@ -41,7 +41,7 @@ module _ (rule record′ : Value) (limit room : ℕ) (t : Bytes) (rule-formed : 
       go : (o : Outcome) → outcome (run r record′ limit) ≡ o → written room o ≡ Judged.done t → ReadsBack rule record′ limit t
       go (value v) ends w =
           let reads = output-reads room v t (answer-well-formed rule record′ r limit v rule-formed record-formed is-rule ends) w in
-          record { r = r; is-rule = is-rule; v = v; ends = ends; reads = reads; reads-back = λ free. reads ∙ ap done (textual-same v free) }
+          record { r = r; is-rule = is-rule; v = v; ends = ends; is-text = output-text room v t w; reads = reads; reads-back = λ free. reads ∙ ap done (textual-same v free) }
       go (refusal x) ends w = absurd (let z : _≡_ {A = ℕ} 0 1 = cc in omega arith)
 
   pub evaluate-reads : judgeEvaluate rule record′ limit room .result ≡ Judged.done t → ReadsBack rule record′ limit t

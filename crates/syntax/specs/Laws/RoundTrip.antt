@@ -2,6 +2,7 @@
 use mathlib.Core.Path.{_≡_, refl, sym, subst, ap, _∙_}
 use mathlib.Core.Bool.{Bool, true, false, _||_, cond}
 use Prim.Native.Nat.{ℕ, _≤_}
+use native.Mathlib.Omega.{arith}
 use borrow.Author.Tests.{ltb-false}
 use lib.Dec.{ltb}
 use lib.ListN.{length}
@@ -39,11 +40,19 @@ reads-back v h e =
 pub answer-reads : (v : Value) → WellFormedAnswer v → isTooLarge v ≡ false → read (valueText v) ≡ done (textual v)
 answer-reads v h e = ap read (sym (textual-text v)) ∙ reads-back (textual v) (textual-well-formed v h) (textual-too-large v ∙ e)
 
--- The same of what is written to an output area.
-pub output-reads : (room : ℕ) (v : Value) (t : Bytes) → WellFormedAnswer v → writtenWithin room v ≡ Judged.done t → read t ≡ done (textual v)
-output-reads room v t h e = go (isTooLarge v) refl (ltb room (length (valueText v))) e
+-- What is written to an output area is the text of a value that is not too large,
+written-text : (room : ℕ) (v : Value) (t : Bytes) → writtenWithin room v ≡ Judged.done t → (isTooLarge v ≡ false) × (t ≡ valueText v)
+written-text room v t e = go (isTooLarge v) refl (ltb room (length (valueText v))) e
   where
-    go : (large : Bool) → isTooLarge v ≡ large → (short : Bool) → cond large (refuses answerTooLarge) (cond short (refuses outputTooShort) (Judged.done (valueText v))) ≡ Judged.done t → read t ≡ done (textual v)
-    go true i short e = cc
-    go false i true e = cc
-    go false i false e = let is : valueText v ≡ t = cc in subst (λ s. read s ≡ done (textual v)) is (answer-reads v h i)
+    go : (large : Bool) → isTooLarge v ≡ large → (short : Bool) → cond large (refuses answerTooLarge) (cond short (refuses outputTooShort) (Judged.done (valueText v))) ≡ Judged.done t
+        → (isTooLarge v ≡ false) × (t ≡ valueText v)
+    go true i short e = absurd (let z : _≡_ {A = ℕ} 0 1 = cc in omega arith)
+    go false i true e = absurd (let z : _≡_ {A = ℕ} 0 1 = cc in omega arith)
+    go false i false e = (i, cc)
+
+pub output-text : (room : ℕ) (v : Value) (t : Bytes) → writtenWithin room v ≡ Judged.done t → t ≡ valueText v
+output-text room v t e = written-text room v t e .1
+
+-- and reads so too.
+pub output-reads : (room : ℕ) (v : Value) (t : Bytes) → WellFormedAnswer v → writtenWithin room v ≡ Judged.done t → read t ≡ done (textual v)
+output-reads room v t h e = let w = written-text room v t e in ap read (w .1) ∙ answer-reads v h (w .0)
