@@ -2,4 +2,5 @@
 pub mod Cells
 pub mod Numbers
 pub mod Means
+pub mod Made
 pub mod ReadForm

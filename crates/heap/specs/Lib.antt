@@ -5,5 +5,6 @@ pub mod Strings
 pub mod Parts
 pub mod Unfold
 pub mod Means
+pub mod Blocks
 pub mod Main
 pub mod Laws

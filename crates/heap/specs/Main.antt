@@ -1,7 +1,8 @@
 -- Main: the theorems of handles, restated with nothing else; the proofs are in Laws.
 -- `Means a top v h`: in the areas a the handle h means the value v, and refers to cells below `top` only.
+use mathlib.Core.List.{List}
 use mathlib.Core.Path.{_≡_}
-use Prim.Native.Nat.{ℕ, suc, _/_, _≤_, _<_}
+use Prim.Native.Nat.{ℕ, suc, _+_, _/_, _≤_, _<_}
 use lib.ListN.{length}
 use Rattle.model.specs.Bytes.{Bytes}
 use Rattle.model.specs.Eval.{context}
@@ -12,14 +13,17 @@ use Rattle.syntax.specs.Layout.{itemCount, stringsAreaOf, tableOf}
 use Rattle.syntax.specs.Read.{done, read}
 use Rattle.heap.specs.declared.handle.Handle.{Handle}
 use Rattle.heap.specs.declared.handle.Handle.the-variants.{Compound}
+use Rattle.heap.specs.declared.handle.Form.the-variants as forms
 use Rattle.heap.specs.declared.handle.Form.the-variants.{Members, Context}
 use Rattle.heap.specs.declared.handle.Parts.{Parts}
+use Rattle.heap.specs.Blocks.{storedFrom, MeansEach}
 use Rattle.heap.specs.Cells.{cellBytes, Small, cellHandle, stored}
 use Rattle.heap.specs.Handles.{parts, rowHandle}
 use Rattle.heap.specs.Means.{Means}
 use Rattle.heap.specs.Parts.{headOf, tailOf, labelOf, labelBytes}
-use Rattle.heap.specs.Unfold.{Areas, areas, unfolded}
+use Rattle.heap.specs.Unfold.{Areas, areas, withCells, unfolded}
 use Rattle.heap.specs.Laws.Cells as CellsLaws
+use Rattle.heap.specs.Laws.Made as MadeLaws
 use Rattle.heap.specs.Laws.Means as MeansLaws
 use Rattle.heap.specs.Laws.ReadForm as ReadFormLaws
 
@@ -56,6 +60,25 @@ pub put-kept :
     → top ≤ j
     → Means (areas A B T (stored C j x)) top v h
 put-kept A B T C top j v h x m l = MeansLaws.stored-kept j x l m
+
+-- What evaluation makes: handles in the two cells from `top` on are a lambda's context of the values that they mean,
+pub context-made :
+    (a : Areas) (top : ℕ) (cur acc : Value) (x y : Handle)
+    → Means a top cur x
+    → Means a top acc y
+    → suc top < length (a .cells) / cellBytes
+    → top ≤ heapCells
+    → Means (withCells a (stored (stored (a .cells) top x) (suc top) y)) (top + 2) (context cur acc) (Compound (parts Context top 2))
+context-made a top cur acc x y m n room l = MadeLaws.context-made m n room l
+
+-- and any number of them, one after the other, a list.
+pub list-made :
+    (a : Areas) (top : ℕ) (vs : Values) (hs : List Handle)
+    → MeansEach a top vs hs
+    → top + length hs ≤ length (a .cells) / cellBytes
+    → top ≤ heapCells
+    → Means (withCells a (storedFrom (a .cells) top hs)) (top + length hs) (array vs) (Compound (parts forms.List top (length hs)))
+list-made a top vs hs m room l = MadeLaws.list-made m room l
 
 -- An array's handle has as many parts as the array has items; the first part means the first item, the others are an array of the others.
 pub array-count : (a : Areas) (top : ℕ) (vs : Values) (p : Parts) → Means a top (array vs) (Compound p) → p .count ≡ itemCount vs

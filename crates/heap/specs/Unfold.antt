@@ -25,6 +25,10 @@ pub record Areas : Type 0 where
 abbrev pub areas : Bytes → Bytes → Bytes → Bytes → Areas
 areas A B T C = record { rule = A; strings = B; table = T; cells = C }
 
+-- The same areas with other cells.
+abbrev pub withCells : Areas → Bytes → Areas
+withCells a C = areas (a .rule) (a .strings) (a .table) C
+
 -- 2^53 was added (syntax/Layout.antt: biased).
 unfoldable pub unbiased : ℕ → ℤ
 unbiased n = elim (leb 9007199254740992 n) [ true ↦ pos (n - 9007199254740992) | false ↦ negsuc (9007199254740991 - n) ]

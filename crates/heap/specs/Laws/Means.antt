@@ -25,14 +25,11 @@ use Rattle.heap.specs.Cells.{Packs, packedOf, cellHandle, cellBytes, sto
 use Rattle.heap.specs.Handles.{parts}
 use Rattle.heap.specs.Means.{Means, means-null, means-false, means-true, means-integer, means-instant, means-string, means-items, means-members, means-list, means-context, RowItems, no-row-items, row-item, RowMembers, no-row-members, row-member, CellItems, no-cell-items, cell-item}
 use Rattle.heap.specs.Parts.{headOf, tailOf, nextCell, labelOf, labelBytes}
-use Rattle.heap.specs.Unfold.{Areas, areas, unbiased, instantAt, itemsBy, membersBy, valueBy, unfolded}
+use Rattle.heap.specs.Unfold.{Areas, withCells, unbiased, instantAt, itemsBy, membersBy, valueBy, unfolded}
 use Rattle.heap.specs.Laws.Cells.{length-stored, stored-other}
 use Rattle.heap.specs.Laws.Numbers.{biased-small, unbiased-biased, instantAt-sinceYear0, text-small, values-small, heap-small}
 
 -- ---- while the heap grows
-abbrev pub withCells : Areas → Bytes → Areas
-withCells a C = areas (a .rule) (a .strings) (a .table) C
-
 -- The cells below `top` hold the same.
 abbrev pub Agree : Bytes → Bytes → ℕ → Type 0
 Agree C C′ top = (j : ℕ) → j < top → cellHandle C j ≡ cellHandle C′ j
