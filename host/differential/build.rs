@@ -1,13 +1,7 @@
-//! Links the static library of the C entries: JEHVRUKAM_LIB, or what `rt staticlib jehvrukam` writes.
+//! The library of the C entries, which src/compare.rs links.
 
-use std::{env, path::PathBuf};
+include!("../link.rs");
 
 fn main() {
-    let built = || PathBuf::from(env!("CARGO_MANIFEST_DIR")).join("../../target/staticlib/libjehvrukam.a");
-    let library = env::var_os("JEHVRUKAM_LIB").map_or_else(built, PathBuf::from);
-    let folder = library.parent().expect("the library stands in a folder");
-    println!("cargo:rustc-link-search=native={}", folder.display());
-    println!("cargo:rustc-link-lib=static=jehvrukam");
-    println!("cargo:rerun-if-env-changed=JEHVRUKAM_LIB");
-    println!("cargo:rerun-if-changed={}", library.display());
+    find_library("JEHVRUKAM_LIB", "jehvrukam");
 }

@@ -19,7 +19,7 @@ use Rattle.model.specs.Result.{Result, ok, refuse, provided, _>>=_}
 use Rattle.model.specs.Shift.{after, monthFirst, monthNumber, movedByMonths, shift, shiftMonths}
 use Rattle.model.specs.Laws.Calendar.{Dated, month-day, parts-valid}
 use Rattle.model.specs.Laws.DateText.{ranged-ok, since-back, since-bound}
-use Rattle.model.specs.Laws.Logic.{true→T}
+use Rattle.model.specs.Laws.Logic.{true→T, clash}
 use Rattle.model.specs.declared.Date.{Date}
 use Rattle.model.specs.declared.TimeUnit.{TimeUnit}
 use Rattle.model.specs.declared.TimeUnit.the-variants.{Year, Month, Day, Hour}
@@ -152,7 +152,7 @@ own-of t own since e f = go (inRange t) refl e
         let i : own ≡ t = cc in
         let j : since ≡ sinceYear0 t = f ∙ ap sinceYear0 i in
         record { in-range = h; since-is = j; since-high = omega (arith, since-bound t h) }
-    go false g e = absurd (let z : _≡_ {A = ℕ} 0 1 = cc in omega arith)
+    go false g e = clash cc
 
 pub shifted-out : (t amount : ℤ) (unit : TimeUnit) → refuse outOfRange ≡ ranged t → refuse outOfRange ≡ shifted t amount unit
 shifted-out t amount unit e = ap (λ (r : Result ℤ). r >>= λ own. shift own amount unit) e

@@ -16,7 +16,7 @@ use Rattle.model.specs.Calendar.{dayNumber, isValid}
 use Rattle.model.specs.DateText.{startsLike, digitRun, milliseconds, zoned, afterSeconds, twoDigits, dateIn, isTime, timeText, midnight}
 use Rattle.model.specs.Instant.{fromYear0, sinceYear0, msPerDay, inRange}
 use Rattle.model.specs.Laws.DateText.{midnight-ok, since-bound}
-use Rattle.model.specs.Laws.Logic.{true→T}
+use Rattle.model.specs.Laws.Logic.{true→T, clash}
 use Rattle.model.specs.Refusal.{badDate, outOfRange, Fault}
 use Rattle.model.specs.Result.{Result, ok, refuse, provided}
 use Rattle.model.specs.declared.Date.{Date}
@@ -70,8 +70,8 @@ starts-at w t e = go (isValid w) refl (inRange (fromYear0 n)) refl e
     go true v true i e =
         let d : t ≡ fromYear0 n = cc in
         record { valid = v; days = ap sinceYear0 d ∙ since-from n; high = since-bound t (rw d (true→T _ i)) }
-    go true v false i e = absurd (let z : _≡_ {A = ℕ} 0 1 = cc in omega arith)
-    go false v b i e = absurd (let z : _≡_ {A = ℕ} 0 1 = cc in omega arith)
+    go true v false i e = clash cc
+    go false v b i e = clash cc
 
 pub starts : {w : Date} {a : DateAnswer} {t : Instant} {u : ℕ} → dateResult a ≡ midnight w → a ≡ At t → u ≡ sinceYear0 (t .ms) → Starts w u
 starts {w} {t = t} e f g = subst (Starts w) (sym g) (starts-at w (t .ms) (ap dateResult (sym f) ∙ e))
@@ -81,7 +81,7 @@ no-start : (w : Date) (f : Fault) → refuse f ≡ midnight w → w .year ≤ 99
 no-start w f e h = go (isValid w) refl
   where
     go : (a : Bool) → isValid w ≡ a → isValid w ≡ false
-    go true v = absurd (let g = midnight-ok w (true→T _ v) h in let z : _≡_ {A = ℕ} 0 1 = cc in omega arith)
+    go true v = let g = midnight-ok w (true→T _ v) h in clash cc
     go false v = v
 
 -- The answer is another one than `At`, the first.

@@ -13,6 +13,7 @@ use Rattle.model.specs.Limits.{maxTextBytes, maxValues}
 use Rattle.model.specs.Refusal.{notJson}
 use Rattle.model.specs.Size.{valueCount}
 use Rattle.model.specs.Value.{Value, Members, no-members, member}
+use Rattle.model.specs.Laws.Logic.{clash}
 use Rattle.names.specs.Callers.{indexed-empty, indexed-frame}
 use Rattle.names.specs.Index.{Entry, Indexed, Between, namesOf, part}
 use Rattle.scan.specs.Contract.{Skipped, Separated}
@@ -132,8 +133,8 @@ module _ (n : Bytes) (v : Value) (used : ℕ) (T A : Bytes) {s : Bytes} {row : �
 
 -- ---- the members so far
 snoc-some : (es : List Entry) (e : Entry) → es ++ (e ∷ []) ≡ [] → ⊥
-snoc-some [] e p = let z : _≡_ {A = ℕ} 0 1 = cc in omega arith
-snoc-some (d ∷ es) e p = let z : _≡_ {A = ℕ} 0 1 = cc in omega arith
+snoc-some [] e p = clash cc
+snoc-some (d ∷ es) e p = clash cc
 
 -- A row that was stored has the name's length and start.
 module _ (v : Value) (row used : ℕ) (name : layout.Label) (T T₂ : Bytes) (t : rowsPart T₂ ≡ sets (rowsPart T) (row * rowBytes) (rowsOf v row used name))

@@ -1,4 +1,4 @@
--- Textual: a value as its text has it, which is what the text reads as (`answer-reads` of the crate syntax).
+-- Textual: a value as its text has it, which is what the text reads as (`written-reads` of the crate syntax).
 use Rattle.model.specs.InstantText.{instantText}
 use Rattle.model.specs.Value.{Value, scalar, instant, array, object, string, Values, no-items, item, Members, no-members, member}
 

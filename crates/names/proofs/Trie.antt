@@ -5,6 +5,7 @@ use mathlib.Core.Logic.{_⊎_, inl, inr, ⊎-elim}
 use Prim.Native.Nat.{ℕ, _+_, _*_, _<_, _≤_}
 use native.Mathlib.Omega.{arith}
 use Rattle.model.specs.Bytes.{Bytes}
+use Rattle.model.specs.Laws.Logic.{clash}
 use Rattle.names.specs.Bits.{bitAt, Agree, Critical}
 use Rattle.names.specs.Trie.{Trie, leaf, node, Leaf, Node, Apart, Ordered, Walk, here, down, Ends}
 use Rattle.names.specs.Slots.{rankAt, linkAt, Holds}
@@ -20,15 +21,15 @@ put true v t true = v
 module _ {A : Type 0} (P : Bool → A → Type 0) (v : A) (t : Bool → A) where
   pub put-all : (b : Bool) → P b v → ((s : Bool) → (s ≡ b → ⊥) → P s (t s)) → (s : Bool) → P s (put b v t s)
   put-all false h g false = h
-  put-all false h g true = g true (λ e. let z : _≡_ {A = ℕ} 0 1 = cc in omega arith)
-  put-all true h g false = g false (λ e. let z : _≡_ {A = ℕ} 0 1 = cc in omega arith)
+  put-all false h g true = g true (λ e. clash cc)
+  put-all true h g false = g false (λ e. clash cc)
   put-all true h g true = h
 
   -- what holds of a side
   pub put-some : (b s : Bool) → P s (put b v t s) → ((s ≡ b) × P b v) ⊎ ((s ≡ b → ⊥) × P s (t s))
   put-some false false h = inl (refl, h)
-  put-some false true h = inr ((λ e. let z : _≡_ {A = ℕ} 0 1 = cc in omega arith), h)
-  put-some true false h = inr ((λ e. let z : _≡_ {A = ℕ} 0 1 = cc in omega arith), h)
+  put-some false true h = inr ((λ e. clash cc), h)
+  put-some true false h = inr ((λ e. clash cc), h)
   put-some true true h = inl (refl, h)
 
 module _ {A : Type 0} (P : A → Type 0) where

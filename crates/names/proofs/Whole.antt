@@ -9,6 +9,7 @@ use lib.ListN.{length, take}
 use lib.Seq.{sets, length-sets}
 use Rattle.model.specs.Bytes.{Bytes}
 use Rattle.model.specs.Limits.{maxValues}
+use Rattle.model.specs.Laws.Logic.{clash}
 use Rattle.area.specs.Words.{word, wordAt}
 use Rattle.area.specs.Laws.{take-sets-before, length-word, word-read}
 use Rattle.names.specs.declared.Compared.{Compared}
@@ -226,7 +227,7 @@ module _ (T A : Bytes) (first row start len : ℕ) (room : Room T A first row st
       let t = tree-of T first row ms w other i in (
         known T A (part A start len) first row less ms t n w
             (compared T A (part A start len) first row less ms t n w (end .link) Same (found-link T A (part A start len) first row less ms t n w (end .at) (end .link) down (stopped .link)) told),
-        λ e. absurd (let z : _≡_ {A = ℕ} 0 1 = cc in omega arith),
+        λ e. clash cc,
       ))
 
   pub fork-entered : (c at turn : ℕ) (T′ : Bytes) → ToldOf T A (end .link) row (part A start len) (Differ c) → Descended T (part A start len) first row c at

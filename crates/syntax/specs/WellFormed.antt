@@ -1,5 +1,5 @@
 -- WellFormed: what holds of every value that a text reads as: its strings and names are well-formed UTF-8 in bytes, no object has a name twice,
--- its integers are within the limits, and it has no instant. Laws.WellFormed has the proof.
+-- its integers are within the limits, and it has no instant (Laws.WellFormed has the proof); and of every answer, but that it may have instants (Laws.Answers).
 use mathlib.Core.Bool.{Bool, true, _&&_, not}
 use mathlib.Core.List.{List, [], _∷_}
 use lib.Dec.{T, ltb}
@@ -59,16 +59,14 @@ unfoldable mutual
   distinctInMembers (member name v ms) = not (among name (names ms)) && (distinctNames v && distinctInMembers ms)
 
 -- ---- all of it
-pub record WellFormedValue (v : Value) : Type 0 where
-  pub utf8-strings : AllStrings WellFormed v
-  pub byte-strings : AllStrings (λ s. T (areBytes s)) v
-  pub distinct-names : T (distinctNames v)
-  pub within-limits : T (bounded v)
-  pub no-instants : T (instantFree v)
-
--- The same of a value with instants, which are between the earliest and the latest: what holds of every answer.
+-- What holds of every answer. Its instants are between the earliest and the latest.
 pub record WellFormedAnswer (v : Value) : Type 0 where
   pub utf8-strings : AllStrings WellFormed v
   pub byte-strings : AllStrings (λ s. T (areBytes s)) v
   pub distinct-names : T (distinctNames v)
   pub within-limits : T (bounded v)
+
+-- What holds of every value that a text reads as: it has no instant besides.
+pub record WellFormedValue (v : Value) : Type 0 where
+  pub formed : WellFormedAnswer v
+  pub no-instants : T (instantFree v)

@@ -13,6 +13,7 @@ use lib.Seq.{sets}
 use Rattle.area.specs.Laws.{sets-append}
 use Rattle.model.specs.Bytes.{Bytes}
 use Rattle.model.specs.Limits.{maxTextBytes}
+use Rattle.model.specs.Laws.Logic.{clash}
 use Rattle.print.specs.Contract.{Put}
 use Rattle.writer.specs.declared.value.Progress.{Progress}
 use Rattle.writer.specs.declared.value.Progress.the-variants.{TooLarge, At}
@@ -106,11 +107,11 @@ then {p} {q} {deep} {left} {at} {e} {l} {d} {d₁} {d₂} {r} (wrote a b c g f) 
     go (over (inl x) y) = over (inl (omega (arith, le-max-right (p .depth) (q .depth)))) y
     go (over (inr (inl x)) y) = over (inr (inl (omega (arith, l-is)))) y
     go (over (inr (inr x)) y) = over (inr (inr (omega (arith, app, e-is)))) y
-then (over a g) w = absurd (let z : _≡_ {A = ℕ} 0 1 = cc in omega arith)
+then (over a g) w = clash cc
 
 -- A piece that is too large makes what it begins too large.
 pub stops : {p : Piece} (q : Piece) {deep left at : ℕ} {d d₁ d₂ : Bytes} → Writes p deep left at d TooLarge d₁ → Writes (p ⊕ q) deep left at d TooLarge d₂
-stops {p} q (wrote a b c g f) = absurd (let z : _≡_ {A = ℕ} 0 1 = cc in omega arith)
+stops {p} q (wrote a b c g f) = clash cc
 stops {p} q (over (inl x) g) = over (inl (omega (arith, le-max-left (p .depth) (q .depth)))) refl
 stops {p} q (over (inr (inl x)) g) = over (inr (inl (omega arith))) refl
 stops {p} q (over (inr (inr x)) g) = over (inr (inr (omega (arith, length-append (p .text) (q .text))))) refl

@@ -15,6 +15,7 @@ use Rattle.model.specs.Refusal.{outOfRange}
 use Rattle.model.specs.Result.{ok, refuse, provided}
 use Rattle.model.specs.Value.{scalar, instant, null}
 use Rattle.model.specs.Writing.{decimal, integerText, stringText, valueText}
+use Rattle.model.specs.Laws.Logic.{clash}
 use Rattle.heap.specs.Unfold.{unbiased, instantAt}
 use Rattle.print.specs.Contract.{Put, StringPut}
 use Rattle.print.specs.Laws.{put-then, string-fits, string-passes}
@@ -66,14 +67,14 @@ instant-in n {t} = go (inRange (fromYear0 n)) (fromYear0 n)
   where
     go : (b : Bool) (z : ℤ) → ok t ≡ provided b outOfRange (ok z) → stringText (instantText t) ≡ valueText (elim b [ true ↦ instant z | false ↦ scalar null ])
     go true z e = let f : t ≡ z = cc in ap (λ (x : ℤ). stringText (instantText x)) f
-    go false z e = absurd (let f : _≡_ {A = ℕ} 0 1 = cc in omega arith)
+    go false z e = clash cc
 
 pub instant-out : (n : ℕ) → refuse outOfRange ≡ ranged (fromYear0 n) → ascii "null" ≡ valueText (instantAt n)
 unfolding instantAt valueText
 instant-out n = go (inRange (fromYear0 n)) (fromYear0 n)
   where
     go : (b : Bool) (z : ℤ) → refuse outOfRange ≡ provided b outOfRange (ok z) → ascii "null" ≡ valueText (elim b [ true ↦ instant z | false ↦ scalar null ])
-    go true z e = absurd (let f : _≡_ {A = ℕ} 0 1 = cc in omega arith)
+    go true z e = clash cc
     go false z e = refl
 
 -- ---- strings

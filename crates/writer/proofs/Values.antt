@@ -15,8 +15,10 @@ use Rattle.model.specs.Bytes.{Bytes}
 use Rattle.model.specs.Instant.{inRange, fromYear0}
 use Rattle.model.specs.Limits.{maxTextBytes}
 use Rattle.model.specs.Size.{valueCount, nesting}
-use Rattle.model.specs.Value.{Value, scalar, instant, array, object, null}
+use Rattle.model.specs.Value.{Value, scalar, instant, null}
 use Rattle.model.specs.Writing.{valueText}
+use Rattle.model.specs.Laws.Logic.{clash}
+use Rattle.syntax.specs.Laws.Layout.{count-positive}
 use Rattle.heap.proofs.handle.Handle.{the-type}
 use Rattle.heap.specs.declared.handle.Handle.{Handle}
 use Rattle.heap.specs.declared.handle.Handle.the-variants.{Null, False, True, Integer, Instant, String, Compound}
@@ -31,15 +33,8 @@ use Rattle.writer.specs.Inner.{Puts, Piece, piece, valuePiece, insidePie
 use Rattle.writer.proofs.Pieces.{Passing, stays, passes, passing, within-stays, within-passes, ends}
 
 -- ---- refused at once
-one-value : (v : Value) → 1 ≤ valueCount v
-unfolding valueCount
-one-value (scalar x) = omega arith
-one-value (instant t) = omega arith
-one-value (array vs) = omega arith
-one-value (object ms) = omega arith
-
 pub none-left : (v : Value) {deep left at : ℕ} {d d₁ : Bytes} → left ≡ 0 → Writes (valuePiece v) deep left at d TooLarge d₁
-none-left v e = over (inr (inl (omega (arith, one-value v)))) refl
+none-left v e = over (inr (inl (omega (arith, count-positive v)))) refl
 
 pub too-long : (v : Value) {deep left at : ℕ} {d d₁ : Bytes} → maxTextBytes < at → Writes (valuePiece v) deep left at d TooLarge d₁
 too-long v h = over (inr (inr (omega arith))) refl
@@ -126,14 +121,14 @@ enclosed-length o p = omega (arith, length-append (p .text) ((o + 2) ∷ []))
 -- Its parts are too large.
 enclosed-over : (o : ℕ) {p : Piece} {deep left at : ℕ} {d d₁ d₂ : Bytes} → 1 ≤ left → Writes p deep (left - 1) (at + 1) (set d at o) TooLarge d₁
     → Writes (enclosed o p) (suc deep) left at d TooLarge d₂
-enclosed-over o l (wrote a b c g f) = absurd (let z : _≡_ {A = ℕ} 0 1 = cc in omega arith)
+enclosed-over o l (wrote a b c g f) = clash cc
 enclosed-over o l (over (inl x) g) = over (inl (omega arith)) refl
 enclosed-over o l (over (inr (inl x)) g) = over (inr (inl (omega arith))) refl
 enclosed-over o {p} l (over (inr (inr x)) g) = over (inr (inr (omega (arith, enclosed-length o p)))) refl
 
 enclosed-closes : (o : ℕ) {p : Piece} {deep left at end rest : ℕ} {d d₁ : Bytes} → 1 ≤ left → Writes p deep (left - 1) (at + 1) (set d at o) (At end rest) d₁
     → Writes (enclosed o p) (suc deep) left at d (within (end + 1) rest) (set d₁ end (o + 2))
-enclosed-closes o {p} {deep} {left} {at} {end} {rest} {d} {d₁} l (over x g) = absurd (let z : _≡_ {A = ℕ} 0 1 = cc in omega arith)
+enclosed-closes o {p} {deep} {left} {at} {end} {rest} {d} {d₁} l (over x g) = clash cc
 enclosed-closes o {p} {deep} {left} {at} {end} {rest} {d} {d₁} l (wrote a b c g f) = go (passing (end + 1))
   where
     end-is : end ≡ at + 1 + length (p .text)
@@ -197,7 +192,7 @@ module _ (a : Areas) (p : Parts) (deep left at : ℕ) (some-deep : 1 ≤ deep) (
 -- The text goes no further than the largest.
 pub writes-short : {p : Piece} {deep left at end rest : ℕ} {d d₁ : Bytes} (r : Progress) → Writes p deep left at d r d₁ → r ≡ At end rest → end ≤ maxTextBytes
 writes-short {p} {at = at} {end = end} r (wrote x y z g f) e = let q : end ≡ at + length (p .text) = cc in omega arith
-writes-short r (over x g) e = absurd (let z : _≡_ {A = ℕ} 0 1 = cc in omega arith)
+writes-short r (over x g) e = clash cc
 
 pub opening-small : (form : Form) → openingOf form ≤ 123
 opening-small Items = omega arith

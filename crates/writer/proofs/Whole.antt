@@ -14,6 +14,7 @@ use Rattle.model.specs.Limits.{maxTextBytes, maxValues, maxNesting}
 use Rattle.model.specs.Size.{valueCount, nesting, isTooLarge}
 use Rattle.model.specs.Value.{Value}
 use Rattle.model.specs.Writing.{valueText}
+use Rattle.model.specs.Laws.Logic.{clash}
 use Rattle.syntax.specs.Layout.{padded}
 use Rattle.syntax.specs.Output.{valueWritten}
 use Rattle.writer.specs.declared.Answer.the-variants as Answers
@@ -46,13 +47,13 @@ module _ (v : Value) where
   -- 11.
   pub whole-over : {d d₁ d₂ : Bytes} (r : Progress) → r ≡ TooLarge → Whole v d r d₁ → length d₁ ≡ length d → d₂ ≡ zeroFrom 0 d₁
       → answered Answers.TooLarge d₂ ≡ valueWritten v (length d)
-  whole-over r e (wrote a b c g f) l z = absurd (let q : _≡_ {A = ℕ} 0 1 = cc in omega arith)
+  whole-over r e (wrote a b c g f) l z = clash cc
   whole-over {d} {d₁} r e (over x g) l z = rw (too-large x, z, zeroFrom-all d₁, l)
 
   -- 12.
   pub whole-short : {d d₁ d₂ : Bytes} (r : Progress) (at left : ℕ) → r ≡ At at left → Whole v d r d₁ → length d₁ ≡ length d → length d₁ < at → d₂ ≡ zeroFrom 0 d₁
       → answered Answers.OutputTooShort d₂ ≡ valueWritten v (length d)
-  whole-short r at left e (over x g) l s z = absurd (let q : _≡_ {A = ℕ} 0 1 = cc in omega arith)
+  whole-short r at left e (over x g) l s z = clash cc
   whole-short {d} {d₁} r at left e (wrote a b c g f) l s z =
       let end : at ≡ 0 + length (valueText v) = cc in
       rw (small a b c, lt-ltb (length d) (length (valueText v)) (omega arith), z, zeroFrom-all d₁, l)
@@ -61,7 +62,7 @@ module _ (v : Value) where
   pub whole-done : {d d₁ d₂ : Bytes} (r : Progress) (at left : ℕ) → r ≡ At at left → Whole v d r d₁ → length d₁ ≡ length d → at ≤ length d₁ → d₂ ≡ zeroFrom at d₁
       → answered (Answers.Written at) d₂ ≡ valueWritten v (length d)
   unfolding padded
-  whole-done r at left e (over x g) l s z = absurd (let q : _≡_ {A = ℕ} 0 1 = cc in omega arith)
+  whole-done r at left e (over x g) l s z = clash cc
   whole-done {d} {d₁} r at left e (wrote a b c g f) l s z =
       let end : at ≡ 0 + length (valueText v) = cc in
       let size : at ≡ length (valueText v) = omega arith in

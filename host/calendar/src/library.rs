@@ -2,6 +2,7 @@
 
 use crate::random::Random;
 
+#[link(name = "calendar_c", kind = "static")]
 extern "C" {
     fn calendar_read_date(text: *const u8, text_len: usize, ms: *mut i64) -> u32;
     fn calendar_read_day(text: *const u8, text_len: usize, ms: *mut i64) -> u32;

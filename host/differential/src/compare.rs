@@ -4,6 +4,7 @@ use crate::random::Random;
 use reader::cases::Answer;
 use reader::{Fault, Form, STRINGS_BYTES, TABLE_BYTES};
 
+#[link(name = "jehvrukam", kind = "static")]
 extern "C" {
     fn jehvrukam_read(
         text: *const u8,

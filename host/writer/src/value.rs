@@ -189,14 +189,14 @@ mod tests {
         let many = |values: usize| Value::Array(vec![Value::Integer(7); values - 1]);
         let long = |bytes: usize| string(&"x".repeat(bytes - 2));
         let number = |value: &Value, room: usize| value.written(room).map_or_else(|number| number, |_| 0);
-        for (value, fits, length) in
+        for (value, larger, length) in
             [(nested(32), nested(33), 64), (many(1024), many(1025), 2047), (long(16_384), long(16_385), 16_384)]
         {
             assert_eq!(value.written(length), Ok(value.text()));
             assert_eq!(number(&value, length - 1), 12);
             assert_eq!(number(&value, 0), 12);
             for room in [0, length, 16_384, 100_000] {
-                assert_eq!(number(&fits, room), 11);
+                assert_eq!(number(&larger, room), 11);
             }
         }
         assert_eq!(number(&string(&"\u{1}".repeat(2_730)), 16_384), 0); // 6 * 2,730 + 2 = 16,382

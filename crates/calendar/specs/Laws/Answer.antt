@@ -2,8 +2,6 @@
 use mathlib.Core.Path.{_≡_, refl, sym, _∙_, ap}
 use mathlib.Core.Bool.{Bool, true, false}
 use mathlib.Core.Logic.{_⊎_, inl, inr}
-use Prim.Native.Nat.{ℕ}
-use native.Mathlib.Omega.{arith}
 use lib.Dec.{T}
 use lib.IntN.{ℤ, pos, _+ℤ_, _*ℤ_}
 use Rattle.model.specs.DateText.{dateText}
@@ -17,6 +15,7 @@ use Rattle.model.specs.Laws.InstantText.{reads-back}
 use Rattle.model.specs.Laws.Shift.{shift-in-range, shift-none, days-twice, hours-twice, twelve-months, hours-24}
 use Rattle.model.specs.declared.TimeUnit.{TimeUnit}
 use Rattle.model.specs.declared.TimeUnit.the-variants.{Year, Month, Day, Hour}
+use Rattle.model.specs.Laws.Logic.{clash}
 use Rattle.calendar.specs.Answer.{instantResult, dateResult, shifted}
 use Rattle.calendar.specs.declared.instant.DateAnswer.{DateAnswer}
 use Rattle.calendar.specs.declared.instant.Instant.{Instant}
@@ -68,7 +67,7 @@ shifted-ok t s a u e = go (inRange t) e
   where
     go : (b : Bool) → (provided b outOfRange (ok t) >>= λ own. shift own a u) ≡ ok s → T b × (shift t a u ≡ ok s)
     go true e = (tt, e)
-    go false e = let z : _≡_ {A = ℕ} 0 1 = cc in absurd (omega arith)
+    go false e = clash cc
 
 -- A shift that is not refused gives an instant in range.
 pub shift-answer : (t a : ℤ) (u : TimeUnit) (r : InstantAnswer) → instantResult r ≡ shifted t a u → (r ≡ InstantAnswer.OutOfRange) ⊎ ((s : Instant) × (r ≡ InstantAnswer.At s) × T (inRange (s .ms)))

@@ -22,6 +22,7 @@ use Rattle.model.specs.Laws.Shift.{dateOf, instantOf, month-first, month-next, 
 use Rattle.model.specs.declared.Date.{Date}
 use Rattle.model.specs.declared.TimeUnit.{TimeUnit}
 use Rattle.model.specs.declared.TimeUnit.the-variants.{Year, Month}
+use Rattle.model.specs.Laws.Logic.{clash}
 use Rattle.calendar.specs.Answer.{shifted}
 use Rattle.calendar.specs.Inner.{inMonth, monthOf}
 use Rattle.calendar.specs.Laws.Answer.{own-in, year-months}
@@ -98,7 +99,7 @@ lands t a u w day v h e f =
     }
 
 not-refused : {t a : ℤ} {u : TimeUnit} {w : Date} → Lands t a u w → ¬ (shifted t a u ≡ refuse outOfRange)
-not-refused l e = let f = l .done in let z : _≡_ {A = ℕ} 0 1 = cc in omega arith
+not-refused l e = let f = l .done in clash cc
 
 -- The date of an instant in range, with its bounds.
 own-date : (t : ℤ) → T (inRange t) → Dated (sinceYear0 t / msPerDay) (dateOf t)

@@ -16,6 +16,7 @@ use Rattle.model.specs.Laws.DateText.{since-bound}
 use Rattle.model.specs.Limits.{maxNesting, maxValues, heapCells}
 use Rattle.model.specs.Size.{nesting, itemsNesting, membersNesting}
 use Rattle.model.specs.Value.{Value, scalar, array, object, null, integer, string, Values, item, Members, member, memberCount}
+use Rattle.model.specs.Laws.Logic.{clash}
 use Rattle.syntax.specs.Layout.{itemCount}
 use Rattle.heap.specs.declared.handle.Handle.{Handle}
 use Rattle.heap.specs.declared.handle.Handle.the-variants as variants
@@ -242,7 +243,7 @@ object-count (means-context b i m n) = refl
 
 pub object-parts : {a : Areas} {top : ℕ} {n : Bytes} {v : Value} {ms : Members} {p : Parts} → Means a top (object (member n v ms)) (variants.Compound p) → p .form ≡ forms.Members → ObjectParts a top n v ms p
 object-parts {ms = ms} (means-members {count = count} e f (row-member b t w m r)) q = record { name = w; head = raised m (omega arith); rest = means-members {ms = ms} {count = count - 1} (omega arith) (omega arith) r }
-object-parts (means-context b i m n) q = absurd (let z : _≡_ {A = ℕ} 0 1 = cc in omega arith)
+object-parts (means-context b i m n) q = clash cc
 
 -- The two parts of a context.
 pub record ContextParts (a : Areas) (top : ℕ) (cur acc : Value) (cell : ℕ) : Type 0 where

@@ -218,7 +218,7 @@ read-means : (v : Value) (a : Areas) (n m : ℕ) → WellFormedValue v → value
     → a .table ≡ tableOf v n → a .strings ≡ stringsAreaOf v m → Means a 0 v (rowHandle (a .table) 0)
 unfolding rowBytes
 read-means v a n m w k f t s =
-    value-read a v 0 0 unnamed (w .within-limits) (w .no-instants) (omega arith) (omega arith) unnamed-short
+    value-read a v 0 0 unnamed (w .formed .within-limits) (w .no-instants) (omega arith) (omega arith) unnamed-short
     (starts (a .table) (rowsOf v 0 0 unnamed) n t) (starts (a .strings) (stringsOf v) m s) .means
 
 -- So it is of any text that reads.

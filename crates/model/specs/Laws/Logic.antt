@@ -2,6 +2,8 @@
 use mathlib.Core.Path.{_≡_, refl, sym, ap, ap₂}
 use mathlib.Core.Bool.{Bool, true, false, _&&_, _||_, cond, or-false, Bool·beq, false≢true}
 use mathlib.Core.List.{[], _∷_}
+use Prim.Native.Nat.{ℕ}
+use native.Mathlib.Omega.{arith}
 use lib.Dec.{T, eqb, eqb→eq, eqb-refl}
 use lib.IntN.{ℤ, pos, negsuc}
 use Rattle.model.specs.Bytes.{Bytes, sameBytes}
@@ -128,3 +130,7 @@ scalar-refl null = tt
 scalar-refl (boolean a) = beq-refl a
 scalar-refl (integer z) = integer-refl z
 scalar-refl (string s) = bytes-refl s
+
+-- Two different constructors are not equal: `clash cc`, where `cc` finds 0 ≡ 1 from an equation between them.
+pub clash : {X : Type 0} → _≡_ {A = ℕ} 0 1 → X
+clash e = absurd (omega arith)

@@ -124,10 +124,10 @@ names-kept = record {
 -- ---- answers
 pub answer-well-formed : (rule c : Value) (r : Rule) (n : ℕ) (v : Value) → WellFormedValue rule → WellFormedValue c → shape rule ≡ some r → outcome (run r c n) ≡ value v → WellFormedAnswer v
 answer-well-formed rule c r n v h k is-rule ends =
-    let strings = answer-kept (AllStrings WellFormed) utf8-kept rule c r n v is-rule (h .utf8-strings) (k .utf8-strings) ends in
+    let strings = answer-kept (AllStrings WellFormed) utf8-kept rule c r n v is-rule (h .formed .utf8-strings) (k .formed .utf8-strings) ends in
     record {
       utf8-strings = strings;
       byte-strings = strings-map WellFormed (λ s. T (areBytes s)) well-formed-bytes v strings;
-      distinct-names = answer-kept (λ w. T (distinctNames w)) names-kept rule c r n v is-rule (h .distinct-names) (k .distinct-names) ends;
-      within-limits = answer-bounded rule c r n v is-rule (h .within-limits) (k .within-limits) ends;
+      distinct-names = answer-kept (λ w. T (distinctNames w)) names-kept rule c r n v is-rule (h .formed .distinct-names) (k .formed .distinct-names) ends;
+      within-limits = answer-bounded rule c r n v is-rule (h .formed .within-limits) (k .formed .within-limits) ends;
     }

@@ -5,7 +5,7 @@ use Prim.Native.Nat.{ℕ, suc, _+_, _*_}
 use native.Mathlib.Omega.{arith}
 use lib.ListN.{length, drop}
 use Rattle.model.specs.Bytes.{Bytes}
-use Rattle.model.specs.Laws.Logic.{T→true}
+use Rattle.model.specs.Laws.Logic.{T→true, clash}
 use Rattle.model.specs.Refusal.{notJson}
 use Rattle.syntax.specs.declared.Lead.the-variants.{Char}
 use Rattle.syntax.specs.declared.Escape.the-variants.{Letter}
@@ -91,10 +91,10 @@ pub not-low : (t : Bytes) (at : ℕ) (r : Parsed Piece) → char t at ≡ r → 
 not-low t at r e h l = go r h (sym e ∙ low-runs t at l)
   where
     go : (r : Parsed Piece) → NoLow r → r ≡ ok (unit (hexNumber 0 (l .low))) (l .rest) (at + 6) → ⊥
-    go (ok closing u q) h i = let z : _≡_ {A = ℕ} 0 1 = cc in omega (arith, z)
-    go (ok (bytes bs) u q) h i = let z : _≡_ {A = ℕ} 0 1 = cc in omega (arith, z)
+    go (ok closing u q) h i = clash cc
+    go (ok (bytes bs) u q) h i = clash cc
     go (ok (unit c) u q) h i = let z : c ≡ hexNumber 0 (l .low) = cc in h (ap unitOf z ∙ l .is-low)
-    go (bad k p) h i = let z : _≡_ {A = ℕ} 0 1 = cc in omega (arith, z)
+    go (bad k p) h i = clash cc
 
 -- A pair begins with a high one, and a low one begins what follows.
 pub pair-high : (t : Bytes) (at c : ℕ) (u : Bytes) (q : ℕ) → char t at ≡ ok (unit c) u q → Pair t → (unitOf c ≡ High) × StartsLow u
@@ -109,10 +109,10 @@ pub pair-low : {t : Bytes} → Pair t → StartsLow (drop 6 t)
 pair-low {t} p = record { low = p .low; rest = p .rest; begins = ap (drop 6) (p .begins) ∙ drop-hexes (p .high) _; is-low = p .is-low }
 
 pub high-low : (c : ℕ) → unitOf c ≡ High → unitOf c ≡ Low → ⊥
-high-low c h l = let z : _≡_ {A = ℕ} 0 1 = cc in omega (arith, z)
+high-low c h l = clash cc
 
 pub plain-low : (c : ℕ) → unitOf c ≡ Plain → unitOf c ≡ Low → ⊥
-plain-low c h l = let z : _≡_ {A = ℕ} 0 1 = cc in omega (arith, z)
+plain-low c h l = clash cc
 
 pub plain-high : (c : ℕ) → unitOf c ≡ Plain → unitOf c ≡ High → ⊥
-plain-high c h l = let z : _≡_ {A = ℕ} 0 1 = cc in omega (arith, z)
+plain-high c h l = clash cc

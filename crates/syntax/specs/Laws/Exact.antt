@@ -14,6 +14,7 @@ use Rattle.model.specs.Bytes.{Bytes}
 use Rattle.model.specs.Limits.{maxTextBytes}
 use Rattle.model.specs.Refusal.{ReadFault, notJson, repeatedName, loneSurrogate, badNumber, tooLarge, readNumber}
 use Rattle.model.specs.Value.{Value}
+use Rattle.model.specs.Laws.Logic.{clash}
 use Rattle.syntax.specs.Faults.{Fault, fault, faults, Begins, NotJson, OverLong, spellUnit, Pair, Lone, reach, Unpaired, Stated}
 use Rattle.syntax.specs.Grammar.{JText, spell}
 use Rattle.syntax.specs.Read.{Parsed, ok, bad, text, refuse, answer, read}
@@ -32,7 +33,7 @@ unfolding read answer
 read-bad s k p e l = go (ltb maxTextBytes (length s)) refl e
   where
     fine : (r : Parsed Value) → answer r ≡ refuse k p → r ≡ bad k p
-    fine (ok v u q) e = absurd (let z : _≡_ {A = ℕ} 0 1 = cc in omega (arith, z))
+    fine (ok v u q) e = clash cc
     fine (bad n q) e = let i : n ≡ k = cc in let j : q ≡ p = cc in ap (λ z. bad z q) i ∙ ap (bad k) j
 
     go : (b : Bool) → ltb maxTextBytes (length s) ≡ b → elim b [ true ↦ refuse tooLarge maxTextBytes | false ↦ answer (text (2 * length s + 1) s 0) ] ≡ refuse k p → text (2 * length s + 1) s 0 ≡ bad k p
@@ -146,7 +147,7 @@ pub first-bad : (d : JText) (k : ReadFault) (p : ℕ) (others : List Fault) → 
 first-bad d k p others e = go (text (suc (2 * length (spell d))) (spell d) 0) (text-meets d (2 * length (spell d)) (omega arith))
   where
     go : (r : Parsed Value) → TextMeets d r → (r ≡ bad k p) × (3 ≤ readNumber k)
-    go (ok v u q) t = absurd (let i : [] ≡ fault k p ∷ others = sym (t .0) ∙ e in let z : _≡_ {A = ℕ} 0 1 = cc in omega (arith, z))
+    go (ok v u q) t = let i : [] ≡ fault k p ∷ others = sym (t .0) ∙ e in clash cc
     go (bad m q) t =
         let i : fault m q ∷ t .1 .0 ≡ fault k p ∷ others = sym (t .1 .1) ∙ e in
         let j : m ≡ k = cc in

@@ -11,6 +11,7 @@ use Rattle.model.specs.Bytes.{Bytes}
 use Rattle.model.specs.Refusal.{notJson}
 use Rattle.model.specs.Size.{valueCount}
 use Rattle.model.specs.Value.{Value, array, object, no-items, item, no-members, member}
+use Rattle.model.specs.Laws.Logic.{clash}
 use Rattle.syntax.specs.declared.Unit.{Unit}
 use Rattle.syntax.specs.declared.Unit.the-variants.{Plain, High, Low}
 use Rattle.syntax.specs.Read.{Parsed, ok, bad, Parser, then, _>>=_, give, if, peek, eat, white, literal, int, Piece, closing, bytes, unit, char, Pending, clear, high, onPiece, onUnit, orLone, lone, grow, chars, quoted, name, onSeparator, value, items, members, text}
@@ -39,7 +40,7 @@ shrinks m f t at a u q e =
 
 shrinks-peek : Shrinks peek
 unfolding peek
-shrinks-peek [] at a u q e = absurd (let z : _≡_ {A = ℕ} 0 1 = cc in omega (arith, z))
+shrinks-peek [] at a u q e = clash cc
 shrinks-peek (b ∷ t) at a u q e = let z : b ∷ t ≡ u = cc in omega (arith, ap length z)
 
 -- A character but for the closing quote is a byte at least.

@@ -14,6 +14,7 @@ use Rattle.model.specs.Limits.{maxValues, maxNesting}
 use Rattle.model.specs.Option.{_>>=_}
 use Rattle.model.specs.Size.{valueCount, itemsCount, membersCount, nesting, itemsNesting, membersNesting}
 use Rattle.model.specs.Value.{Value, scalar, array, object, string, Values, item, Members, no-members, member}
+use Rattle.model.specs.Laws.Logic.{clash}
 use Rattle.syntax.specs.Faults.{Fault, faultsValue, faults}
 use Rattle.syntax.specs.Grammar.{Ws, no-ws, ws, Chars, JValue, jtrue, jfalse, jnull, jnumber, jstring, jempty-array, jarray, jempty-object, jobject, JElements, last-element, element, JMembers, last-member, jmember, JText, jtext, spellWs, spellValue, spellElements, spellMembers, spell, map, charsMeaning, fresh, seenWith, memberOf, valueMeaning, elementsMeaning, membersMeaning, meaning}
 use Rattle.syntax.specs.Locate.{Positions, childAt, Site, behind, inside, elementAt, spellName, memberAt, childSite, valueSite, site, StandsAt}
@@ -212,7 +213,7 @@ parsed d v y f e h s l = go (value (suc f) 0 0 (spellValue d y) 0) (value-meets 
     go (bad k p) m = absurd (nil-cons (sym (faultless (jtext no-ws d no-ws) v e (h .0) (h .1)) ∙ m .1 .1))
       where
         nil-cons : {x : Fault} {l : List Fault} → [] ≡ x ∷ l → ⊥
-        nil-cons i = let z : _≡_ {A = ℕ} 0 1 = cc in omega (arith, z)
+        nil-cons i = clash cc
 
 abbrev restOf : Parsed Value → Bytes
 restOf (ok a t q) = t

@@ -2,13 +2,12 @@
 use mathlib.Core.Path.{_≡_, refl, sym, subst, ap, _∙_}
 use mathlib.Core.Bool.{Bool, true, false, _||_, cond}
 use Prim.Native.Nat.{ℕ, _≤_}
-use native.Mathlib.Omega.{arith}
 use borrow.Author.Tests.{ltb-false}
 use lib.Dec.{ltb}
 use lib.ListN.{length}
 use Rattle.model.specs.Bytes.{Bytes}
 use Rattle.model.specs.Judgement.{Judged, refuses, writtenWithin}
-use Rattle.model.specs.Laws.Logic.{or-false-l, or-false-r}
+use Rattle.model.specs.Laws.Logic.{or-false-l, or-false-r, clash}
 use Rattle.model.specs.Laws.Textual.{textual-text, textual-too-large}
 use Rattle.model.specs.Limits.{maxTextBytes, maxValues, maxNesting}
 use Rattle.model.specs.Refusal.{answerTooLarge, outputTooShort}
@@ -46,8 +45,8 @@ written-text room v t e = go (isTooLarge v) refl (ltb room (length (valueText v)
   where
     go : (large : Bool) → isTooLarge v ≡ large → (short : Bool) → cond large (refuses answerTooLarge) (cond short (refuses outputTooShort) (Judged.done (valueText v))) ≡ Judged.done t
         → (isTooLarge v ≡ false) × (t ≡ valueText v)
-    go true i short e = absurd (let z : _≡_ {A = ℕ} 0 1 = cc in omega arith)
-    go false i true e = absurd (let z : _≡_ {A = ℕ} 0 1 = cc in omega arith)
+    go true i short e = clash cc
+    go false i true e = clash cc
     go false i false e = (i, cc)
 
 pub output-text : (room : ℕ) (v : Value) (t : Bytes) → writtenWithin room v ≡ Judged.done t → t ≡ valueText v

@@ -11,6 +11,7 @@ use Rattle.model.specs.Bytes.{Bytes}
 use Rattle.model.specs.Limits.{maxTextBytes}
 use Rattle.model.specs.Refusal.{ReadFault, notJson, repeatedName, loneSurrogate, badNumber, tooLarge, readNumber}
 use Rattle.model.specs.Value.{Value}
+use Rattle.model.specs.Laws.Logic.{clash}
 use Rattle.syntax.specs.Faults.{Fault, fault, faults, Begins, NotJson, OverLong, Pair, reach, Unpaired, Stated, Has}
 use Rattle.syntax.specs.Grammar.{spell}
 use Rattle.syntax.specs.Read.{Read, done, refuse, read}
@@ -116,8 +117,7 @@ pub read-faultless : (s : Bytes) (v : Value) (k : ReadFault) (p : ℕ) → read 
 read-faultless s v k p e l g =
     let w = smallest-wins s k p l g (sound s v e .1) in
     let i : refuse (w .kind) (w .place) ≡ done v = sym (w .refused) ∙ e in
-    let z : _≡_ {A = ℕ} 0 1 = cc in
-    omega (arith, z)
+    clash cc
 
 -- ---- refusal 2, the other way
 begins-fewer : (s : Bytes) (n m : ℕ) → n ≤ m → Begins (take m s) → Begins (take n s)

@@ -87,9 +87,11 @@ mutual
 
 pub textual-well-formed : (v : Value) → WellFormedAnswer v → WellFormedValue (textual v)
 textual-well-formed v h = record {
-  utf8-strings = textual-strings WellFormed instant-well-formed v (h .utf8-strings);
-  byte-strings = textual-strings (λ s. T (areBytes s)) (λ t. well-formed-bytes (instantText t) (instant-well-formed t)) v (h .byte-strings);
-  distinct-names = subst T (sym (textual-distinct v)) (h .distinct-names);
-  within-limits = textual-bounded v (h .within-limits);
+  formed = record {
+    utf8-strings = textual-strings WellFormed instant-well-formed v (h .utf8-strings);
+    byte-strings = textual-strings (λ s. T (areBytes s)) (λ t. well-formed-bytes (instantText t) (instant-well-formed t)) v (h .byte-strings);
+    distinct-names = subst T (sym (textual-distinct v)) (h .distinct-names);
+    within-limits = textual-bounded v (h .within-limits);
+  };
   no-instants = textual-free v;
 }

@@ -170,10 +170,12 @@ pub value-well-formed : (d : JValue) (v : Value) → valueMeaning d ≡ some v �
 value-well-formed d v e =
     let h = all-some Fine (value-fine d) e in
     record {
-      utf8-strings = h .strings;
-      byte-strings = strings-map WellFormed (λ s. T (areBytes s)) well-formed-bytes v (h .strings);
-      distinct-names = h .distinct;
-      within-limits = h .within;
+      formed = record {
+        utf8-strings = h .strings;
+        byte-strings = strings-map WellFormed (λ s. T (areBytes s)) well-formed-bytes v (h .strings);
+        distinct-names = h .distinct;
+        within-limits = h .within;
+      };
       no-instants = h .free;
     }
 

@@ -20,40 +20,48 @@ use Rattle.syntax.specs.Laws.WrittenStrings.{DerivedString, derived-stri
 first-item : {v : Value} {vs : Values} → WellFormedValue (array (item v vs)) → WellFormedValue v
 unfolding AllStrings distinctNames bounded instantFree
 first-item {v} h = record {
-  utf8-strings = h .utf8-strings .0;
-  byte-strings = h .byte-strings .0;
-  distinct-names = and-l (distinctNames v) _ (h .distinct-names);
-  within-limits = and-l (bounded v) _ (h .within-limits);
+  formed = record {
+    utf8-strings = h .formed .utf8-strings .0;
+    byte-strings = h .formed .byte-strings .0;
+    distinct-names = and-l (distinctNames v) _ (h .formed .distinct-names);
+    within-limits = and-l (bounded v) _ (h .formed .within-limits);
+  };
   no-instants = and-l (instantFree v) _ (h .no-instants);
 }
 
 other-items : {v : Value} {vs : Values} → WellFormedValue (array (item v vs)) → WellFormedValue (array vs)
 unfolding AllStrings distinctNames bounded instantFree
 other-items {v} h = record {
-  utf8-strings = h .utf8-strings .1;
-  byte-strings = h .byte-strings .1;
-  distinct-names = and-r (distinctNames v) _ (h .distinct-names);
-  within-limits = and-r (bounded v) _ (h .within-limits);
+  formed = record {
+    utf8-strings = h .formed .utf8-strings .1;
+    byte-strings = h .formed .byte-strings .1;
+    distinct-names = and-r (distinctNames v) _ (h .formed .distinct-names);
+    within-limits = and-r (bounded v) _ (h .formed .within-limits);
+  };
   no-instants = and-r (instantFree v) _ (h .no-instants);
 }
 
 first-member : {n : Bytes} {v : Value} {ms : Members} → WellFormedValue (object (member n v ms)) → WellFormedValue v
 unfolding AllStrings distinctNames bounded instantFree
 first-member {n} {v} {ms} h = record {
-  utf8-strings = h .utf8-strings .1;
-  byte-strings = h .byte-strings .1;
-  distinct-names = and-l (distinctNames v) _ (and-r (not (among n (names ms))) _ (h .distinct-names));
-  within-limits = and-l (bounded v) _ (h .within-limits);
+  formed = record {
+    utf8-strings = h .formed .utf8-strings .1;
+    byte-strings = h .formed .byte-strings .1;
+    distinct-names = and-l (distinctNames v) _ (and-r (not (among n (names ms))) _ (h .formed .distinct-names));
+    within-limits = and-l (bounded v) _ (h .formed .within-limits);
+  };
   no-instants = and-l (instantFree v) _ (h .no-instants);
 }
 
 other-members : {n : Bytes} {v : Value} {ms : Members} → WellFormedValue (object (member n v ms)) → WellFormedValue (object ms)
 unfolding AllStrings distinctNames bounded instantFree
 other-members {n} {v} {ms} h = record {
-  utf8-strings = h .utf8-strings .2;
-  byte-strings = h .byte-strings .2;
-  distinct-names = and-r (distinctNames v) _ (and-r (not (among n (names ms))) _ (h .distinct-names));
-  within-limits = and-r (bounded v) _ (h .within-limits);
+  formed = record {
+    utf8-strings = h .formed .utf8-strings .2;
+    byte-strings = h .formed .byte-strings .2;
+    distinct-names = and-r (distinctNames v) _ (and-r (not (among n (names ms))) _ (h .formed .distinct-names));
+    within-limits = and-r (bounded v) _ (h .formed .within-limits);
+  };
   no-instants = and-r (instantFree v) _ (h .no-instants);
 }
 
@@ -72,8 +80,8 @@ unfolding AllStrings bounded valueText spellValue spellFrac spellExp valueMeanin
 derived-scalar null h = record { tree = jnull; spells = λ y. refl; means = refl }
 derived-scalar (boolean true) h = record { tree = jtrue; spells = λ y. refl; means = refl }
 derived-scalar (boolean false) h = record { tree = jfalse; spells = λ y. refl; means = refl }
-derived-scalar (integer z) h = let d = derived-integer z (h .within-limits) in record { tree = jnumber (d .negative) (d .digits) no-frac no-exp; spells = d .spells; means = d .means }
-derived-scalar (string s) h = let d = derived-string (h .utf8-strings) in record { tree = jstring (d .chars); spells = quoted d; means = ap (map (λ t. scalar (string t))) (d .means) }
+derived-scalar (integer z) h = let d = derived-integer z (h .formed .within-limits) in record { tree = jnumber (d .negative) (d .digits) no-frac no-exp; spells = d .spells; means = d .means }
+derived-scalar (string s) h = let d = derived-string (h .formed .utf8-strings) in record { tree = jstring (d .chars); spells = quoted d; means = ap (map (λ t. scalar (string t))) (d .means) }
 
 -- ---- arrays
 -- A derivation of the items of an array, up to its bracket.
@@ -190,7 +198,7 @@ mutual
   derived-members : (ms : Members) → WellFormedValue (object ms) → AllNamed ms
   derived-members no-members h = tt
   derived-members (member n v ms) h =
-      derived-member n v (derived-string (h .utf8-strings .0)) (derived v (first-member h)) ms (and-l (not (among n (names ms))) _ (h .distinct-names)) (derived-members ms (other-members h))
+      derived-member n v (derived-string (h .formed .utf8-strings .0)) (derived v (first-member h)) ms (and-l (not (among n (names ms))) _ (h .formed .distinct-names)) (derived-members ms (other-members h))
 
 -- ---- texts
 -- A derivation of the text of a well-formed value, with that meaning.
