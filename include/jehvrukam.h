@@ -2,9 +2,9 @@
  * Jehvrukam: the C interface.
  *
  * Only numbers and byte areas cross it. The library allocates nothing and keeps nothing between calls, so calls on
- * different areas may run at the same time. A call uses less than 16 KiB of stack (some 13 KB at the deepest
- * nesting, measured: host/tests/stack.c). Link target/staticlib/libjehvrukam.a, which `rt staticlib jehvrukam`
- * writes, for x86-64.
+ * different areas may run at the same time. A call uses less than 16 KiB of stack to read and less than 32 KiB to
+ * evaluate (some 13 KB and 24 KB at the deepest nesting, measured: host/tests/stack.c). Link
+ * target/staticlib/libjehvrukam.a, which `rt staticlib jehvrukam` writes, for x86-64.
  */
 #ifndef JEHVRUKAM_H
 #define JEHVRUKAM_H
@@ -22,20 +22,39 @@ extern "C" {
 #define JEHVRUKAM_MAX_NESTING 32
 #define JEHVRUKAM_MAX_INTEGER INT64_C(9007199254740991) /* either way */
 
+/* The largest step limit. */
+#define JEHVRUKAM_MAX_STEPS 1000
+
 /* Work room for one text: the least lengths of its two areas. */
 #define JEHVRUKAM_TABLE_BYTES 28672   /* 28 for each value: its row, and 12 that are zero again after a call */
 #define JEHVRUKAM_STRINGS_BYTES 16384
+
+/* Work room for an evaluation: the least length of its cells. */
+#define JEHVRUKAM_CELLS_BYTES 32768   /* 8 for each of 4,096 values */
 
 #define JEHVRUKAM_ROW_BYTES 16
 
 /* Refusals. What an entry answers. */
 enum {
     JEHVRUKAM_DONE = 0,
-    JEHVRUKAM_BAD_SIZE = 1,         /* a work area below its stated size */
+    JEHVRUKAM_BAD_SIZE = 1,         /* a work area below its stated size, or a step limit above the largest */
     JEHVRUKAM_NOT_JSON = 2,         /* not an RFC 8259 text in UTF-8 */
     JEHVRUKAM_NAME_OR_SURROGATE = 3, /* a name twice in one object, or a lone surrogate escape */
     JEHVRUKAM_BAD_NUMBER = 4,       /* a fraction or exponent, or an integer beyond the limit */
-    JEHVRUKAM_TOO_LARGE = 5         /* text too long, nested too deep, or too many values */
+    JEHVRUKAM_TOO_LARGE = 5,        /* text too long, nested too deep, or too many values */
+    JEHVRUKAM_NOT_RULE = 6,         /* the text reads, but is not a rule */
+    JEHVRUKAM_WRONG_KIND = 7,       /* an operand of a wrong kind in evaluation */
+    JEHVRUKAM_BAD_DATE = 8,         /* a string that is no date text of the wanted forms */
+    JEHVRUKAM_OUT_OF_RANGE = 9,     /* a sum beyond the limit of integers, or an instant outside its range */
+    JEHVRUKAM_OUT_OF_STEPS = 10,    /* one step more than the limit would be needed */
+    JEHVRUKAM_ANSWER_TOO_LARGE = 11, /* the answer passes a limit of texts */
+    JEHVRUKAM_OUTPUT_TOO_SHORT = 12 /* the answer's text is longer than the output */
+};
+
+/* Which text a refusal from 2 to 5 is about. */
+enum {
+    JEHVRUKAM_RULE = 1,
+    JEHVRUKAM_RECORD = 3
 };
 
 /* Kinds of values. A row of kind 0 is unused. */
@@ -88,8 +107,56 @@ uint32_t jehvrukam_read(const uint8_t *text, size_t text_len,
                         uint64_t *place);
 
 /*
- * What a row of a table says. The table is one that jehvrukam_read filled, and the row one of its used rows; what is
- * asked of a kind that does not have it is some number.
+ * Evaluates a rule on a record and writes the answer as a JSON text.
+ *
+ * Given: two texts of any length, 0 included; a limit (to begin to evaluate a rule, literals included, is one step); a
+ * table and a strings area for each text; cells; an output of any length, 0 included; and four numbers. Areas, output
+ * and numbers may hold anything. No pointer is null. The texts, the areas, the output and the numbers lie apart: no
+ * byte belongs to two of them. No alignment is needed but that of the numbers.
+ *
+ * Answers the first of these that applies:
+ *
+ *   1  limit > JEHVRUKAM_MAX_STEPS, a table below JEHVRUKAM_TABLE_BYTES, a strings area below JEHVRUKAM_STRINGS_BYTES,
+ *      or cells_len < JEHVRUKAM_CELLS_BYTES. Nothing is touched, nor any of the numbers.
+ *   2 to 5  the rule's text does not read, as jehvrukam_read would answer.
+ *   6  it reads, but is not a rule.
+ *   2 to 5  the record's text does not read.
+ *   7 to 10  the first that evaluation meets:
+ *      7  an operand of a wrong kind
+ *      8  a string that is no date text of the wanted forms
+ *      9  a sum beyond JEHVRUKAM_MAX_INTEGER either way, or an instant before the year 0000 or after 9999
+ *     10  one step more than the limit would be needed; a limit of 0 is permitted, and gives 10
+ *  11  the answer nests deeper than JEHVRUKAM_MAX_NESTING, has more than JEHVRUKAM_MAX_VALUES values, or its text has
+ *      more than JEHVRUKAM_MAX_TEXT_BYTES bytes, however long the output is.
+ *  12  the answer's text has more than output_len bytes.
+ *   0  done.
+ *
+ * After 2 to 12 all five areas and the output are zero, through their whole given lengths, and
+ *
+ *   *which   is JEHVRUKAM_RULE or JEHVRUKAM_RECORD after 2 to 5, the text that does not read; else 0
+ *   *place   is the place in that text after 2 to 5; else 0
+ *   *steps   is 0 after 2 to 6, the limit after 10, else the number of steps begun, also after 11 and 12
+ *   *length  is 0.
+ *
+ * After 0 the tables and strings areas hold what jehvrukam_read leaves there for these texts; the cells are zero; the
+ * output holds the answer's text, without a terminator, then zeros to its end; *which and *place are 0, *steps is the
+ * number of steps begun, and *length is that of the text, at least 1. The answer true is the text of these four bytes;
+ * every other text is another answer.
+ */
+uint32_t jehvrukam_evaluate(const uint8_t *rule, size_t rule_len,
+                            const uint8_t *record, size_t record_len,
+                            uint64_t limit,
+                            uint8_t *rule_table, size_t rule_table_len,
+                            uint8_t *rule_strings, size_t rule_strings_len,
+                            uint8_t *record_table, size_t record_table_len,
+                            uint8_t *record_strings, size_t record_strings_len,
+                            uint8_t *cells, size_t cells_len,
+                            uint8_t *output, size_t output_len,
+                            uint64_t *which, uint64_t *place, uint64_t *steps, uint64_t *length);
+
+/*
+ * What a row of a table says. The table is one that jehvrukam_read or jehvrukam_evaluate filled, and the row one of its
+ * used rows; what is asked of a kind that does not have it is some number.
  */
 
 static inline uint32_t jehvrukam_row_field(const uint8_t *table, size_t row, unsigned field)

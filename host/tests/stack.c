@@ -1,8 +1,8 @@
 /*
- * How many bytes of stack a call of jehvrukam_read or of writer_write uses: the stack of a thread is filled with a
- * pattern, and what no longer has it after the call was used. Prints the most over texts that nest, branch and decode
- * in different ways, and over values that nest 32 deep in rows and in cells. The last line is 'N passed, M failed': one
- * for each text and each value, that it stayed below the limit.
+ * How many bytes of stack a call of jehvrukam_read, jehvrukam_evaluate or writer_write uses: the stack of a thread is
+ * filled with a pattern, and what no longer has it after the call was used. Prints the most over texts that nest,
+ * branch and decode in different ways, over rules that nest 32 deep, and over values that nest 32 deep in rows and in
+ * cells. The last line is 'N passed, M failed': one for each text, rule and value, that it stayed below its limit.
  */
 #include "jehvrukam.h"
 #include "writer_c.h"
@@ -13,20 +13,30 @@
 #include <string.h>
 
 #define STACK_BYTES (1024 * 1024)
-#define LIMIT (16 * 1024)
 #define PATTERN 0xa5
 
-static uint8_t table[JEHVRUKAM_TABLE_BYTES];
-static uint8_t strings[JEHVRUKAM_STRINGS_BYTES];
-static uint8_t cells[8 * 2 * JEHVRUKAM_MAX_NESTING + 8];
+static uint8_t rule_table[JEHVRUKAM_TABLE_BYTES], table[JEHVRUKAM_TABLE_BYTES];
+static uint8_t rule_strings[JEHVRUKAM_STRINGS_BYTES], strings[JEHVRUKAM_STRINGS_BYTES];
+static uint8_t cells[JEHVRUKAM_CELLS_BYTES];
 static uint8_t output[JEHVRUKAM_MAX_TEXT_BYTES];
 static size_t thread; /* bytes of stack that a thread uses by itself */
-static size_t most_reading, most_writing;
 static int passed, failed;
+
+/* What an entry may use, and the most that a call of it did. */
+struct use {
+    size_t limit, most;
+};
+
+static struct use reading = {16 * 1024, 0}, evaluating = {32 * 1024, 0}, writing = {16 * 1024, 0};
 
 struct call {
     const uint8_t *text;
     size_t length;
+};
+
+struct evaluation {
+    struct call rule, record;
+    uint32_t refusal;
 };
 
 static void *nothing(void *argument)
@@ -39,6 +49,17 @@ static void *read_text(void *argument)
     struct call *call = argument;
     uint64_t place = 0;
     jehvrukam_read(call->text, call->length, table, sizeof table, strings, sizeof strings, &place);
+    return argument;
+}
+
+static void *evaluate_texts(void *argument)
+{
+    struct evaluation *given = argument;
+    uint64_t which = 0, place = 0, steps = 0, length = 0;
+    given->refusal = jehvrukam_evaluate(given->rule.text, given->rule.length, given->record.text, given->record.length,
+                                        JEHVRUKAM_MAX_STEPS, rule_table, sizeof rule_table, rule_strings,
+                                        sizeof rule_strings, table, sizeof table, strings, sizeof strings, cells,
+                                        sizeof cells, output, sizeof output, &which, &place, &steps, &length);
     return argument;
 }
 
@@ -78,21 +99,30 @@ static size_t repeat(char *to, const char *part, int times)
     return length;
 }
 
+/* A text of parts that open, of one inside, and of parts that close. */
+static struct call nested(char *text, const char *opening, int times, const char *inside, const char *closing)
+{
+    size_t length = repeat(text, opening, times);
+    length += repeat(text + length, inside, 1);
+    length += repeat(text + length, closing, times);
+    return (struct call){(const uint8_t *)text, length};
+}
+
 /* Counts a call that used so many bytes of stack, the thread's own among them, and was done or not. */
-static void count(const char *what, int number, size_t bytes, int done, size_t *most)
+static void count(const char *what, int number, size_t bytes, int done, struct use *use)
 {
     bytes = bytes > thread ? bytes - thread : 0;
     if (!done) {
-        printf("%s %d is refused\n", what, number);
+        printf("%s %d does not end as expected\n", what, number);
         failed++;
-    } else if (bytes == 0 || bytes > LIMIT) {
+    } else if (bytes == 0 || bytes >= use->limit) {
         printf("%s %d: %zu bytes of stack\n", what, number, bytes);
         failed++;
     } else {
         passed++;
     }
-    if (bytes > *most)
-        *most = bytes;
+    if (bytes > use->most)
+        use->most = bytes;
 }
 
 static void measure_reading(void)
@@ -103,19 +133,72 @@ static void measure_reading(void)
     const int times[] = {32, 32, 16};
 
     for (int i = 0; i < 4; i++) {
-        size_t length = 0;
+        struct call call;
         if (i < 3) {
-            length = repeat(text, openings[i], times[i]);
-            length += repeat(text + length, "\"\\u00e9\\\\\"", 1);
-            length += repeat(text + length, closings[i], times[i]);
+            call = nested(text, openings[i], times[i], "\"\\u00e9\\\\\"", closings[i]);
         } else {
-            length = repeat(text, "[", 1);
+            size_t length = repeat(text, "[", 1);
             length += repeat(text + length, "\"a\",", 1000);
             length += repeat(text + length, "1]", 1);
+            call = (struct call){(const uint8_t *)text, length};
         }
-        struct call call = {(const uint8_t *)text, length};
         size_t bytes = used(read_text, &call);
-        count("text", i, bytes, jehvrukam_row_kind(table, 0) != 0, &most_reading);
+        count("text", i, bytes, jehvrukam_row_kind(table, 0) != 0, &reading);
+
+        struct evaluation given = {{(const uint8_t *)"{\"var\":\"\"}", 10}, call, 0};
+        bytes = used(evaluate_texts, &given);
+        count("the whole of text", i, bytes, given.refusal == JEHVRUKAM_DONE, &evaluating);
+    }
+}
+
+/* Rules 32 deep: arrays, which nest one deep, and operations, which nest two, around each operation. */
+static void measure_evaluating(void)
+{
+    static const char shift[] = "{\"plusTime\":[\"2020-01-31T10:20:30.123456789+05:30\",-20000,\"month\"]}";
+    static const char birth[] = "{\"dccDateOfBirth\":[\"2020-02\"]}";
+    static const char part[] = "{\"extractFromUVCI\":[\"URN:UVCI:01:NL/187/37512422923\",3]}";
+    static const char member[] = "{\"in\":[\"xyz\",{\"var\":\"a.1\"}]}";
+    static const char dates[] = "{\"before\":[{\"plusTime\":[\"2020\",1,\"month\"]},{\"dccDateOfBirth\":[\"2021-04\"]},"
+                                "{\"plusTime\":[\"2021-05-28T23:59:59-1\",-1,\"hour\"]}]}";
+    static const char path[] = "{\"var\":\"a.1.0\"}";
+    static const struct {
+        const char *opening;
+        int times;
+        const char *inside, *closing;
+        uint32_t refusal;
+    } rules[] = {
+        {"[", 32, "", "]", 0},
+        {"[", 31, path, "]", 0},
+        {"[", 30, shift, "]", 0},
+        {"[", 30, birth, "]", 0},
+        {"[", 30, part, "]", 0},
+        {"[", 30, "{\">=\":[3,2,1]}", "]", 0},
+        {"[", 29, member, "]", 0},
+        {"[", 28, dates, "]", 0},
+        {"{\"!\":[", 16, "1", "]}", 0},
+        {"{\"+\":[1,", 16, "1", "]}", 0},
+        {"{\"===\":[1,", 16, "1", "]}", 0},
+        {"{\"if\":[", 15, part, ",2,3]}", 0},
+        {"{\"if\":[1,", 15, shift, ",3]}", 0},
+        {"{\"if\":[0,2,", 15, shift, "]}", 0},
+        {"{\"if\":[0,2,", 14, dates, "]}", 0},
+        {"{\"and\":[1,1,", 15, part, "]}", 0},
+        {"{\"and\":[", 15, part, ",1]}", 0},
+        {"{\"reduce\":[", 15, "[1,2]", ",[{\"var\":\"current\"}],[]]}", 0},
+        {"{\"reduce\":[[1],", 15, shift, ",0]}", 0},
+        {"{\"reduce\":[[1],", 14, dates, ",0]}", 0},
+        {"{\"reduce\":[[1],{\"var\":\"accumulator\"},", 15, part, "]}", 0},
+        {"[{\"reduce\":[[1],", 10, shift, ",0]}]", 0},
+        {"{\"reduce\":[", 16, "1", ",2,3]}", JEHVRUKAM_WRONG_KIND},
+    };
+    static char text[JEHVRUKAM_MAX_TEXT_BYTES];
+    static const char record[] = "{\"a\":[0,[\"abc\",\"xyz\"]]}";
+
+    for (size_t i = 0; i < sizeof rules / sizeof *rules; i++) {
+        struct evaluation given = {nested(text, rules[i].opening, rules[i].times, rules[i].inside, rules[i].closing),
+                                   {(const uint8_t *)record, sizeof record - 1}, 0};
+        size_t bytes = used(evaluate_texts, &given);
+        count("rule", (int)i, bytes, given.refusal == rules[i].refusal, &evaluating);
     }
 }
 
@@ -133,15 +216,12 @@ static void put_cell(size_t number, uint8_t tag, size_t low, size_t high)
 static void measure_writing_rows(int number, const char *opening, const char *inside, const char *closing)
 {
     static char text[JEHVRUKAM_MAX_TEXT_BYTES];
-    size_t length = repeat(text, opening, 32);
-    length += repeat(text + length, inside, 1);
-    length += repeat(text + length, closing, 32);
-    struct call call = {(const uint8_t *)text, length};
+    struct call call = nested(text, opening, 32, inside, closing);
     read_text(&call);
     put_cell(0, *opening == '[' ? 7 : 8, 1, 1);
     uint64_t cell = 0;
     size_t bytes = used(write_cell, &cell);
-    count("rows", number, bytes, cell == 0, &most_writing);
+    count("rows", number, bytes, cell == 0, &writing);
 }
 
 /* Lists (tag 9, of one item) or contexts (tag 10, of two) 32 deep around a cell. */
@@ -154,19 +234,21 @@ static void measure_writing_cells(int number, uint8_t tag, uint8_t inside, size_
         put_cell(items * level, tag, items * (level - 1), items);
     uint64_t cell = items * 32;
     size_t bytes = used(write_cell, &cell);
-    count("cells", number, bytes, cell == 0, &most_writing);
+    count("cells", number, bytes, cell == 0, &writing);
 }
 
 int main(void)
 {
     thread = used(nothing, NULL);
     measure_reading();
+    measure_evaluating();
     measure_writing_rows(0, "[", "-9007199254740991", "]");
     measure_writing_rows(1, "{\"\\u0001\":", "\"\\u0001\\n\\u00e9\"", "}");
     measure_writing_cells(0, 9, 3, 0xffffffff, 0xffffff); /* an integer of 17 digits */
     measure_writing_cells(1, 10, 4, 999, 73000);          /* an instant */
     measure_writing_cells(2, 10, 5, 0, 2500);             /* most of them zero bytes */
-    printf("the most stack that a call used: %zu bytes to read, %zu to write\n", most_reading, most_writing);
+    printf("the most stack that a call used: %zu bytes to read, %zu to evaluate, %zu to write\n", reading.most,
+           evaluating.most, writing.most);
     printf("%d passed, %d failed\n", passed, failed);
     return failed == 0 ? 0 : 1;
 }

@@ -1,5 +1,5 @@
 -- The entry's equation from what the reader promises.
-use mathlib.Core.Path.{_≡_, refl}
+use mathlib.Core.Path.{_≡_}
 use Prim.Native.Nat.{ℕ}
 use Rattle.json.specs.Contract.{AllRead}
 use Rattle.json.specs.declared.Answer.{Answer}

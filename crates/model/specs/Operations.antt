@@ -12,13 +12,15 @@ use Rattle.model.specs.DateText.{dateText, dayText}
 use Rattle.model.specs.Option.{holds}
 use Rattle.model.specs.Refusal.{wrongKind, outOfRange}
 use Rattle.model.specs.Result.{Result, ok, refuse, _>>=_, required, provided}
-use Rattle.model.specs.Rule.{Domain, onIntegers, onInstants, Operation}
+use Rattle.model.specs.Rule.{Operation}
 use Rattle.model.specs.Shift.{shift}
 use Rattle.model.specs.Truth.{Truth, truthy, falsy, neither, truth}
 use Rattle.model.specs.Value.{Value, scalar, instant, array, object, Scalar, null, boolean, integer, string, Values, no-items, item, asScalar, asInteger, asInstant, asArray, asString, sameScalar, withinLimits}
 use Rattle.model.specs.declared.Comparison.{Comparison}
 use Rattle.model.specs.declared.Comparison.the-variants.{Greater, Less, GreaterOrEqual, LessOrEqual}
 use Rattle.model.specs.declared.TimeUnit.{TimeUnit}
+use Rattle.model.specs.declared.Domain.{Domain}
+use Rattle.model.specs.declared.Domain.the-variants.{OnIntegers, OnInstants}
 
 -- The value of the one operand, of the two.
 abbrev pub unary : (Value → Result Value) → Values → Result Value
@@ -63,8 +65,8 @@ negated neither = refuse wrongKind
 -- ---- numbers
 -- The numbers of a comparison's domain: integers, or the milliseconds of instants.
 abbrev pub asNumber : Domain → Value → Option ℤ
-asNumber onIntegers v = asInteger v
-asNumber onInstants v = asInstant v
+asNumber OnIntegers v = asInteger v
+asNumber OnInstants v = asInstant v
 
 -- All of them, or 7 where one is of another kind.
 abbrev pub numbers : Domain → Values → Result (List ℤ)

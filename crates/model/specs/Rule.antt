@@ -5,6 +5,7 @@ use Rattle.model.specs.Bytes.{Bytes}
 use Rattle.model.specs.Path.{Path}
 use Rattle.model.specs.Value.{Value, scalar, Scalar}
 use Rattle.model.specs.declared.Comparison.{Comparison}
+use Rattle.model.specs.declared.Domain.{Domain}
 use Rattle.model.specs.declared.TimeUnit.{TimeUnit}
 
 -- 01, Shape: "A boolean, integer or string". Null is no rule.
@@ -12,10 +13,6 @@ pub data Literal : Type 0 where
   boolean : Bool → Literal
   integer : ℤ → Literal
   string : Bytes → Literal
-
--- What a comparison compares: integers (the four signs) or instants (the four date words).
-pub data Domain : Type 0 where
-  onIntegers onInstants : Domain
 
 -- The operations that evaluate all their operands, left to right, before anything else. An array is one of them.
 -- The bare integers and units of the last two operations are no operands.

@@ -10,11 +10,12 @@ use Rattle.model.specs.Bytes.{Bytes, ascii, sameBytes}
 use Rattle.model.specs.Lists.{find}
 use Rattle.model.specs.Option.{_>>=_, when}
 use Rattle.model.specs.Path.{pathOf}
-use Rattle.model.specs.Rule.{Literal, onIntegers, onInstants, Operation, Rule, literal, apply, Rules, no-rules, rule}
+use Rattle.model.specs.Rule.{Literal, Operation, Rule, literal, apply, Rules, no-rules, rule}
 use Rattle.model.specs.Value.{Value, scalar, instant, array, object, Scalar, null, boolean, integer, string, Values, no-items, item, Members, no-members, member, asInteger, asString}
 use Rattle.model.specs.declared.Comparison.the-variants.{Greater, Less, GreaterOrEqual, LessOrEqual}
 use Rattle.model.specs.declared.TimeUnit.{TimeUnit}
 use Rattle.model.specs.declared.TimeUnit.the-variants.{Year, Month, Day, Hour}
+use Rattle.model.specs.declared.Domain.the-variants.{OnIntegers, OnInstants}
 
 -- ---- names
 -- How an operation is written. `counted least most o` has from `least` to `most` rules as operands.
@@ -32,14 +33,14 @@ keywords =
     ∷ (ascii "in", counted 2 2 Operation.memberOf)
     ∷ (ascii "+", counted 2 2 Operation.plus)
     ∷ (ascii "and", and)
-    ∷ (ascii ">", counted 2 3 (Operation.compare onIntegers Greater))
-    ∷ (ascii "<", counted 2 3 (Operation.compare onIntegers Less))
-    ∷ (ascii ">=", counted 2 3 (Operation.compare onIntegers GreaterOrEqual))
-    ∷ (ascii "<=", counted 2 3 (Operation.compare onIntegers LessOrEqual))
-    ∷ (ascii "after", counted 2 3 (Operation.compare onInstants Greater))
-    ∷ (ascii "before", counted 2 3 (Operation.compare onInstants Less))
-    ∷ (ascii "not-after", counted 2 3 (Operation.compare onInstants LessOrEqual))
-    ∷ (ascii "not-before", counted 2 3 (Operation.compare onInstants GreaterOrEqual))
+    ∷ (ascii ">", counted 2 3 (Operation.compare OnIntegers Greater))
+    ∷ (ascii "<", counted 2 3 (Operation.compare OnIntegers Less))
+    ∷ (ascii ">=", counted 2 3 (Operation.compare OnIntegers GreaterOrEqual))
+    ∷ (ascii "<=", counted 2 3 (Operation.compare OnIntegers LessOrEqual))
+    ∷ (ascii "after", counted 2 3 (Operation.compare OnInstants Greater))
+    ∷ (ascii "before", counted 2 3 (Operation.compare OnInstants Less))
+    ∷ (ascii "not-after", counted 2 3 (Operation.compare OnInstants LessOrEqual))
+    ∷ (ascii "not-before", counted 2 3 (Operation.compare OnInstants GreaterOrEqual))
     ∷ (ascii "!", counted 1 1 Operation.not)
     ∷ (ascii "dccDateOfBirth", counted 1 1 Operation.dateOfBirth)
     ∷ (ascii "plusTime", plusTime)

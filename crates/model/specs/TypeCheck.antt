@@ -8,9 +8,11 @@ use Rattle.model.specs.Eval.{current, accumulator}
 use Rattle.model.specs.Lists.{find, all}
 use Rattle.model.specs.Option.{when, orElse}
 use Rattle.model.specs.Path.{Path, samePath}
-use Rattle.model.specs.Rule.{Literal, Domain, onIntegers, onInstants, Operation, Rule, literal, var, if, and, reduce, apply, Rules, no-rules, rule}
+use Rattle.model.specs.Rule.{Literal, Operation, Rule, literal, var, if, and, reduce, apply, Rules, no-rules, rule}
 use Rattle.model.specs.Sheet.{Sheet}
 use Rattle.model.specs.Types.{Ty, Types, passes, scalars, anyOfRecord, anyValue}
+use Rattle.model.specs.declared.Domain.{Domain}
+use Rattle.model.specs.declared.Domain.the-variants.{OnIntegers, OnInstants}
 
 -- ---- variables
 -- Where a rule stands: outside every lambda, under a sheet; or in a lambda, with the types of `current` and `accumulator`.
@@ -58,8 +60,8 @@ abbrev pub everyOperand : Types → List Types → Bool
 everyOperand a l = all (λ x. passes x a) l
 
 abbrev pub domainType : Domain → Ty
-domainType onIntegers = Ty.integer
-domainType onInstants = Ty.instant
+domainType OnIntegers = Ty.integer
+domainType OnInstants = Ty.instant
 
 -- "The other operations allow and give what evaluation does; `plusTime` needs date, `dccDateOfBirth` day. `extractFromUVCI` takes null or string".
 -- "`and` and `!` take no instant."

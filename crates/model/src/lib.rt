@@ -7,6 +7,10 @@ pub const MAX_VALUES: usize = 1024;
 
 pub const MAX_NESTING: usize = 32;
 
+pub const MAX_STEPS: u64 = 1000;
+
+pub const HEAP_CELLS: usize = 4096;
+
 pub const MAX_INTEGER: u64 = 9007199254740991;
 
 // A unit of `plusTime`.
@@ -23,6 +27,12 @@ pub enum Comparison {
     Less,
     GreaterOrEqual,
     LessOrEqual,
+}
+
+// What a comparison compares: integers (the four signs) or instants (the four date words).
+pub enum Domain {
+    OnIntegers,
+    OnInstants,
 }
 
 // A date of the Gregorian calendar: months and days count from 1.

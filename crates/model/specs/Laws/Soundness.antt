@@ -16,7 +16,7 @@ use Rattle.model.specs.Option.{isSome, orElse, when, holds}
 use Rattle.model.specs.Path.{Path, samePath, lookup, valueAt}
 use Rattle.model.specs.Refusal.{Fault, wrongKind, badDate, outOfRange, EvalFault, fault, outOfSteps, evalNumber}
 use Rattle.model.specs.Result.{Result, ok, refuse, required, isOk}
-use Rattle.model.specs.Rule.{Literal, Domain, onIntegers, onInstants, Operation, Rule, literal, var, if, and, reduce, apply, Rules, no-rules, rule, literalValue}
+use Rattle.model.specs.Rule.{Literal, Operation, Rule, literal, var, if, and, reduce, apply, Rules, no-rules, rule, literalValue}
 use Rattle.model.specs.Run.{Name, Ended, got, failed, Run, return, lift}
 use Rattle.model.specs.Sheet.{Sheet, fits}
 use Rattle.model.specs.Shift.{shift}
@@ -31,6 +31,8 @@ use Rattle.model.specs.Laws.Runs.{EndsIn, Always, always-lift, always-be
 use Rattle.model.specs.Laws.Shift.{shift-never-bad}
 use Rattle.model.specs.Laws.Types.{decided, passes-sound, hasType-l, hasType-r, anyValue-all, anyOfRecord-all, anyOfRecord-decided, itemsTypes-sound}
 use Rattle.model.specs.declared.TimeUnit.{TimeUnit}
+use Rattle.model.specs.declared.Domain.{Domain}
+use Rattle.model.specs.declared.Domain.the-variants.{OnIntegers, OnInstants}
 
 -- A value of one of the types.
 abbrev pub Has : Types → Value → Type 0
@@ -171,8 +173,8 @@ negated-sound falsy h = tt
 negated-sound neither h = absurd h
 
 number-some : (d : Domain) (v : Value) → Has (domainType d ∷ []) v → T (isSome (asNumber d v))
-number-some onIntegers v h = or-f (isSome (asInteger v)) h
-number-some onInstants v h = or-f (isSome (asInstant v)) h
+number-some OnIntegers v h = or-f (isSome (asInteger v)) h
+number-some OnInstants v h = or-f (isSome (asInstant v)) h
 
 numbers-sound : (d : Domain) (vs : Values) → T (allItems (λ v. isSome (asNumber d v)) vs) → Gives Any (numbers d vs)
 numbers-sound d no-items h = tt

@@ -1,0 +1,3 @@
+-- `plusTime` and `dccDateOfBirth`.
+pub mod Inner
+pub mod Contract

@@ -1,0 +1,5 @@
+-- The evaluator's private contracts.
+pub mod Stack
+pub mod Ended
+pub mod Contract
+pub mod Evaluate

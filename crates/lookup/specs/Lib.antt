@@ -1,0 +1,3 @@
+-- The value at a path, by handles.
+pub mod Contract
+pub mod Inner

@@ -1,0 +1,8 @@
+-- Laws for the proofs of the crate rule.
+pub mod Table
+pub mod Chains
+pub mod Operands
+pub mod Objects
+pub mod Views
+pub mod Paths
+pub mod Rows

@@ -1,0 +1,3 @@
+-- Operations on scalars.
+pub mod Contract
+pub mod Inner

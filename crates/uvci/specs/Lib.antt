@@ -1,0 +1,3 @@
+-- `extractFromUVCI`.
+pub mod Inner
+pub mod Contract

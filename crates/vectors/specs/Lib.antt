@@ -1,0 +1,3 @@
+-- What the program counts, and what its functions do.
+pub mod Cases
+pub mod Inner

@@ -1,0 +1,253 @@
+//! An evaluator of another make than the independent one, with one slip in it or none: what the cases are to notice. It
+//! goes over the rule as it was read, without a tree of its own, counts each step against the limit as it begins it, and
+//! stops to write where a limit is passed.
+
+mod entry;
+mod run;
+mod shape;
+mod text;
+
+macro_rules! slips {
+    ($($name:ident: $what:literal,)*) => {
+        #[derive(Clone, Copy, Debug, PartialEq, Eq)]
+        pub enum Slip { $($name),* }
+
+        /// All slips, and what each is.
+        pub const SLIPS: &[(Slip, &str)] = &[$((Slip::$name, $what)),*];
+    };
+}
+
+slips! {
+    None: "no slip",
+    // programs that would do nothing for us
+    AlwaysSix: "6 to every rule",
+    AlwaysTrue: "true to every rule",
+    AlwaysTen: "10 to every rule",
+    WritesNothing: "an empty text",
+    StepsMadeUp: "steps that were made up",
+    // sizes
+    LimitOneMore: "a limit of 1,001 is taken",
+    LimitOneLess: "a limit of 1,000 is refused",
+    LimitOf32Bits: "a limit has 32 bits",
+    RuleTableShort: "a rule table one byte short is taken",
+    RuleStringsShort: "a rule strings area one byte short is taken",
+    RecordTableShort: "a record table one byte short is taken",
+    RecordStringsShort: "a record strings area one byte short is taken",
+    CellsShort: "cells one byte short are taken",
+    OutputIsWork: "an output below 16,384 bytes is 1",
+    SizesAfterReading: "1 after the refusals of the texts",
+    OneClearsNumbers: "1 sets the numbers to 0",
+    OneClearsOutput: "1 clears the output",
+    // order and numbers
+    RecordFirst: "the record is read before the rule",
+    ShapeLast: "6 after the refusals of the record",
+    WhichSwapped: "the rule as 3, the record as 1",
+    RecordIsTwo: "the record as 2",
+    SixTellsRule: "6 tells the rule",
+    WhichLeft: "which is left as it was where no text is refused",
+    PlaceLeft: "the place is left as it was where no text is refused",
+    PlaceOneMore: "a place counted from 1",
+    StepsLeft: "steps are left as they were with 2 to 6",
+    NoStepsOnRefusal: "no steps with 7 to 9",
+    NoStepsOnLarge: "no steps with 11 and 12",
+    TenTellsMore: "10 tells one more than the limit",
+    ShortTellsLength: "12 tells the length of the text",
+    LengthLeft: "a refusal leaves the length as it was",
+    // areas
+    TablesLeft: "the tables stay after 7 to 12",
+    StringsLeft: "the strings stay after 7 to 12",
+    RuleLeftOnRecord: "the rule's areas stay after a refusal of the record",
+    RuleLeftOnSix: "the rule's areas stay after 6",
+    RecordLeftOnRule: "the record's areas are not cleared after a refusal of the rule",
+    CellsLeft: "the cells are not cleared",
+    CellsLeftOnTen: "the cells are not cleared after 10",
+    OutputLeft: "the output is not cleared after a refusal",
+    OutputTailLeft: "bytes behind the answer are not cleared",
+    TailLeft: "bytes past the stated sizes are not cleared",
+    RecordCleared: "the record's areas are cleared after success",
+    AreasSwapped: "the rule's and the record's areas are exchanged",
+    ShortLeavesFront: "12 leaves what there was room for",
+    // shape
+    NullIsRule: "null is a rule",
+    EmptyArrayRefused: "an empty array is none",
+    EmptyObjectIsRule: "an empty object is a rule",
+    FirstMemberCounts: "members after the first are not seen",
+    BareOperand: "an operand without its array",
+    VarInArray: "a path in an array",
+    VarOfInteger: "an integer as path",
+    DotAtEnd: "a path may end with a dot",
+    DotAtBegin: "a path may begin with a dot",
+    DoubleDot: "two dots in a row in a path",
+    EmptyPathRefused: "the empty path is none",
+    NamesInAnyCase: "names of operations in any case",
+    IfOfTwo: "`if` of 2 operands",
+    IfOfFour: "`if` of 4 operands",
+    ReduceOfTwo: "`reduce` of 2 operands",
+    AndOfOne: "`and` of 1 operand",
+    AndOfThree: "`and` of at most 3 operands",
+    CompareOfOne: "a comparison of 1 operand",
+    CompareOfFour: "a comparison of 4 operands",
+    CompareOfTwo: "comparisons of at most 2 operands",
+    NotOfTwo: "`!` of 2 operands",
+    NotOfNone: "`!` of no operand",
+    EqualOfThree: "`===` of 3 operands",
+    InOfThree: "`in` of 3 operands",
+    PlusOfThree: "`+` of 3 operands",
+    AnyUnit: "any string as unit",
+    UnitInAnyCase: "a unit in any case",
+    AnyAmount: "any scalar as amount",
+    AmountOfRule: "a rule as amount",
+    AnyIndex: "any scalar as index",
+    NegativeIndexRefused: "a negative index is 6",
+    OtherwiseUnchecked: "the third operand of `if` is not checked",
+    LambdaUnchecked: "a lambda is not checked",
+    DateOperandUnchecked: "the operand of `plusTime` is not checked",
+    LastOperandUnchecked: "the last operand of `and` is not checked",
+    // steps
+    LiteralsFree: "literals take no step",
+    ArraysFree: "arrays take no step",
+    VarsFree: "`var` takes no step",
+    BareCounted: "amounts and units take a step",
+    LambdaCounted: "a lambda takes a step more for each item",
+    LimitRunsOver: "one step above the limit is taken",
+    LimitRunsShort: "the step at the limit is refused",
+    ZeroIsNoLimit: "a limit of 0 is none",
+    StepsWhenDone: "a step counts when its rule is done",
+    // truth
+    ZeroTruthy: "0 is truthy",
+    NegativeFalsy: "a negative integer is falsy",
+    EmptyStringTruthy: "the empty string is truthy",
+    ZeroStringFalsy: "the string 0 is falsy",
+    EmptyArrayTruthy: "the empty array is truthy",
+    EmptyObjectTruthy: "the empty object is truthy",
+    NullTruthy: "null is truthy",
+    AndGivesBoolean: "`and` gives true instead of the operand's value",
+    AndGivesFalse: "`and` gives false instead of a falsy value",
+    AndEvaluatesAll: "`and` evaluates all operands",
+    AndLastUntested: "an instant as last operand of `and` is its value",
+    AndInstantTruthy: "`and` goes on after an instant",
+    IfEvaluatesBoth: "`if` evaluates both branches",
+    IfTakesInstant: "an instant as guard takes the second operand",
+    IfRefusesInstant: "an instant as guard is 7",
+    NotTakesInstant: "`!` of an instant is false",
+    // equality
+    EqualCoerces: "`===` takes an integer and its digits as equal",
+    EqualKindsRefused: "`===` of different kinds is 7",
+    EqualNullRefused: "`===` of null is 7",
+    EqualTakesArrays: "`===` of arrays is false",
+    EqualTakesInstants: "`===` of instants compares them",
+    EqualTestsEarly: "`===` tests its first operand before the second is evaluated",
+    EqualByLength: "strings of one length are equal",
+    InFindsArrays: "`in` finds an empty array in an array of such",
+    InFindsInstants: "`in` finds an instant",
+    InTakesArray: "`in` of an array is false",
+    InTakesNull: "`in` of null is false",
+    InTakesString: "`in` looks into a string",
+    InTestsEarly: "`in` tests its first operand before the second is evaluated",
+    InMissesLast: "`in` misses the last item",
+    // sums and comparisons
+    PlusNullIsZero: "`+` takes null as 0",
+    PlusUnbounded: "a sum has no limits",
+    PlusUnboundedBelow: "a sum has no limit below",
+    PlusOneLess: "a sum of 9007199254740991 is 9",
+    PlusTestsEarly: "`+` tests its first operand before the second is evaluated",
+    ThirdUntested: "the third kind is not tested where the first pair fails",
+    ThirdUnevaluated: "the third operand is not evaluated where the first pair fails",
+    ThirdIgnored: "the second pair is not compared",
+    EitherPair: "one of the pairs is enough",
+    FirstAndThird: "the second pair is the first and the third operand",
+    GreaterOrEqual: "> as >=",
+    LessOrEqual: "< as <=",
+    Greater: ">= as >",
+    Less: "<= as <",
+    SignsTakeInstants: "signs compare instants",
+    WordsTakeIntegers: "date words compare integers",
+    WordsTakeStrings: "date words compare strings as dates",
+    AfterIsBefore: "after as before",
+    NotAfterIsBefore: "not-after as before",
+    NotBeforeIsAfter: "not-before as after",
+    NotAfterIsNotBefore: "not-after as not-before",
+    // reduce
+    InitialFirst: "the initial is evaluated before the operand",
+    OperandTestedFirst: "the operand's kind is tested before the initial is evaluated",
+    FoldsBackwards: "the last item first",
+    FoldsOnce: "the first item is folded, and its result repeated",
+    ContextSwapped: "current and accumulator exchanged",
+    ContextOrder: "a context with accumulator first",
+    OuterSeen: "a lambda sees the outer context",
+    NullFoldsNothing: "`reduce` of null is the initial",
+    EmptyFoldsNull: "`reduce` of an empty array is null",
+    InitialInLambda: "the initial is the accumulator for every item",
+    // var
+    LeadingZeros: "an index may have leading zeros",
+    SignedIndex: "an index may have a plus sign",
+    IndexOf32Bits: "an index has 32 bits",
+    IndexOf64Bits: "an index has 64 bits",
+    PastEndIsLast: "an index past the end is the last item",
+    DigitsOnObjects: "digits are an index on an object",
+    LengthOfArrays: "an array has a length",
+    NamesByPrefix: "a name is found by its beginning",
+    FirstFragmentOnly: "fragments after the first are not seen",
+    ScalarPassed: "a fragment on a scalar is the scalar",
+    EmptyPathIsNull: "the empty path gives null",
+    // extractFromUVCI
+    PrefixKept: "URN and UVCI are not dropped",
+    PrefixInAnyCase: "urn and uvci are dropped in any case",
+    PrefixTwice: "URN and UVCI are dropped again and again",
+    PrefixByColons: "URN and UVCI are dropped only before colons",
+    UrnAloneDropped: "URN alone is dropped",
+    PrefixNeedsMore: "URN and UVCI are kept if nothing follows",
+    NoHash: "# does not split",
+    NoSlash: "/ does not split",
+    EmptyHasNone: "the empty string has no fragment",
+    NegativeFromEnd: "a negative index counts from the end",
+    FragmentOf32Bits: "an index of a fragment has 32 bits",
+    UvciNullRefused: "null is 7",
+    UvciTakesAny: "what is no string gives null",
+    // dates
+    MonthClamped: "a month after 31 January is February's end",
+    YearClamped: "a year after 29 February is 28 February",
+    YearBegins: "YYYY is 1 January",
+    MonthBegins: "YYYY-MM is its first day",
+    LowerCase: "t and z in lower case",
+    OffsetReversed: "an offset the other way round",
+    OffsetUnread: "an offset is not read",
+    FractionDropped: "a fraction is dropped",
+    BirthTakesTimes: "`dccDateOfBirth` takes all forms",
+    BirthTakesInstant: "`dccDateOfBirth` takes an instant",
+    RangeIsEight: "an instant out of range is 8",
+    NoDateIsSeven: "a bad text is 7",
+    DateOfNull: "`plusTime` of null is null",
+    ShiftsInstants: "`plusTime` takes an instant",
+    AmountUnsigned: "an amount without its sign",
+    ShiftClamped: "a shift ends at the range's end",
+    // answers
+    InstantUnquoted: "an instant without quotes",
+    NestingOneMore: "33 nestings",
+    NestingOneLess: "31 nestings",
+    ValuesOneMore: "1,025 values",
+    ValuesOneLess: "1,023 values",
+    TextOneMore: "16,385 bytes",
+    TextOneLess: "16,383 bytes",
+    TextByRoom: "a longer output lifts the limit of the text",
+    RoomFirst: "12 before 11",
+    RoomOneLess: "12 for a text as long as the output",
+    SharedOnce: "a list that was written is null when met again",
+    ControlRaw: "a control character stands raw",
+    EscapeKept: "a slash is escaped",
+}
+
+#[derive(Clone, Copy)]
+pub struct Wrong {
+    slip: Slip,
+}
+
+impl Wrong {
+    pub fn new(slip: Slip) -> Wrong {
+        Wrong { slip }
+    }
+
+    fn is(&self, slip: Slip) -> bool {
+        self.slip == slip
+    }
+}
