@@ -1,8 +1,7 @@
 -- Entry: what the entry for C gives is the answer to the two texts.
-use mathlib.Core.Path.{_≡_, refl, sym, ap, subst, _∙_}
-use mathlib.Core.Bool.{Bool, true, false}
-use mathlib.Core.List.{[], _++_}
-use Prim.Native.Nat.{ℕ, _-_, _*_, _≤_}
+use mathlib.Core.Path.{_≡_, refl, _∙_}
+use mathlib.Core.Bool.{false}
+use Prim.Native.Nat.{ℕ, _-_, _≤_}
 use native.Mathlib.Omega.{arith}
 use borrow.Author.Tests.{le-ltb}
 use lib.Dec.{ltb}
@@ -10,15 +9,14 @@ use lib.ListN.{length, take, replicate, length-append, length-replicate}
 use lib.Seq.{take-append-seam}
 use Rattle.model.specs.Bytes.{Bytes}
 use Rattle.model.specs.Judgement.{Judged, done, refuses, judgedNumber, ruleIn, Answer}
-use Rattle.model.specs.Limits.{maxSteps, heapCells, maxTextBytes, maxValues}
+use Rattle.model.specs.Limits.{maxSteps, maxTextBytes}
 use Rattle.model.specs.Main.{steps-within-limit}
 use Rattle.model.specs.Refusal.{Refusal, number}
 use Rattle.model.specs.Rule.{Rule}
 use Rattle.model.specs.Value.{Value}
-use Rattle.syntax.specs.Layout.{padded, rowBytes, entryBytes, tableBytes, stringsBytes}
+use Rattle.syntax.specs.Layout.{padded, tableBytes, stringsBytes}
 use Rattle.syntax.specs.Read as readings
 use Rattle.syntax.specs.Read.{Read, read}
-use Rattle.heap.specs.Cells.{cellBytes}
 use Rattle.jehvrukam.specs.Contract.{areasOf, numbersOf, evaluated}
 use Rattle.jehvrukam.specs.Evaluate.{Areas, Numbers, Evaluated, isInvalid, cellsBytes, refused, answered, withRecord, withShape, withRule, evaluateEntry}
 use Rattle.admit.specs.Inner.{textOf, Answers}
@@ -45,11 +43,11 @@ shows-record : (a : Areas) (limit : ℕ) (v : Value) (r : Rule) (x : Read) → S
 shows-record a limit v r (readings.refuse k p) = shows-refusal a _ _ p 0
 shows-record a limit v r (readings.done w) = shows-answer a v w _ _
 
-shows-shape : (a : Areas) (limit : ℕ) (v : Value) (j : Judged Rule) (record′ : Bytes) → Shows (onShape j record′ limit (length (a .output))) (withShape a limit v j record′)
+shows-shape : (a : Areas) (limit : ℕ) (v : Value) (j : Judged Rule) (record′ : Bytes) → Shows (onShape j (read record′) limit (length (a .output))) (withShape a limit v j record′)
 shows-shape a limit v (refuses e) record′ = shows-refusal a e 0 0 0
 shows-shape a limit v (done r) record′ = shows-record a limit v r (read record′)
 
-shows-rule : (a : Areas) (limit : ℕ) (x : Read) (record′ : Bytes) → Shows (onRule x record′ limit (length (a .output))) (withRule a limit x record′)
+shows-rule : (a : Areas) (limit : ℕ) (x : Read) (record′ : Bytes) → Shows (onRule x (read record′) limit (length (a .output))) (withRule a limit x record′)
 shows-rule a limit (readings.refuse k p) record′ = shows-refusal a _ _ p 0
 shows-rule a limit (readings.done v) record′ = shows-shape a limit v (ruleIn v) record′
 
@@ -83,10 +81,13 @@ steps-record : (r : Rule) (x : Read) (limit room : ℕ) → onRecord r x limit r
 steps-record r (readings.refuse k p) limit room = omega arith
 steps-record r (readings.done w) limit room = steps-within-limit r w limit
 
-steps-shape : (j : Judged Rule) (record′ : Bytes) (limit room : ℕ) → onShape j record′ limit room .stepsBegun ≤ limit
-steps-shape (refuses e) record′ limit room = omega arith
-steps-shape (done r) record′ limit room = steps-record r (read record′) limit room
+steps-shape : (j : Judged Rule) (x : Read) (limit room : ℕ) → onShape j x limit room .stepsBegun ≤ limit
+steps-shape (refuses e) x limit room = omega arith
+steps-shape (done r) x limit room = steps-record r x limit room
 
-pub steps-answer : (x : Read) (record′ : Bytes) (limit room : ℕ) → onRule x record′ limit room .stepsBegun ≤ limit
-steps-answer (readings.refuse k p) record′ limit room = omega arith
-steps-answer (readings.done v) record′ limit room = steps-shape (ruleIn v) record′ limit room
+steps-rule : (x y : Read) (limit room : ℕ) → onRule x y limit room .stepsBegun ≤ limit
+steps-rule (readings.refuse k p) y limit room = omega arith
+steps-rule (readings.done v) y limit room = steps-shape (ruleIn v) y limit room
+
+pub steps-answer : (rule record′ : Bytes) (limit room : ℕ) → answerTo rule record′ limit room .stepsBegun ≤ limit
+steps-answer rule record′ = steps-rule (read rule) (read record′)

@@ -1,7 +1,6 @@
 -- Lines: what is put one after the other is the text of the lines.
-use mathlib.Core.Path.{_≡_, sym, ap, _∙_}
-use mathlib.Core.List.{[], _∷_, _++_}
-use Prim.Native.Nat.{ℕ, _+_, _≤_, _<_}
+use mathlib.Core.Path.{_≡_, sym}
+use Prim.Native.Nat.{ℕ, _+_, _≤_}
 use native.Mathlib.Omega.{arith}
 use lib.ListN.{length, take, drop, set}
 use lib.Seq.{sets, sets-eq, take-append-seam, length-take-le}
@@ -31,9 +30,6 @@ put-begins {x} {d} {d′} {r} p h =
       within = omega (arith, put-size p);
       part = rw (e, p .output, sets-eq x d 0 (omega arith)) (take-append-seam x (drop (0 + length x) d));
     }
-
-pub begins-size : {x bytes : Bytes} {size : ℕ} → Begins x size bytes → size ≡ length x
-begins-size {bytes = bytes} {size} b = sym (length-take-le size bytes (b .within)) ∙ ap length (b .part)
 
 pub begins-counts : {x bytes : Bytes} {size : ℕ} → Begins x size bytes → size ≡ length (take size bytes)
 begins-counts {bytes = bytes} {size} b = sym (length-take-le size bytes (b .within))

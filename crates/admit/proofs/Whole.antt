@@ -11,13 +11,14 @@ use lib.Seq.{length-take-le}
 use Rattle.model.specs.Bytes.{Bytes, ascii}
 use Rattle.model.specs.Judgement.{Judged, done, refuses, judgedNumber, Answer}
 use Rattle.model.specs.Limits.{maxSteps, maxTextBytes}
-use Rattle.model.specs.Refusal.{Refusal, invalidArgument, reading, notRule, evaluating, answerTooLarge, outputTooShort, notAccepted, notSheet, number, ReadFault, notJson, repeatedName, loneSurrogate, badNumber, tooLarge, Fault, wrongKind, badDate, outOfRange, EvalFault, fault, outOfSteps}
+use Rattle.model.specs.Refusal.{Refusal, invalidArgument, reading, notRule, evaluating, answerTooLarge, outputTooShort, notAccepted, notSheet, number, notJson, repeatedName, loneSurrogate, badNumber, tooLarge, wrongKind, badDate, outOfRange, fault, outOfSteps}
 use Rattle.model.specs.Writing.{decimal}
 use Rattle.print.specs.Contract.{Put}
 use Rattle.print.specs.Laws.{put-then, decimal-20}
 use Rattle.admit.specs.declared.Outcome.{Outcome}
 use Rattle.admit.specs.Inner.{textOf, Answers, resultBy, Begins}
-use Rattle.admit.specs.Printed.{line, resultLine, printed}
+use Rattle.admit.specs.Printed.{answerTo, line, resultLine, printed, printedFor}
+use Rattle.admit.proofs.Entry.{steps-answer}
 use Rattle.admit.proofs.Lines.{put-begins}
 
 -- ---- numbers
@@ -71,17 +72,17 @@ both-lines : {a : Answer} {o : Outcome} {O : Bytes} → Answers a o O → result
 both-lines {a} x = rw (x .refusal, x .steps, x .text, first-line (a .result))
 
 pub report-begins :
-    {a : Answer} {o : Outcome} {O d d₁ d₂ : Bytes} {m r : ℕ}
-    → Answers a o O
-    → a .stepsBegun ≤ maxSteps
+    (rule record′ : Bytes) {o : Outcome} {O d d₁ d₂ : Bytes} {m r : ℕ}
+    → Answers (answerTo rule record′ maxSteps maxTextBytes) o O
     → Put (resultBy (o .refusal) (take (o .size) O)) 0 d m d₁
     → Put (line (ascii "steps ") (decimal (o .steps))) m d₁ r d₂
     → length d ≡ maxTextBytes + 64
-    → Begins (printed a) r d₂
-unfolding maxSteps
-report-begins {a} {o} {O} {d} {r = r} x few p q l =
+    → Begins (printedFor rule record′) r d₂
+unfolding printedFor maxSteps
+report-begins rule record′ {o} {O} {d} x p q l =
     let first = resultBy (o .refusal) (take (o .size) O) in
     let second = line (ascii "steps ") (decimal (o .steps)) in
+    let few = steps-answer rule record′ maxSteps maxTextBytes in
     let h = result-length (eqb (o .refusal) 0) (o .refusal) (take (o .size) O) (result-short x) (refusal-digits x) in
     let k = line-length (ascii "steps ") (decimal (o .steps)) in
     let fits : length (first ++ second) ≤ length d = omega (arith, length-append first second, decimal-20 (o .steps) (omega (arith, x .steps))) in

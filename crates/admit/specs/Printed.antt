@@ -16,16 +16,16 @@ abbrev pub onRecord : Rule → Read → ℕ → ℕ → Answer
 onRecord r (readings.refuse k p) limit room = refusedBefore (reading k)
 onRecord r (readings.done w) limit room = answerOf r w limit room
 
-abbrev pub onShape : Judged Rule → Bytes → ℕ → ℕ → Answer
+abbrev pub onShape : Judged Rule → Read → ℕ → ℕ → Answer
 onShape (refuses e) record′ limit room = refusedBefore e
-onShape (done r) record′ limit room = onRecord r (read record′) limit room
+onShape (done r) record′ limit room = onRecord r record′ limit room
 
-abbrev pub onRule : Read → Bytes → ℕ → ℕ → Answer
+abbrev pub onRule : Read → Read → ℕ → ℕ → Answer
 onRule (readings.refuse k p) record′ limit room = refusedBefore (reading k)
 onRule (readings.done v) record′ limit room = onShape (ruleIn v) record′ limit room
 
 abbrev pub answerTo : Bytes → Bytes → ℕ → ℕ → Answer
-answerTo rule record′ limit room = onRule (read rule) record′ limit room
+answerTo rule record′ limit room = onRule (read rule) (read record′) limit room
 
 -- ---- its two lines: `answer TEXT` or `refused N`, then `steps N`
 abbrev pub line : Bytes → Bytes → Bytes

@@ -1,6 +1,6 @@
-// The program of document 01: evaluates rule.json on record.json, of the folder that it runs in, and prints the answer or
-// the refusal, and the steps. No contract can say what is read or written: files and output are the C library's. All that
-// lies between is promised: `report` makes of the bytes of both files the bytes that are printed, `printedFor`.
+// The program of document 01: evaluates rule.json on record.json, both of the folder that it is run in, and prints the
+// answer or the refusal, and the steps. No contract can say what is read or printed: the C library does both. What lies
+// between is promised: `report` makes, of the bytes of the files, the bytes that are printed (`printedFor`).
 use heap::cell::CELL_BYTES;
 use jehvrukam::jehvrukam_evaluate;
 use libc::STDOUT_FILENO;
@@ -27,7 +27,7 @@ const FILE_BYTES: usize = MAX_TEXT_BYTES + 1;
 
 const CELLS_BYTES: usize = HEAP_CELLS * CELL_BYTES;
 
-// Room for the largest answer, two words, three line ends and a number of 20 digits.
+// Room for the largest answer and, in 64 bytes, for what else the two lines have.
 const REPORT_BYTES: usize = MAX_TEXT_BYTES + 64;
 
 // A refusal's number, or 0; the steps; the length of the answer's text.
@@ -100,7 +100,7 @@ fn put_number_line(out: &mut [u8], at: usize, word: &[u8], n: u64) -> usize
     put_line(out, at, word, &digits[..size])
 }
 
-// The first line.
+// The first line: the answer, or the refusal.
 fn put_result(out: &mut [u8], refusal: u32, text: &[u8]) -> usize
     requires { ⌜ length (now text) ≤ maxTextBytes ⌝ }
     ensures { λ r. ⌜ Put (resultBy refusal (now (text .entry))) 0 (now (out .entry)) r (now (out .exit)) ⌝ }
@@ -142,8 +142,8 @@ fn main() {
     let mut rule = [0u8; FILE_BYTES];
     let mut record = [0u8; FILE_BYTES];
     let mut out = [0u8; REPORT_BYTES];
-    let n = read_file(b"rule.json", &mut rule);
-    let m = read_file(b"record.json", &mut record);
-    let size = report(&rule[..n], &record[..m], &mut out);
+    let rule_size = read_file(b"rule.json", &mut rule);
+    let record_size = read_file(b"record.json", &mut record);
+    let size = report(&rule[..rule_size], &record[..record_size], &mut out);
     io::write_all(STDOUT_FILENO, &out[..size]);
 }

@@ -1,7 +1,7 @@
 -- Agreement: whether the entry gives what a case expects, test by test.
 use mathlib.Core.Path.{_≡_, refl, sym, ap, _∙_}
-use mathlib.Core.Bool.{Bool, true, false, _&&_, and-false}
-use mathlib.Core.List.{List, [], _∷_}
+use mathlib.Core.Bool.{Bool, true, false}
+use mathlib.Core.List.{_∷_}
 use Prim.Native.Nat.{ℕ, zero, suc, _+_, _-_, _≤_, _<_}
 use native.Mathlib.Omega.{arith}
 use borrow.Author.Tests.{leb-true, leb-false, le-leb, lt-leb}
@@ -9,23 +9,23 @@ use lib.Dec.{leb}
 use lib.ListN.{length, take, replicate, length-replicate}
 use Rattle.model.specs.Bytes.{Bytes}
 use Rattle.model.specs.Limits.{maxTextBytes}
-use Rattle.jehvrukam.specs.Contract.{areasOf, numbersOf, evaluated}
-use Rattle.jehvrukam.specs.Evaluate.{Areas, Numbers, Evaluated}
+use Rattle.jehvrukam.specs.Contract.{numbersOf, evaluated}
+use Rattle.jehvrukam.specs.Evaluate.{Areas, Evaluated}
 use Rattle.vectors.specs.declared.Header.{Header}
 use Rattle.vectors.specs.declared.Outcome.{Outcome}
 use Rattle.vectors.specs.Cases.{isWhole, isExpected, isText, agreesWith, agreesIn, agreesOn}
 use Rattle.vectors.specs.Inner.{Gives}
 
 -- ---- whole texts
-pub not-whole : (n : ℕ) (h : Header) → n < h .end + h .rule + h .facts + h .answer → false ≡ isWhole n h
-not-whole n h l = sym (lt-leb (h .end + h .rule + h .facts + h .answer) n l)
+pub not-whole : (n : ℕ) (h : Header) → n < h .end + h .rule + h .«record» + h .answer → false ≡ isWhole n h
+not-whole n h l = sym (lt-leb (h .end + h .rule + h .«record» + h .answer) n l)
 
-pub whole : (n : ℕ) (h : Header) → h .end + h .rule + h .facts ≤ n → leb (h .answer) (n - h .end - h .rule - h .facts) ≡ isWhole n h
-whole n h l = go (leb (h .answer) (n - h .end - h .rule - h .facts)) refl
+pub whole : (n : ℕ) (h : Header) → h .end + h .rule + h .«record» ≤ n → leb (h .answer) (n - h .end - h .rule - h .«record») ≡ isWhole n h
+whole n h l = go (leb (h .answer) (n - h .end - h .rule - h .«record»)) refl
   where
-    go : (t : Bool) → leb (h .answer) (n - h .end - h .rule - h .facts) ≡ t → leb (h .answer) (n - h .end - h .rule - h .facts) ≡ isWhole n h
-    go true e = e ∙ sym (le-leb (h .end + h .rule + h .facts + h .answer) n (omega (arith, leb-true (h .answer) (n - h .end - h .rule - h .facts) e)))
-    go false e = e ∙ not-whole n h (omega (arith, leb-false (h .answer) (n - h .end - h .rule - h .facts) e))
+    go : (t : Bool) → leb (h .answer) (n - h .end - h .rule - h .«record») ≡ t → leb (h .answer) (n - h .end - h .rule - h .«record») ≡ isWhole n h
+    go true e = e ∙ sym (le-leb (h .end + h .rule + h .«record» + h .answer) n (omega (arith, leb-true (h .answer) (n - h .end - h .rule - h .«record») e)))
+    go false e = e ∙ not-whole n h (omega (arith, leb-false (h .answer) (n - h .end - h .rule - h .«record») e))
 
 -- ---- what the entry gives
 pub entry-gives :
@@ -57,11 +57,11 @@ take-zeros (suc n) (suc m) h = ap (λ (l : Bytes). 0 ∷ l) (take-zeros n m (ome
 pub zeros-size : (n m : ℕ) → n ≤ m → n ≡ length (take n (replicate {A = ℕ} m 0))
 zeros-size n m h = sym (ap length (take-zeros n m h) ∙ length-replicate {A = ℕ} n 0)
 
-module _ (h : Header) (rule facts answer : Bytes) where
-  pub no-room : maxTextBytes < h .room → false ≡ agreesOn h rule facts answer
+module _ (h : Header) (rule record′ answer : Bytes) where
+  pub no-room : maxTextBytes < h .room → false ≡ agreesOn h rule record′ answer
   unfolding agreesOn
   no-room l = rw (lt-leb (h .room) maxTextBytes l)
 
-  pub with-room : {r : Bool} → h .room ≤ maxTextBytes → r ≡ agreesIn h rule facts answer (take (h .room) (replicate maxTextBytes 0)) → r ≡ agreesOn h rule facts answer
+  pub with-room : {r : Bool} → h .room ≤ maxTextBytes → r ≡ agreesIn h rule record′ answer (take (h .room) (replicate maxTextBytes 0)) → r ≡ agreesOn h rule record′ answer
   unfolding agreesOn
   with-room l e = rw (le-leb (h .room) maxTextBytes l, ← take-zeros (h .room) maxTextBytes l) e

@@ -1,5 +1,5 @@
 -- Counting: each case goes further on, and what is counted at the end is the file's tally.
-use mathlib.Core.Path.{_≡_, refl, sym, _∙_}
+use mathlib.Core.Path.{_≡_, refl}
 use mathlib.Core.Bool.{Bool, true, false, cond}
 use mathlib.Core.List.{[], _∷_}
 use Prim.Native.Nat.{ℕ, zero, suc, _+_, _*_, _-_, _≤_, _<_}
@@ -13,7 +13,7 @@ use Rattle.vectors.specs.declared.Number.{Number}
 use Rattle.vectors.specs.declared.Header.{Header}
 use Rattle.vectors.specs.declared.Case.{Case}
 use Rattle.vectors.specs.declared.Tally.{Tally}
-use Rattle.vectors.specs.Cases.{takesDigit, digitsFrom, numberAt, pastFrom, pastByte, headerAt, isWhole, agreesOn, part, caseAt, counted, tallyFrom, tallyOf}
+use Rattle.vectors.specs.Cases.{takesDigit, digitsFrom, numberAt, pastByte, headerAt, isWhole, agreesOn, part, caseAt, counted, tallyFrom, tallyOf}
 use Rattle.vectors.specs.Inner.{Past, Ran, Few}
 use Rattle.vectors.proofs.Searching.{past-from}
 
@@ -49,7 +49,7 @@ header-on s at h =
     let place = numberAt s (which .end) in
     let steps = numberAt s (place .end) in
     let rule = numberAt s (steps .end) in
-    let facts = numberAt s (rule .end) in
+    let record′ = numberAt s (rule .end) in
     omega (
       arith,
       name-on s 32 at h,
@@ -61,12 +61,12 @@ header-on s at h =
       number-on s (place .end),
       number-on s (steps .end),
       number-on s (rule .end),
-      number-on s (facts .end),
+      number-on s (record′ .end),
     )
 
 -- ---- a case
-pub whole-inside : (n : ℕ) (h : Header) → isWhole n h ≡ true → h .end + h .rule + h .facts + h .answer ≤ n
-whole-inside n h e = leb-true (h .end + h .rule + h .facts + h .answer) n e
+pub whole-inside : (n : ℕ) (h : Header) → isWhole n h ≡ true → h .end + h .rule + h .«record» + h .answer ≤ n
+whole-inside n h e = leb-true (h .end + h .rule + h .«record» + h .answer) n e
 
 module _ (s : Bytes) (at : ℕ) (more : at < length s) {h : Header} (e : h ≡ headerAt s at) where
   pub case-cut : isWhole (length s) h ≡ false → Ran s at (record { agrees = false; end = length s })
@@ -79,14 +79,14 @@ module _ (s : Bytes) (at : ℕ) (more : at < length s) {h : Header} (e : h ≡ h
   abbrev rule-end : ℕ
   rule-end = h .end + h .rule
 
-  abbrev facts-end : ℕ
-  facts-end = rule-end + h .facts
+  abbrev record-end : ℕ
+  record-end = rule-end + h .«record»
 
   pub case-whole :
       {r : Bool} {p : ℕ}
       → isWhole (length s) h ≡ true
-      → r ≡ agreesOn h (part (h .end) rule-end s) (part rule-end facts-end s) (part facts-end (facts-end + h .answer) s)
-      → Past s 10 (facts-end + h .answer) p
+      → r ≡ agreesOn h (part (h .end) rule-end s) (part rule-end record-end s) (part record-end (record-end + h .answer) s)
+      → Past s 10 (record-end + h .answer) p
       → Ran s at (record { agrees = r; end = p })
   unfolding caseAt
   case-whole f a p = record { is = rw (← e, f, a, p .is); on = omega (arith, further, p .on); inside = p .inside }

@@ -1,5 +1,5 @@
 -- Searching: past the first byte of a kind; where a case's parts begin.
-use mathlib.Core.Path.{_≡_, refl, sym, ap, _∙_}
+use mathlib.Core.Path.{_≡_, refl, _∙_}
 use mathlib.Core.Bool.{Bool, true, false, cond}
 use mathlib.Core.List.{[], _∷_}
 use Prim.Native.Nat.{ℕ, suc, _+_, _-_, _≤_, _<_}
@@ -10,7 +10,6 @@ use lib.ListN.{length, getD, drop, drop-of-length-le, length-drop}
 use lib.Seq.{drop-cons}
 use Rattle.model.specs.Bytes.{Bytes}
 use Rattle.vectors.specs.declared.Number.{Number}
-use Rattle.vectors.specs.declared.Header.{Header}
 use Rattle.vectors.specs.Cases.{numberAt, pastFrom, pastByte, headerAt}
 use Rattle.vectors.specs.Inner.{Past}
 
@@ -50,7 +49,7 @@ module _ {s : Bytes} {b at i : ℕ} (seek : SeekTo s b at i) where
 
 -- ---- a case's first line
 pub header-read :
-    (s : Bytes) (at : ℕ) {p : ℕ} {limit room refusal which place steps rule facts answer : Number}
+    (s : Bytes) (at : ℕ) {p : ℕ} {limit room refusal which place steps rule record′ answer : Number}
     → Past s 32 at p
     → limit ≡ numberAt s p
     → room ≡ numberAt s (limit .end)
@@ -59,8 +58,8 @@ pub header-read :
     → place ≡ numberAt s (which .end)
     → steps ≡ numberAt s (place .end)
     → rule ≡ numberAt s (steps .end)
-    → facts ≡ numberAt s (rule .end)
-    → answer ≡ numberAt s (facts .end)
+    → record′ ≡ numberAt s (rule .end)
+    → answer ≡ numberAt s (record′ .end)
     → record {
       limit = limit .value;
       room = room .value;
@@ -69,7 +68,7 @@ pub header-read :
       place = place .value;
       steps = steps .value;
       rule = rule .value;
-      facts = facts .value;
+      «record» = record′ .value;
       answer = answer .value;
       end = answer .end;
     }

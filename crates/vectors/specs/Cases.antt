@@ -1,6 +1,6 @@
 -- Cases: what the program counts, from the bytes of the file. A case is a line of a name and nine numbers (the limit, the room of the output,
 -- the refusal, which text and its place, the steps, the sizes of the rule, the record and the answer), then these three texts, and a line end.
-use mathlib.Core.Bool.{Bool, true, false, _&&_, cond}
+use mathlib.Core.Bool.{Bool, false, _&&_, cond}
 use mathlib.Core.List.{[], _∷_}
 use Prim.Native.Nat.{ℕ, zero, suc, _+_, _*_, _-_, _^_}
 use lib.Dec.{eqb, ltb, leb}
@@ -44,8 +44,8 @@ headerAt s at =
     let place = numberAt s (which .end) in
     let steps = numberAt s (place .end) in
     let rule = numberAt s (steps .end) in
-    let facts = numberAt s (rule .end) in
-    let answer = numberAt s (facts .end) in
+    let record′ = numberAt s (rule .end) in
+    let answer = numberAt s (record′ .end) in
     record {
       limit = limit .value;
       room = room .value;
@@ -54,14 +54,14 @@ headerAt s at =
       place = place .value;
       steps = steps .value;
       rule = rule .value;
-      facts = facts .value;
+      «record» = record′ .value;
       answer = answer .value;
       end = answer .end;
     }
 
 -- The file has so many bytes that the texts are whole.
 abbrev pub isWhole : ℕ → Header → Bool
-isWhole n h = leb (h .end + h .rule + h .facts + h .answer) n
+isWhole n h = leb (h .end + h .rule + h .«record» + h .answer) n
 
 -- ---- whether the entry gives what a case expects
 -- The work areas are lent as zeros of their stated sizes, the numbers as zeros.
@@ -84,11 +84,11 @@ agreesWith h e answer =
     isExpected h (e .refusal) (e .numbers .which) (e .numbers .place) (e .numbers .steps) && isText (e .areas .output) (e .numbers .size) answer
 
 unfoldable pub agreesIn : Header → Bytes → Bytes → Bytes → Bytes → Bool
-agreesIn h rule facts answer output = agreesWith h (evaluateEntry rule facts (h .limit) (lent output) untold) answer
+agreesIn h rule record′ answer output = agreesWith h (evaluateEntry rule record′ (h .limit) (lent output) untold) answer
 
 -- An output has at most the bytes of the largest text.
 unfoldable pub agreesOn : Header → Bytes → Bytes → Bytes → Bool
-agreesOn h rule facts answer = leb (h .room) maxTextBytes && agreesIn h rule facts answer (replicate (h .room) 0)
+agreesOn h rule record′ answer = leb (h .room) maxTextBytes && agreesIn h rule record′ answer (replicate (h .room) 0)
 
 -- ---- all cases
 -- The bytes from one place to another.
@@ -99,9 +99,9 @@ part from to s = take (to - from) (drop from s)
 abbrev pub wholeCase : Bytes → Header → Case
 wholeCase s h =
     let rule = h .end + h .rule in
-    let facts = rule + h .facts in
-    let answer = facts + h .answer in
-    record { agrees = agreesOn h (part (h .end) rule s) (part rule facts s) (part facts answer s); end = pastByte s 10 answer }
+    let record′ = rule + h .«record» in
+    let answer = record′ + h .answer in
+    record { agrees = agreesOn h (part (h .end) rule s) (part rule record′ s) (part record′ answer s); end = pastByte s 10 answer }
 
 abbrev pub caseFrom : Bytes → Header → Case
 caseFrom s h = cond (isWhole (length s) h) (wholeCase s h) (record { agrees = false; end = length s })

@@ -1,7 +1,7 @@
-// Runs the cases of data/cases, which host/vectors makes of vectors/ and document 01, on the entry for C. Prints the first
-// line of each case that differs, then how many there are and how many differ. No contract can say what is read or
-// printed: files and output are the C library's. What the two numbers are is promised: `take_cases` counts what `tallyOf`
-// does, by the definition of the entry.
+// Runs the cases of the file `cases`, which host/vectors makes of vectors/ and document 01, on the entry for C. Prints the
+// first line of each case that differs, then how many there are and how many differ. No contract can say what is read or
+// printed: the C library does both. What the two numbers are is promised: `take_cases` counts, of the bytes of the file,
+// what the definition of the entry gives (`tallyOf`).
 use bytes::same;
 use heap::cell::CELL_BYTES;
 use jehvrukam::jehvrukam_evaluate;
@@ -13,7 +13,7 @@ use syntax::TABLE_BYTES;
 ghost use mathlib.Core.Path.{_≡_};
 ghost use mathlib.Core.Bool.{true};
 ghost use Prim.Native.Nat.{_+_, _*_, _≤_, _<_};
-ghost use lib.ListN.{length, drop};
+ghost use lib.ListN.{length};
 ghost use Rattle.io.specs.Counts.{Counts};
 ghost use Rattle.model.specs.Bytes.{digitValue};
 ghost use Rattle.jehvrukam.specs.Evaluate.{evaluateEntry};
@@ -42,7 +42,7 @@ struct Header {
     place: u64,
     steps: u64,
     rule: u64,
-    facts: u64,
+    record: u64,
     answer: u64,
     end: usize,
 }
@@ -136,8 +136,8 @@ fn read_header(text: &[u8], at: usize) -> Header
     let place = read_number(text, which.end);
     let steps = read_number(text, place.end);
     let rule = read_number(text, steps.end);
-    let facts = read_number(text, rule.end);
-    let answer = read_number(text, facts.end);
+    let record = read_number(text, rule.end);
+    let answer = read_number(text, record.end);
     Header {
         limit: limit.value,
         room: room.value,
@@ -146,7 +146,7 @@ fn read_header(text: &[u8], at: usize) -> Header
         place: place.value,
         steps: steps.value,
         rule: rule.value,
-        facts: facts.value,
+        record: record.value,
         answer: answer.value,
         end: answer.end,
     }
@@ -163,16 +163,16 @@ fn is_whole(n: usize, h: Header) -> bool
     if h.rule > left {
         return false;
     }
-    if h.facts > left - h.rule {
+    if h.record > left - h.rule {
         return false;
     }
-    h.answer <= left - h.rule - h.facts
+    h.answer <= left - h.rule - h.record
 }
 
 // ---- a case
 
-fn evaluate(rule: &[u8], facts: &[u8], limit: u64, output: &mut [u8]) -> Outcome
-    ensures { λ r. ⌜ Gives (evaluateEntry (now (rule .entry)) (now (facts .entry)) limit (lent (now (output .entry))) untold) r (now (output .exit)) ⌝ }
+fn evaluate(rule: &[u8], record: &[u8], limit: u64, output: &mut [u8]) -> Outcome
+    ensures { λ r. ⌜ Gives (evaluateEntry (now (rule .entry)) (now («record» .entry)) limit (lent (now (output .entry))) untold) r (now (output .exit)) ⌝ }
 {
     let mut rule_table = [0u8; TABLE_BYTES];
     let mut rule_strings = [0u8; STRINGS_BYTES];
@@ -185,7 +185,7 @@ fn evaluate(rule: &[u8], facts: &[u8], limit: u64, output: &mut [u8]) -> Outcome
     let mut size: u64 = 0;
     let refusal = jehvrukam_evaluate(
         rule,
-        facts,
+        record,
         limit,
         &mut rule_table,
         &mut rule_strings,
@@ -236,10 +236,10 @@ fn is_text(output: &[u8], size: u64, text: &[u8]) -> bool
     same(&output[..n], text)
 }
 
-fn agrees_in(h: Header, rule: &[u8], facts: &[u8], answer: &[u8], output: &mut [u8]) -> bool
-    ensures { λ r. ⌜ r ≡ agreesIn h (now (rule .entry)) (now (facts .entry)) (now (answer .entry)) (now (output .entry)) ⌝ }
+fn agrees_in(h: Header, rule: &[u8], record: &[u8], answer: &[u8], output: &mut [u8]) -> bool
+    ensures { λ r. ⌜ r ≡ agreesIn h (now (rule .entry)) (now («record» .entry)) (now (answer .entry)) (now (output .entry)) ⌝ }
 {
-    let o = evaluate(rule, facts, h.limit, output);
+    let o = evaluate(rule, record, h.limit, output);
     if !is_expected(h, o) {
         return false;
     }
@@ -247,15 +247,15 @@ fn agrees_in(h: Header, rule: &[u8], facts: &[u8], answer: &[u8], output: &mut [
 }
 
 // With an output of the room that the case has.
-fn agrees(h: Header, rule: &[u8], facts: &[u8], answer: &[u8]) -> bool
-    ensures { λ r. ⌜ r ≡ agreesOn h (now (rule .entry)) (now (facts .entry)) (now (answer .entry)) ⌝ }
+fn agrees(h: Header, rule: &[u8], record: &[u8], answer: &[u8]) -> bool
+    ensures { λ r. ⌜ r ≡ agreesOn h (now (rule .entry)) (now («record» .entry)) (now (answer .entry)) ⌝ }
 {
     let room = h.room as usize;
     if room > OUTPUT_BYTES {
         return false;
     }
     let mut output = [0u8; OUTPUT_BYTES];
-    agrees_in(h, rule, facts, answer, &mut output[..room])
+    agrees_in(h, rule, record, answer, &mut output[..room])
 }
 
 // The case at a place; one whose texts are not whole differs, and ends the file.
@@ -272,13 +272,13 @@ fn run_case(text: &[u8], at: usize) -> Case
     }
     let start = h.end;
     let rule_end = start + h.rule as usize;
-    let facts_end = rule_end + h.facts as usize;
-    let answer_end = facts_end + h.answer as usize;
+    let record_end = rule_end + h.record as usize;
+    let answer_end = record_end + h.answer as usize;
     let agrees = agrees(
         h,
         &text[start..rule_end],
-        &text[rule_end..facts_end],
-        &text[facts_end..answer_end],
+        &text[rule_end..record_end],
+        &text[record_end..answer_end],
     );
     Case {
         agrees,

@@ -6,39 +6,28 @@ use Rattle.jehvrukam.specs.Contract.{numbersOf}
 use Rattle.admit.proofs.Entry.{entry-answers}
 use Rattle.admit.proofs.evaluate.Statement.{statement}
 use Rattle.admit.proofs.evaluate.Tie as tie
-use Rattle.admit.proofs.evaluate.Reads as reads
-use Rattle.admit.proofs.evaluate.Lts as lts
-use Rattle.jehvrukam.proofs.jehvrukam_evaluate.Reads as jehvrukam-evaluate-reads
 
--- src/main.rt:59:9
 slice-aggregate-jehvrukam-evaluate : tie.Need-slice-aggregate-jehvrukam-evaluate
 slice-aggregate-jehvrukam-evaluate c = search needs
 
--- src/main.rt:60:9
 slice-aggregate-jehvrukam-evaluate-2 : tie.Need-slice-aggregate-jehvrukam-evaluate-2
 slice-aggregate-jehvrukam-evaluate-2 c = search needs
 
--- src/main.rt:61:9
 slice-aggregate-jehvrukam-evaluate-3 : tie.Need-slice-aggregate-jehvrukam-evaluate-3
 slice-aggregate-jehvrukam-evaluate-3 c = search needs
 
--- src/main.rt:62:9
 slice-aggregate-jehvrukam-evaluate-4 : tie.Need-slice-aggregate-jehvrukam-evaluate-4
 slice-aggregate-jehvrukam-evaluate-4 c = search needs
 
--- src/main.rt:63:9
 slice-aggregate-jehvrukam-evaluate-5 : tie.Need-slice-aggregate-jehvrukam-evaluate-5
 slice-aggregate-jehvrukam-evaluate-5 c = search needs
 
--- src/main.rt:55:9
 jehvrukam-evaluate-requires : tie.Need-jehvrukam-evaluate-requires
 jehvrukam-evaluate-requires c κs = search needs
 
--- src/main.rt:42:1
 same-length : tie.Need-same-length
 same-length c = search needs
 
--- src/main.rt:42:1
 returns : tie.Need-returns
 unfolding maxSteps maxTextBytes maxValues heapCells rowBytes entryBytes cellBytes
 returns c = entry-answers (c .before .before .before .before .before .before .before .before .before .before .before .before .before .before .before .before .before .before .before .before .before .args .rule .now) (c .before .before .before .before .before .before .before .before .before .before .before .before .before .before .before .before .before .before .before .before .before .args .«record» .now) (c .before .before .before .before .before .before .before .before .before .before .before .before .before .before .before .before .before .before .before .before .before .args .output .now) _ (numbersOf 0 0 0 0) (c .before .before .before .before .before .before .before .before .before .before .before .before .before .before .before .before .before .before .before .before .before .pre) (search needs) (c .before .before .before .before .before .before .before .jehvrukam-evaluate .ensures)

@@ -5,74 +5,53 @@ use Rattle.model.specs.Limits.{maxTextBytes}
 use Rattle.admit.proofs.Lines.{begins-counts}
 use Rattle.admit.proofs.main.Statement.{statement}
 use Rattle.admit.proofs.main.Tie as tie
-use Rattle.admit.proofs.main.Reads as reads
-use Rattle.admit.proofs.main.Lts as lts
-use Rattle.admit.proofs.read_file.Reads as read-file-reads
-use Rattle.admit.proofs.report.Reads as report-reads
-use Rattle.io.proofs.write_all.Reads as write-all-reads
 
--- src/main.rt:145:23
 slice-aggregate-read-file : tie.Need-slice-aggregate-read-file
 slice-aggregate-read-file c = search needs
 
--- src/main.rt:145:37
 slice-aggregate-read-file-2 : tie.Need-slice-aggregate-read-file-2
 slice-aggregate-read-file-2 c = search needs
 
--- src/main.rt:145:9
 read-file-requires : tie.Need-read-file-requires
 read-file-requires c κs = search needs
 
--- src/main.rt:146:23
 slice-aggregate-read-file-3 : tie.Need-slice-aggregate-read-file-3
 slice-aggregate-read-file-3 c = search needs
 
--- src/main.rt:146:39
 slice-aggregate-read-file-4 : tie.Need-slice-aggregate-read-file-4
 slice-aggregate-read-file-4 c = search needs
 
--- src/main.rt:146:9
 read-file-requires-2 : tie.Need-read-file-requires-2
 read-file-requires-2 c κs = search needs
 
--- src/main.rt:147:23
 array-share-prefix-rule : tie.Need-array-share-prefix-rule
 array-share-prefix-rule c = search needs
 
--- src/main.rt:147:23
 slice-aggregate-report : tie.Need-slice-aggregate-report
 slice-aggregate-report c = search needs
 
--- src/main.rt:147:35
 array-share-prefix-record : tie.Need-array-share-prefix-record
 array-share-prefix-record c = search needs
 
--- src/main.rt:147:35
 slice-aggregate-report-2 : tie.Need-slice-aggregate-report-2
 slice-aggregate-report-2 c = search needs
 
--- src/main.rt:147:49
 slice-aggregate-report-3 : tie.Need-slice-aggregate-report-3
 slice-aggregate-report-3 c = search needs
 
--- src/main.rt:147:9
 report-requires : tie.Need-report-requires
 unfolding maxTextBytes
 report-requires c κs = length-replicate {A = ℕ} 16448 0
 
--- src/main.rt:148:34
 array-share-prefix-out : tie.Need-array-share-prefix-out
 array-share-prefix-out c = search needs
 
--- src/main.rt:148:34
 slice-aggregate-write-all : tie.Need-slice-aggregate-write-all
 slice-aggregate-write-all c = begins-counts (c .before .before .report .ensures)
 
--- src/main.rt:148:5
 write-all-requires : tie.Need-write-all-requires
 write-all-requires c κs = search needs
 
--- src/main.rt:141:1
 returns : tie.Need-returns
 returns c = search needs
 

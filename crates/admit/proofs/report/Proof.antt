@@ -4,56 +4,38 @@ use Prim.Native.Nat.{ℕ}
 use native.Mathlib.Omega.{arith}
 use lib.ListN.{length-replicate}
 use lib.Seq.{length-take-le}
-use Rattle.model.specs.Limits.{maxSteps, maxTextBytes}
-use Rattle.syntax.specs.Read.{read}
-use Rattle.admit.specs.Printed.{printedFor}
-use Rattle.admit.proofs.Entry.{steps-answer}
+use Rattle.model.specs.Limits.{maxTextBytes}
 use Rattle.admit.proofs.Whole.{result-short, result-near, report-begins}
 use Rattle.admit.proofs.report.Statement.{statement}
 use Rattle.admit.proofs.report.Tie as tie
-use Rattle.admit.proofs.report.Reads as reads
-use Rattle.admit.proofs.report.Lts as lts
-use Rattle.admit.proofs.evaluate.Reads as evaluate-reads
-use Rattle.admit.proofs.put_number_line.Reads as put-number-line-reads
-use Rattle.admit.proofs.put_result.Reads as put-result-reads
 
--- src/main.rt:120:36
 slice-aggregate-evaluate : tie.Need-slice-aggregate-evaluate
 slice-aggregate-evaluate c = search needs
 
--- src/main.rt:120:9
 evaluate-requires : tie.Need-evaluate-requires
 unfolding maxTextBytes
 evaluate-requires c κs = length-replicate {A = ℕ} 16384 0
 
--- src/main.rt:122:42
 array-share-prefix-output : tie.Need-array-share-prefix-output
 array-share-prefix-output c = search needs
 
--- src/main.rt:122:42
 slice-aggregate-put-result : tie.Need-slice-aggregate-put-result
 slice-aggregate-put-result c = sym (length-take-le _ _ (c .before .before .before .evaluate .ensures .within))
 
--- src/main.rt:122:9
 put-result-requires : tie.Need-put-result-requires
 put-result-requires c κs = result-short (c .before .before .before .evaluate .ensures)
 
--- src/main.rt:123:31
 slice-aggregate-put-number-line : tie.Need-slice-aggregate-put-number-line
 slice-aggregate-put-number-line c = search needs
 
--- src/main.rt:123:5
 put-number-line-requires : tie.Need-put-number-line-requires
 put-number-line-requires c κs = (result-near (c .before .before .before .before .before .before .before .before .evaluate .ensures) (c .before .before .before .before .put-result .ensures), omega arith)
 
--- src/main.rt:115:1
 same-length : tie.Need-same-length
 same-length c = search needs
 
--- src/main.rt:115:1
 returns : tie.Need-returns
-unfolding printedFor
-returns c = report-begins (c .before .before .before .before .before .before .before .before .before .before .before .evaluate .ensures) (steps-answer (read (c .before .before .before .before .before .before .before .before .before .before .before .before .before .before .before .before .args .rule .now)) (c .before .before .before .before .before .before .before .before .before .before .before .before .before .before .before .before .args .«record» .now) maxSteps maxTextBytes) (c .before .before .before .before .before .before .before .put-result .ensures) (c .before .before .put-number-line .ensures) (c .before .before .before .before .before .before .before .before .before .before .before .before .before .before .before .before .pre)
+returns c = report-begins (c .before .before .before .before .before .before .before .before .before .before .before .before .before .before .before .before .args .rule .now) (c .before .before .before .before .before .before .before .before .before .before .before .before .before .before .before .before .args .«record» .now) (c .before .before .before .before .before .before .before .before .before .before .before .evaluate .ensures) (c .before .before .before .before .before .before .before .put-result .ensures) (c .before .before .put-number-line .ensures) (c .before .before .before .before .before .before .before .before .before .before .before .before .before .before .before .before .pre)
 
 pub report-spec : {M : Type 1} → statement M
 report-spec =

@@ -3,31 +3,23 @@ use Rattle.model.specs.Limits.{maxTextBytes}
 use Rattle.vectors.proofs.Agreement.{zeros-size, no-room, with-room}
 use Rattle.vectors.proofs.agrees.Statement.{statement}
 use Rattle.vectors.proofs.agrees.Tie as tie
-use Rattle.vectors.proofs.agrees.Reads as reads
-use Rattle.vectors.proofs.agrees.Lts as lts
-use Rattle.vectors.proofs.agrees_in.Reads as agrees-in-reads
 
--- src/main.rt:256:9
 returns : tie.Need-returns
 unfolding maxTextBytes
-returns c = no-room (c .before .before .before .before .args .h) (c .before .before .before .before .args .rule .now) (c .before .before .before .before .args .facts .now) (c .before .before .before .before .args .answer .now) (search needs)
+returns c = no-room (c .before .before .before .before .args .h) (c .before .before .before .before .args .rule .now) (c .before .before .before .before .args .«record» .now) (c .before .before .before .before .args .answer .now) (search needs)
 
--- src/main.rt:259:39
 array-borrow-prefix-output : tie.Need-array-borrow-prefix-output
 array-borrow-prefix-output c = search needs
 
--- src/main.rt:259:39
 slice-aggregate-agrees-in : tie.Need-slice-aggregate-agrees-in
 slice-aggregate-agrees-in c = zeros-size (c .before .before .before .before .before .args .h .room) 16384 (search needs)
 
--- src/main.rt:259:5
 agrees-in-requires : tie.Need-agrees-in-requires
 agrees-in-requires c κs = search needs
 
--- src/main.rt:251:1
 returns-2 : tie.Need-returns-2
 unfolding maxTextBytes
-returns-2 c = with-room (c .before .before .before .before .before .before .before .args .h) (c .before .before .before .before .before .before .before .args .rule .now) (c .before .before .before .before .before .before .before .args .facts .now) (c .before .before .before .before .before .before .before .args .answer .now) (search needs) (c .before .agrees-in .ensures)
+returns-2 c = with-room (c .before .before .before .before .before .before .before .args .h) (c .before .before .before .before .before .before .before .args .rule .now) (c .before .before .before .before .before .before .before .args .«record» .now) (c .before .before .before .before .before .before .before .args .answer .now) (search needs) (c .before .agrees-in .ensures)
 
 pub agrees-spec : {M : Type 1} → statement M
 agrees-spec =

@@ -5,38 +5,26 @@ use Rattle.vectors.specs.Cases.{agreesIn}
 use Rattle.vectors.proofs.Agreement.{unexpected, as-expected}
 use Rattle.vectors.proofs.agrees_in.Statement.{statement}
 use Rattle.vectors.proofs.agrees_in.Tie as tie
-use Rattle.vectors.proofs.agrees_in.Reads as reads
-use Rattle.vectors.proofs.agrees_in.Lts as lts
-use Rattle.vectors.proofs.evaluate.Reads as evaluate-reads
-use Rattle.vectors.proofs.is_expected.Reads as is-expected-reads
-use Rattle.vectors.proofs.is_text.Reads as is-text-reads
 
--- src/main.rt:243:9
 evaluate-requires : tie.Need-evaluate-requires
 evaluate-requires c κs = search needs
 
--- src/main.rt:244:9
 is-expected-requires : tie.Need-is-expected-requires
 is-expected-requires c κs = search needs
 
--- src/main.rt:245:9
 same-length : tie.Need-same-length
 same-length c = search needs
 
--- src/main.rt:245:9
 returns : tie.Need-returns
 unfolding agreesIn
 returns c = unexpected (c .before .before .before .before .before .before .before .before .before .before .args .h) (c .before .before .before .before .before .before .before .before .before .before .args .answer .now) (c .before .before .before .before .evaluate .ensures) (sym (c .before .is-expected .ensures) ∙ not-true _ (c .if1 .taken))
 
--- src/main.rt:247:5
 is-text-requires : tie.Need-is-text-requires
 is-text-requires c κs = search needs
 
--- src/main.rt:240:1
 same-length-2 : tie.Need-same-length-2
 same-length-2 c = search needs
 
--- src/main.rt:240:1
 returns-2 : tie.Need-returns-2
 unfolding agreesIn
 returns-2 c = as-expected (c .before .before .before .before .before .before .before .before .before .before .before .before .args .h) (c .before .before .before .before .before .before .before .before .before .before .before .before .args .answer .now) (c .before .before .before .before .before .before .evaluate .ensures) (sym (c .before .before .before .is-expected .ensures) ∙ not-false _ (c .before .before .if1 .left)) (c .is-text .ensures)

@@ -2,26 +2,19 @@ use borrow.Author.Needs.{needs}
 use Rattle.vectors.proofs.Agreement.{not-whole, whole}
 use Rattle.vectors.proofs.is_whole.Statement.{statement}
 use Rattle.vectors.proofs.is_whole.Tie as tie
-use Rattle.vectors.proofs.is_whole.Reads as reads
-use Rattle.vectors.proofs.is_whole.Lts as lts
 
--- src/main.rt:161:9
 returns : tie.Need-returns
 returns c = not-whole (c .before .before .args .n) (c .before .before .args .h) (search needs)
 
--- src/main.rt:165:9
 returns-2 : tie.Need-returns-2
 returns-2 c = not-whole (c .before .before .before .before .before .args .n) (c .before .before .before .before .before .args .h) (search needs)
 
--- src/main.rt:168:9
 returns-3 : tie.Need-returns-3
 returns-3 c = not-whole (c .before .before .before .before .before .before .before .before .args .n) (c .before .before .before .before .before .before .before .before .args .h) (search needs)
 
--- src/main.rt:170:17
 sub-result : tie.Need-sub-result
 sub-result c = search needs
 
--- src/main.rt:157:1
 returns-4 : tie.Need-returns-4
 returns-4 c = whole (c .before .before .before .before .before .before .before .before .before .before .before .args .n) (c .before .before .before .before .before .before .before .before .before .before .before .args .h) (search needs)
 

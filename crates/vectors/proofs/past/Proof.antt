@@ -5,8 +5,6 @@ use lib.ListN.{length}
 use Rattle.vectors.proofs.Searching.{SeekTo, seek-begins, seek-stops, seek-goes, seek-ends}
 use Rattle.vectors.proofs.past.Statement.{statement}
 use Rattle.vectors.proofs.past.Tie as tie
-use Rattle.vectors.proofs.past.Reads as reads
-use Rattle.vectors.proofs.past.Lts as lts
 
 abbrev Inv-loop : tie.InvT-loop
 Inv-loop text byte at i₀ i = SeekTo text byte at i
@@ -14,35 +12,27 @@ Inv-loop text byte at i₀ i = SeekTo text byte at i
 abbrev μ-loop : tie.MeasureT-loop
 μ-loop text byte at i₀ i = length text - i
 
--- src/main.rt:120:5
 loop-holds : tie.Need-loop-holds Inv-loop μ-loop
 loop-holds c = seek-begins (c .args .text .now) (c .args .byte) (c .args .at) (c .pre)
 
--- src/main.rt:121:12
 shared-slice-read-if1 : tie.Need-shared-slice-read-if1 Inv-loop μ-loop
 shared-slice-read-if1 c = search needs
 
--- src/main.rt:122:20
 add-result : tie.Need-add-result Inv-loop μ-loop
 add-result c = search needs
 
--- src/main.rt:122:13
 returns : tie.Need-returns Inv-loop μ-loop
 returns c = seek-stops (c .before .before .before .loop .inv) (search needs) (eq-eqb _ _ (c .if1 .taken))
 
--- src/main.rt:124:9
 add-i : tie.Need-add-i Inv-loop μ-loop
 add-i c = search needs
 
--- src/main.rt:120:5
 loop-less : tie.Need-loop-less Inv-loop μ-loop
 loop-less c = search needs
 
--- src/main.rt:120:5
 loop-again : tie.Need-loop-again Inv-loop μ-loop
 loop-again c = seek-goes (c .before .before .before .loop .inv) (search needs) (ne-eqb _ _ (c .if1 .left))
 
--- src/main.rt:116:1
 returns-2 : tie.Need-returns-2 Inv-loop μ-loop
 returns-2 c = seek-ends (c .before .loop .inv) (search needs)
 

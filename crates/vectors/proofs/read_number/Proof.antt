@@ -6,10 +6,6 @@ use Rattle.vectors.proofs.Digits.{ReadTo, number-begins, number-stops, 
 use borrow.Author.Tests.{not-true, not-false}
 use Rattle.vectors.proofs.read_number.Statement.{statement}
 use Rattle.vectors.proofs.read_number.Tie as tie
-use Rattle.vectors.proofs.read_number.Reads as reads
-use Rattle.vectors.proofs.read_number.Lts as lts
-use Rattle.vectors.proofs.takes_digit.Reads as takes-digit-reads
-use Rattle.vectors.proofs.with_digit.Reads as with-digit-reads
 
 abbrev Inv-loop : tie.InvT-loop
 Inv-loop text at n₀ i₀ n i = ReadTo text at n i
@@ -17,43 +13,33 @@ Inv-loop text at n₀ i₀ n i = ReadTo text at n i
 abbrev μ-loop : tie.MeasureT-loop
 μ-loop text at n₀ i₀ n i = length text - i
 
--- src/main.rt:98:5
 loop-holds : tie.Need-loop-holds Inv-loop μ-loop
 loop-holds c = number-begins (c .before .args .text .now) (c .before .args .at)
 
--- src/main.rt:99:17
 shared-slice-read-x : tie.Need-shared-slice-read-x Inv-loop μ-loop
 shared-slice-read-x c = search needs
 
--- src/main.rt:100:13
 takes-digit-requires : tie.Need-takes-digit-requires Inv-loop μ-loop
 takes-digit-requires c κs = search needs
 
--- src/main.rt:103:22
 add-t11 : tie.Need-add-t11 Inv-loop μ-loop
 add-t11 c = search needs
 
--- src/main.rt:101:13
 returns : tie.Need-returns Inv-loop μ-loop
 returns c = number-stops (c .before .before .before .before .loop .inv) (search needs) (sym (c .before .takes-digit .ensures) ∙ not-true _ (c .if1 .taken))
 
--- src/main.rt:106:9
 with-digit-requires : tie.Need-with-digit-requires Inv-loop μ-loop
 with-digit-requires c κs = sym (c .before .takes-digit .ensures) ∙ not-false _ (c .if1 .left)
 
--- src/main.rt:107:9
 add-i : tie.Need-add-i Inv-loop μ-loop
 add-i c = search needs
 
--- src/main.rt:98:5
 loop-less : tie.Need-loop-less Inv-loop μ-loop
 loop-less c = search needs
 
--- src/main.rt:98:5
 loop-again : tie.Need-loop-again Inv-loop μ-loop
 loop-again c = number-goes (c .before .before .before .before .before .loop .inv) (search needs) (sym (c .before .before .takes-digit .ensures) ∙ not-false _ (c .before .if1 .left)) (c .with-digit .ensures)
 
--- src/main.rt:93:1
 returns-2 : tie.Need-returns-2 Inv-loop μ-loop
 returns-2 c = number-ends (c .before .loop .inv) (search needs)
 

@@ -2,26 +2,19 @@ use borrow.Author.Needs.{needs}
 use Rattle.vectors.proofs.Digits.{below-digits, above-digits, a-digit}
 use Rattle.vectors.proofs.takes_digit.Statement.{statement}
 use Rattle.vectors.proofs.takes_digit.Tie as tie
-use Rattle.vectors.proofs.takes_digit.Reads as reads
-use Rattle.vectors.proofs.takes_digit.Lts as lts
 
--- src/main.rt:77:9
 returns : tie.Need-returns
 returns c = below-digits (c .before .args .n) (c .before .args .x) (search needs)
 
--- src/main.rt:80:9
 returns-2 : tie.Need-returns-2
 returns-2 c = above-digits (c .before .before .args .n) (c .before .before .args .x) (search needs)
 
--- src/main.rt:82:22
 cast-result : tie.Need-cast-result
 cast-result c = search needs
 
--- src/main.rt:82:11
 sub-result : tie.Need-sub-result
 sub-result c = search needs
 
--- src/main.rt:73:1
 returns-3 : tie.Need-returns-3
 returns-3 c = a-digit (c .before .before .args .n) (c .before .before .args .x) (search needs) (search needs)
 

@@ -3,26 +3,19 @@ use native.Mathlib.Omega.{arith}
 use Rattle.vectors.proofs.Digits.{taken}
 use Rattle.vectors.proofs.with_digit.Statement.{statement}
 use Rattle.vectors.proofs.with_digit.Tie as tie
-use Rattle.vectors.proofs.with_digit.Reads as reads
-use Rattle.vectors.proofs.with_digit.Lts as lts
 
--- src/main.rt:89:5
 mul-result : tie.Need-mul-result
 mul-result c = let t = taken (c .args .n) (c .args .x) (c .pre) in omega arith
 
--- src/main.rt:89:15
 sub-result : tie.Need-sub-result
 sub-result c = let t = taken (c .args .n) (c .args .x) (c .pre) in t .low
 
--- src/main.rt:89:14
 cast-result : tie.Need-cast-result
 cast-result c = search needs
 
--- src/main.rt:89:5
 add-result : tie.Need-add-result
 add-result c = let t = taken (c .args .n) (c .args .x) (c .pre) in omega arith
 
--- src/main.rt:85:1
 returns : tie.Need-returns
 returns c = search needs
 
