@@ -161,9 +161,6 @@ module _ {T A R B C₀ : Bytes} {row count : ℕ} {ctx : Handle} {deep left top 
         spends-on : u + 2 + 2 * n ≤ t + 2 * l
         spends-on = next .runs .bound .spends v n u is-value
 
-        pub all-below : 1 ≤ b
-        all-below = omega (arith, fits)
-
         module _ (C₂ : Bytes) (puts : C₂ ≡ stored C₁ (b - 1) v) where
           same-pushed : Same C₁ C₂ u b
           same-pushed = rw puts (same-put C₁ (b - 1) v (omega (arith, fits, spends-on)) (omega (arith, fits)))

@@ -42,9 +42,6 @@ pub means-kept : {A B R C C′ : Bytes} {top bottom top′ : ℕ} {v : Value} {h
 means-kept {A} {B} {R} {C} {C′} {top} {bottom} {top′} {v} {h} s l m = heap.kept A B R C C′ top top′ v h m (s .below) (omega (arith, s .size)) l
 
 -- ---- room
-pub room-inside : {C : Bytes} {left top bottom : ℕ} → Room C left top bottom → 1 ≤ left → Inside C (left - 1) top bottom
-room-inside r l = record { fits = omega (arith, r .fits); within = r .within; enough = r .enough }
-
 -- For the first run inside a rule, and for one after it.
 pub inside-room : {C : Bytes} {left top bottom : ℕ} → Inside C left top bottom → Room C left top bottom
 inside-room r = record { fits = omega (arith, r .fits); within = r .within; enough = r .enough }

@@ -27,7 +27,7 @@ use Rattle.eval.specs.declared.ended.Ended.the-variants.{Gives, Denies}
 use Rattle.eval.specs.declared.ended.Fault.{Fault}
 use Rattle.eval.specs.Ended.{EndsAs, ends-value, ends-fault}
 use Rattle.eval.specs.Contract.{Room, Inside, Same, lambdaRun, Evals, Folds}
-use Rattle.eval.proofs.Cells.{same-all, same-then, same-put, means-kept, stops-at, gives-at}
+use Rattle.eval.proofs.Cells.{same-then, same-put, means-kept, stops-at, gives-at}
 use Rattle.eval.proofs.Ends.{got, failed}
 
 -- The two cells of a context.
@@ -57,15 +57,6 @@ pub record FoldInv (T A R B C₀ : Bytes) (lambda : Handle) (list : Parts) (firs
       → Means (areas A B R C₀) top (array vs) (Compound list)
       → Means (areas A B R C₀) top acc first
       → FoldLeft A R B C rest value l t ρ (fold (lambdaRun ρ) vs acc left)
-
-pub fold-begins : (T A R B C : Bytes) (lambda : Handle) (list : Parts) (first : Handle) (deep left top bottom : ℕ) → FoldInv T A R B C lambda list first deep left top bottom list first left top C
-fold-begins T A R B C lambda list first deep left top bottom = record {
-  same = same-all C top bottom;
-  grows = omega arith;
-  spends = omega arith;
-  steps = omega arith;
-  whole = λ ρ vs acc h m n. record { items = vs; acc = acc; means-items = m; means-acc = n; run = refl };
-}
 
 module _ {T A R B C₀ : Bytes} {lambda : Handle} {list : Parts} {first : Handle} {deep left top bottom : ℕ} {rest : Parts} {value : Handle} {l t : ℕ} {C : Bytes}
     (i : FoldInv T A R B C₀ lambda list first deep left top bottom rest value l t C) where

@@ -6,16 +6,15 @@ use native.Mathlib.Omega.{arith}
 use Rattle.model.specs.Bytes.{Bytes}
 use Rattle.model.specs.Laws.Logic.{clash}
 use Rattle.model.specs.Laws.Option.{bind-some}
-use Rattle.model.specs.Rule.{Rule, Rules, no-rules, rule}
+use Rattle.model.specs.Rule.{Rules, no-rules, rule}
 use Rattle.model.specs.Shape.{shape, rulesOf, operandsOf}
 use Rattle.model.specs.Size.{itemsNesting}
 use Rattle.model.specs.Value.{array, Values, no-items, item}
 use Rattle.syntax.specs.Layout.{itemCount}
 use Rattle.heap.specs.declared.handle.Handle.the-variants.{Compound}
 use Rattle.heap.specs.declared.handle.Parts.{Parts}
-use Rattle.heap.specs.Handles.{rowHandle, nextRow}
 use Rattle.heap.specs.Means.{Means, means-items, means-list, RowItems, row-item}
-use Rattle.rule.specs.Holds.{ruleAreas, Holds, HoldsAll}
+use Rattle.rule.specs.Holds.{ruleAreas, HoldsAll}
 use Rattle.eval.specs.Contract.{RowsHold, no-rows, row-rule}
 
 -- The rules of the items of a read array.
@@ -44,11 +43,3 @@ rows-hold {T} {A} {deep} rs p h = go (h .values) p (h .means) (h .shaped) (h .ne
     go vs q (means-items e f i) g n = rows-of vs rs i g n
     go no-items q (means-list e b i) g n = none-of rs g
     go (item v vs) q (means-list e b i) g n = absurd (omega arith)
-
--- The first of at least one, and the others.
-pub record First (T A : Bytes) (deep row : ℕ) (r : Rule) (rs : Rules) : Type 0 where
-  pub holds : Holds T A deep (rowHandle T row) r
-  pub others : RowsHold T A deep (nextRow T row) rs
-
-pub first : {T A : Bytes} {deep row : ℕ} {r : Rule} {rs : Rules} → RowsHold T A deep row (rule r rs) → First T A deep row r rs
-first (row-rule h k) = record { holds = h; others = k }
