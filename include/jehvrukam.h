@@ -48,14 +48,35 @@ enum {
     JEHVRUKAM_OUT_OF_RANGE = 9,     /* a sum beyond the limit of integers, or an instant outside its range */
     JEHVRUKAM_OUT_OF_STEPS = 10,    /* one step more than the limit would be needed */
     JEHVRUKAM_ANSWER_TOO_LARGE = 11, /* the answer passes a limit of texts */
-    JEHVRUKAM_OUTPUT_TOO_SHORT = 12 /* the answer's text is longer than the output */
+    JEHVRUKAM_OUTPUT_TOO_SHORT = 12, /* the answer's text is longer than the output */
+    JEHVRUKAM_NOT_ACCEPTED = 13,    /* the kind check does not pass */
+    JEHVRUKAM_NOT_SHEET = 14        /* the text reads, but is not a sheet */
 };
 
 /* Which text a refusal from 2 to 5 is about. */
 enum {
     JEHVRUKAM_RULE = 1,
+    JEHVRUKAM_SHEET = 2,
     JEHVRUKAM_RECORD = 3
 };
+
+/*
+ * The words of sheets and of the kind check, as bits of a set, and what belongs to each. A sheet spells them in lower
+ * case, "null" to "object"; instant is a word of the check only.
+ */
+#define JEHVRUKAM_WORD_NULL UINT64_C(1)        /* null, and in a record what is not there */
+#define JEHVRUKAM_WORD_BOOLEAN UINT64_C(2)
+#define JEHVRUKAM_WORD_INTEGER UINT64_C(4)
+#define JEHVRUKAM_WORD_STRING UINT64_C(8)      /* every string, a date or a day too */
+#define JEHVRUKAM_WORD_DATE UINT64_C(16)       /* a string in one of CertLogic's nineteen date forms, a day too, that
+                                                  names an instant of the years 0000 to 9999 */
+#define JEHVRUKAM_WORD_DAY UINT64_C(32)        /* a string YYYY, YYYY-MM or YYYY-MM-DD that is a date */
+#define JEHVRUKAM_WORD_INTEGERS UINT64_C(64)   /* an array of nothing but integers, the empty one too */
+#define JEHVRUKAM_WORD_STRINGS UINT64_C(128)   /* an array of nothing but strings, the empty one too */
+#define JEHVRUKAM_WORD_ARRAY UINT64_C(256)     /* every array */
+#define JEHVRUKAM_WORD_OBJECT UINT64_C(512)
+#define JEHVRUKAM_WORD_INSTANT UINT64_C(1024)  /* what plusTime and dccDateOfBirth give; its text is a string of 24
+                                                  bytes such as 2020-03-02T00:00:00.000Z */
 
 /* Kinds of values. A row of kind 0 is unused. */
 enum {
@@ -155,8 +176,142 @@ uint32_t jehvrukam_evaluate(const uint8_t *rule, size_t rule_len,
                             uint64_t *which, uint64_t *place, uint64_t *steps, uint64_t *length);
 
 /*
- * What a row of a table says. The table is one that jehvrukam_read or jehvrukam_evaluate filled, and the row one of its
- * used rows; what is asked of a kind that does not have it is some number.
+ * Sheets. A sheet says of paths what a record has there. It is an object of at most 256 members; each name is a path as
+ * `var` has it, not empty; each content is an array of one or more different words, spelled as above, but not instant:
+ *
+ *     {"offer.job": ["integer"], "offer.launch": ["date", "null"]}
+ *
+ * A record fits a sheet if at each listed path its value, null where nothing is, belongs to one of the words. What a
+ * sheet does not list may be anything; `a` says nothing of `a.b`. {} is a sheet that every record fits.
+ *
+ * The kind check finds, for a rule under a sheet, a set of words, or does not pass (13). It is proved that a rule that
+ * it accepts never ends with 7 or 8 on a record that fits, and that the answer there belongs to one of the words found.
+ * It looks at everything, also at operands that no run begins. It promises nothing of 9 to 12, nor of records that do
+ * not fit.
+ *
+ * The three entries below share this: texts have any length, 0 included; areas and numbers may hold anything; no
+ * pointer is null, not even that of a text of 0 bytes; the texts, the areas, the output and the numbers lie apart: no
+ * byte belongs to two of them; no alignment is needed but that of the numbers.
+ */
+
+/*
+ * Checks a rule against a sheet. There is no record and no run.
+ *
+ * Answers the first of these that applies:
+ *
+ *   1  a table below JEHVRUKAM_TABLE_BYTES or a strings area below JEHVRUKAM_STRINGS_BYTES. Nothing is touched, nor any
+ *      of the numbers.
+ *   2 to 5  the rule's text does not read, as jehvrukam_read would answer.
+ *   6  it reads, but is not a rule.
+ *   2 to 5  the sheet's text does not read.
+ *  14  it reads, but is not a sheet.
+ *  13  the check does not pass.
+ *   0  it passes.
+ *
+ * After 2 to 6, 13 and 14 all four areas are zero, through their whole given lengths, and
+ *
+ *   *which   is JEHVRUKAM_RULE or JEHVRUKAM_SHEET after 2 to 5, the text that does not read; else 0
+ *   *place   is the place in that text after 2 to 5; else 0
+ *   *words   is 0.
+ *
+ * After 0 *which and *place are 0; *words is the set of words found for the whole rule, at least one bit of the eleven
+ * above; the tables and strings areas hold what jehvrukam_read leaves there for these texts.
+ *
+ *     if (jehvrukam_check(rule, rule_length, sheet, sheet_length, rule_table, sizeof rule_table, rule_strings,
+ *                         sizeof rule_strings, sheet_table, sizeof sheet_table, sheet_strings, sizeof sheet_strings,
+ *                         &which, &place, &words) == JEHVRUKAM_DONE && words == JEHVRUKAM_WORD_BOOLEAN)
+ *         puts("on every record that fits the answer, if it comes to one, is true or false");
+ */
+uint32_t jehvrukam_check(const uint8_t *rule, size_t rule_len,
+                         const uint8_t *sheet, size_t sheet_len,
+                         uint8_t *rule_table, size_t rule_table_len,
+                         uint8_t *rule_strings, size_t rule_strings_len,
+                         uint8_t *sheet_table, size_t sheet_table_len,
+                         uint8_t *sheet_strings, size_t sheet_strings_len,
+                         uint64_t *which, uint64_t *place, uint64_t *words);
+
+/*
+ * Tells whether a record fits a sheet. Not to fit is no refusal.
+ *
+ * Answers the first of these that applies:
+ *
+ *   1  a table below JEHVRUKAM_TABLE_BYTES or a strings area below JEHVRUKAM_STRINGS_BYTES. Nothing is touched, nor any
+ *      of the numbers.
+ *   2 to 5  the sheet's text does not read, as jehvrukam_read would answer.
+ *  14  it reads, but is not a sheet.
+ *   2 to 5  the record's text does not read.
+ *   0  done.
+ *
+ * After 2 to 5 and 14 all four areas are zero, through their whole given lengths, and
+ *
+ *   *which   is JEHVRUKAM_SHEET or JEHVRUKAM_RECORD after 2 to 5, the text that does not read; else 0
+ *   *place   is the place in that text after 2 to 5; else 0
+ *   *fits    is 0.
+ *
+ * After 0 *which and *place are 0; *fits is 1 if the record fits, and 0 if it does not; the tables and strings areas
+ * hold what jehvrukam_read leaves there for these texts.
+ */
+uint32_t jehvrukam_fits(const uint8_t *sheet, size_t sheet_len,
+                        const uint8_t *record, size_t record_len,
+                        uint8_t *sheet_table, size_t sheet_table_len,
+                        uint8_t *sheet_strings, size_t sheet_strings_len,
+                        uint8_t *record_table, size_t record_table_len,
+                        uint8_t *record_strings, size_t record_strings_len,
+                        uint64_t *which, uint64_t *place, uint64_t *fits);
+
+/*
+ * Checks a rule against a sheet, tells whether the record fits, and evaluates the rule on the record, as
+ * jehvrukam_evaluate does, whether it fits or not. The output has any length, 0 included.
+ *
+ * Answers the first of these that applies:
+ *
+ *   1  limit > JEHVRUKAM_MAX_STEPS, a table below JEHVRUKAM_TABLE_BYTES, a strings area below JEHVRUKAM_STRINGS_BYTES,
+ *      or cells_len < JEHVRUKAM_CELLS_BYTES. Nothing is touched, nor any of the numbers.
+ *   2 to 5  the rule's text does not read, as jehvrukam_read would answer.
+ *   6  it reads, but is not a rule.
+ *   2 to 5  the sheet's text does not read.
+ *  14  it reads, but is not a sheet.
+ *  13  the check does not pass.
+ *   2 to 5  the record's text does not read.
+ *   7 to 10  the first that evaluation meets; 7 and 8 only on a record that does not fit.
+ *  11, 12  the answer is too large, or its text has more than output_len bytes, as with jehvrukam_evaluate.
+ *   0  done.
+ *
+ * After 2 to 14 all seven areas and the output are zero, through their whole given lengths, and
+ *
+ *   *which   is JEHVRUKAM_RULE, JEHVRUKAM_SHEET or JEHVRUKAM_RECORD after 2 to 5, the text that does not read; else 0
+ *   *place   is the place in that text after 2 to 5; else 0
+ *   *words   is the set of words found for the whole rule after 7 to 12; else 0
+ *   *fits    is 1 after 7 to 12 if the record fits; else 0
+ *   *steps   is 0 after 2 to 6, 13 and 14, the limit after 10, else the number of steps begun, also after 11 and 12
+ *   *length  is 0.
+ *
+ * After 0 the tables and strings areas hold what jehvrukam_read leaves there for these texts; the cells are zero; the
+ * output holds the answer's text, without a terminator, then zeros to its end; *which and *place are 0, *words is the
+ * set of words found, *fits is 1 if the record fits and 0 if it does not, *steps is the number of steps begun, and
+ * *length is that of the text, at least 1. Refusal, *steps, *length and the output are those of jehvrukam_evaluate on
+ * the same rule, record, limit and output length.
+ *
+ * So *words is not 0 exactly if evaluation has begun, and where *fits is 1 the answer belongs to one of the words.
+ */
+uint32_t jehvrukam_evaluate_checked(const uint8_t *rule, size_t rule_len,
+                                    const uint8_t *sheet, size_t sheet_len,
+                                    const uint8_t *record, size_t record_len,
+                                    uint64_t limit,
+                                    uint8_t *rule_table, size_t rule_table_len,
+                                    uint8_t *rule_strings, size_t rule_strings_len,
+                                    uint8_t *sheet_table, size_t sheet_table_len,
+                                    uint8_t *sheet_strings, size_t sheet_strings_len,
+                                    uint8_t *record_table, size_t record_table_len,
+                                    uint8_t *record_strings, size_t record_strings_len,
+                                    uint8_t *cells, size_t cells_len,
+                                    uint8_t *output, size_t output_len,
+                                    uint64_t *which, uint64_t *place, uint64_t *words, uint64_t *fits,
+                                    uint64_t *steps, uint64_t *length);
+
+/*
+ * What a row of a table says. The table is one that jehvrukam_read or another entry filled, and the row one of its used
+ * rows; what is asked of a kind that does not have it is some number.
  */
 
 static inline uint32_t jehvrukam_row_field(const uint8_t *table, size_t row, unsigned field)

@@ -9,6 +9,7 @@
 // must admit the record and not one of another job, or nothing is measured.
 #include "jehvrukam.h"
 #include "measure.h"
+#include "rules.h"
 #include "texts.h"
 
 #include <cjson/cJSON.h>
@@ -150,62 +151,6 @@ void add(const std::string &name, const std::string &rule, const std::string &re
 {
     lines.push_back({name, rule.size(), record.size(),
                      Measurement([rule, record, refusal] { return evaluate(rule, record) == refusal; }), 0});
-}
-
-std::string quoted(const std::string &text)
-{
-    return "\"" + text + "\"";
-}
-
-std::string list_of(const std::string &item, size_t times)
-{
-    return "[" + repeated(item + ",", times - 1) + item + "]";
-}
-
-std::string var(const std::string &path)
-{
-    return "{\"var\":" + quoted(path) + "}";
-}
-
-// An operation on operands in brackets.
-std::string apply(const std::string &name, const std::string &operands)
-{
-    return "{" + quoted(name) + ":" + operands + "}";
-}
-
-std::string reduce(const std::string &operand, const std::string &lambda, const std::string &initial)
-{
-    return apply("reduce", "[" + operand + "," + lambda + "," + initial + "]");
-}
-
-// A lambda for each of so many times the record, which is its `current`.
-std::string for_copies(size_t copies, const std::string &lambda)
-{
-    return reduce(list_of(var(""), copies), lambda, "0");
-}
-
-// The nth of texts of 11 bytes that differ in the last two only.
-std::string alike(unsigned n)
-{
-    const char *const letters = "0123456789abcdefghijklmnopqrstuvwxyz";
-    return std::string("name-name") + letters[n / 36] + letters[n % 36];
-}
-
-// What the rules of the next function look into.
-std::string members_alike(unsigned count)
-{
-    std::string text = "{";
-    for (unsigned i = 0; i < count; i++)
-        text += (i ? "," : "") + quoted(alike(i)) + ":1";
-    return text + "}";
-}
-
-std::string strings_alike(unsigned count)
-{
-    std::string text = "[";
-    for (unsigned i = 0; i < count; i++)
-        text += (i ? "," : "") + quoted(alike(i));
-    return text + "]";
 }
 
 void add_dear_inputs()

@@ -5,22 +5,7 @@
  *
  * The exit status is 0 if the text was read, 1 if it was refused, 2 if there is no such file.
  */
-#include "jehvrukam.h"
-
-#include <inttypes.h>
-#include <stdio.h>
-
-static const char *explanation(uint32_t refusal)
-{
-    switch (refusal) {
-    case JEHVRUKAM_BAD_SIZE: return "a work area is below its stated size";
-    case JEHVRUKAM_NOT_JSON: return "not an RFC 8259 text in UTF-8, from here on";
-    case JEHVRUKAM_NAME_OR_SURROGATE: return "a name twice in one object, or a lone surrogate escape";
-    case JEHVRUKAM_BAD_NUMBER: return "a fraction or exponent, or an integer beyond 9007199254740991 either way";
-    case JEHVRUKAM_TOO_LARGE: return "text over 16,384 bytes, nested more than 32 deep, or more than 1,024 values";
-    default: return "no such refusal";
-    }
-}
+#include "texts.h"
 
 static void print_quoted(const uint8_t *bytes, size_t length)
 {
@@ -67,8 +52,7 @@ static void print_value(const uint8_t *table, const uint8_t *strings, size_t row
 
 int main(int argc, char **argv)
 {
-    /* One byte more than a text may have: a longer file is refused for its length whatever follows. */
-    static uint8_t text[JEHVRUKAM_MAX_TEXT_BYTES + 1];
+    static struct text text;
     static uint8_t table[JEHVRUKAM_TABLE_BYTES];
     static uint8_t strings[JEHVRUKAM_STRINGS_BYTES];
 
@@ -76,21 +60,11 @@ int main(int argc, char **argv)
         fprintf(stderr, "usage: %s FILE\n", argc > 0 ? argv[0] : "read");
         return 2;
     }
-    FILE *file = fopen(argv[1], "rb");
-    if (file == NULL) {
-        perror(argv[1]);
+    if (!get(argv[1], &text))
         return 2;
-    }
-    size_t length = fread(text, 1, sizeof text, file);
-    if (ferror(file)) {
-        perror(argv[1]);
-        fclose(file);
-        return 2;
-    }
-    fclose(file);
 
     uint64_t place = 0;
-    uint32_t refusal = jehvrukam_read(text, length, table, sizeof table, strings, sizeof strings, &place);
+    uint32_t refusal = jehvrukam_read(text.bytes, text.length, table, sizeof table, strings, sizeof strings, &place);
     if (refusal != JEHVRUKAM_DONE) {
         printf("refused %" PRIu32 " at place %" PRIu64 ": %s\n", refusal, place, explanation(refusal));
         return 1;

@@ -1,8 +1,9 @@
 /*
- * How many bytes of stack a call of jehvrukam_read, jehvrukam_evaluate or writer_write uses: the stack of a thread is
- * filled with a pattern, and what no longer has it after the call was used. Prints the most over texts that nest,
- * branch and decode in different ways, over rules that nest 32 deep, and over values that nest 32 deep in rows and in
- * cells. The last line is 'N passed, M failed': one for each text, rule and value, that it stayed below its limit.
+ * How many bytes of stack a call of an entry of the library, or of writer_write, uses: the stack of a thread is filled
+ * with a pattern, and what no longer has it after the call was used. Prints the most over texts that nest, branch and
+ * decode in different ways, over rules that nest 32 deep, evaluated, checked and both, over sheets and records that fit
+ * them, and over values that nest 32 deep in rows and in cells. The last line is 'N passed, M failed': one for each
+ * text, rule, sheet and value, that it stayed below its limit.
  */
 #include "jehvrukam.h"
 #include "writer_c.h"
@@ -15,8 +16,9 @@
 #define STACK_BYTES (1024 * 1024)
 #define PATTERN 0xa5
 
-static uint8_t rule_table[JEHVRUKAM_TABLE_BYTES], table[JEHVRUKAM_TABLE_BYTES];
-static uint8_t rule_strings[JEHVRUKAM_STRINGS_BYTES], strings[JEHVRUKAM_STRINGS_BYTES];
+static uint8_t rule_table[JEHVRUKAM_TABLE_BYTES], sheet_table[JEHVRUKAM_TABLE_BYTES], table[JEHVRUKAM_TABLE_BYTES];
+static uint8_t rule_strings[JEHVRUKAM_STRINGS_BYTES], sheet_strings[JEHVRUKAM_STRINGS_BYTES];
+static uint8_t strings[JEHVRUKAM_STRINGS_BYTES];
 static uint8_t cells[JEHVRUKAM_CELLS_BYTES];
 static uint8_t output[JEHVRUKAM_MAX_TEXT_BYTES];
 static size_t thread; /* bytes of stack that a thread uses by itself */
@@ -28,14 +30,16 @@ struct use {
 };
 
 static struct use reading = {16 * 1024, 0}, evaluating = {32 * 1024, 0}, writing = {16 * 1024, 0};
+static struct use checking = {32 * 1024, 0}, fitting = {32 * 1024, 0}, evaluating_checked = {32 * 1024, 0};
 
 struct call {
     const uint8_t *text;
     size_t length;
 };
 
+/* What an entry takes of these. */
 struct evaluation {
-    struct call rule, record;
+    struct call rule, record, sheet;
     uint32_t refusal;
 };
 
@@ -60,6 +64,41 @@ static void *evaluate_texts(void *argument)
                                         JEHVRUKAM_MAX_STEPS, rule_table, sizeof rule_table, rule_strings,
                                         sizeof rule_strings, table, sizeof table, strings, sizeof strings, cells,
                                         sizeof cells, output, sizeof output, &which, &place, &steps, &length);
+    return argument;
+}
+
+static void *check_texts(void *argument)
+{
+    struct evaluation *given = argument;
+    uint64_t which = 0, place = 0, words = 0;
+    given->refusal = jehvrukam_check(given->rule.text, given->rule.length, given->sheet.text, given->sheet.length,
+                                     rule_table, sizeof rule_table, rule_strings, sizeof rule_strings, sheet_table,
+                                     sizeof sheet_table, sheet_strings, sizeof sheet_strings, &which, &place, &words);
+    return argument;
+}
+
+/* Not to fit is not expected, and told as a refusal that there is not. */
+static void *fit_texts(void *argument)
+{
+    struct evaluation *given = argument;
+    uint64_t which = 0, place = 0, fits = 0;
+    given->refusal = jehvrukam_fits(given->sheet.text, given->sheet.length, given->record.text, given->record.length,
+                                    sheet_table, sizeof sheet_table, sheet_strings, sizeof sheet_strings, table,
+                                    sizeof table, strings, sizeof strings, &which, &place, &fits);
+    if (given->refusal == JEHVRUKAM_DONE && fits != 1)
+        given->refusal = UINT32_MAX;
+    return argument;
+}
+
+static void *evaluate_checked_texts(void *argument)
+{
+    struct evaluation *given = argument;
+    uint64_t which = 0, place = 0, words = 0, fits = 0, steps = 0, length = 0;
+    given->refusal = jehvrukam_evaluate_checked(
+        given->rule.text, given->rule.length, given->sheet.text, given->sheet.length, given->record.text,
+        given->record.length, JEHVRUKAM_MAX_STEPS, rule_table, sizeof rule_table, rule_strings, sizeof rule_strings,
+        sheet_table, sizeof sheet_table, sheet_strings, sizeof sheet_strings, table, sizeof table, strings,
+        sizeof strings, cells, sizeof cells, output, sizeof output, &which, &place, &words, &fits, &steps, &length);
     return argument;
 }
 
@@ -108,6 +147,11 @@ static struct call nested(char *text, const char *opening, int times, const char
     return (struct call){(const uint8_t *)text, length};
 }
 
+static struct call literal(const char *text)
+{
+    return (struct call){(const uint8_t *)text, strlen(text)};
+}
+
 /* Counts a call that used so many bytes of stack, the thread's own among them, and was done or not. */
 static void count(const char *what, int number, size_t bytes, int done, struct use *use)
 {
@@ -145,13 +189,14 @@ static void measure_reading(void)
         size_t bytes = used(read_text, &call);
         count("text", i, bytes, jehvrukam_row_kind(table, 0) != 0, &reading);
 
-        struct evaluation given = {{(const uint8_t *)"{\"var\":\"\"}", 10}, call, 0};
+        struct evaluation given = {literal("{\"var\":\"\"}"), call, literal("{}"), 0};
         bytes = used(evaluate_texts, &given);
         count("the whole of text", i, bytes, given.refusal == JEHVRUKAM_DONE, &evaluating);
     }
 }
 
-/* Rules 32 deep: arrays, which nest one deep, and operations, which nest two, around each operation. */
+/* Rules 32 deep: arrays, which nest one deep, and operations, which nest two, around each operation. In the
+ * last four, one within the other is accepted too. */
 static void measure_evaluating(void)
 {
     static const char shift[] = "{\"plusTime\":[\"2020-01-31T10:20:30.123456789+05:30\",-20000,\"month\"]}";
@@ -160,46 +205,93 @@ static void measure_evaluating(void)
     static const char member[] = "{\"in\":[\"xyz\",{\"var\":\"a.1\"}]}";
     static const char dates[] = "{\"before\":[{\"plusTime\":[\"2020\",1,\"month\"]},{\"dccDateOfBirth\":[\"2021-04\"]},"
                                 "{\"plusTime\":[\"2021-05-28T23:59:59-1\",-1,\"hour\"]}]}";
-    static const char path[] = "{\"var\":\"a.1.0\"}";
+    static const char path[] = "{\"var\":\"a.1.0\"}", sum[] = "{\"+\":[1,{\"+\":[2,3]}]}";
     static const struct {
         const char *opening;
         int times;
         const char *inside, *closing;
-        uint32_t refusal;
+        uint32_t refusal, checked; /* without the sheet and with it */
     } rules[] = {
-        {"[", 32, "", "]", 0},
-        {"[", 31, path, "]", 0},
-        {"[", 30, shift, "]", 0},
-        {"[", 30, birth, "]", 0},
-        {"[", 30, part, "]", 0},
-        {"[", 30, "{\">=\":[3,2,1]}", "]", 0},
-        {"[", 29, member, "]", 0},
-        {"[", 28, dates, "]", 0},
-        {"{\"!\":[", 16, "1", "]}", 0},
-        {"{\"+\":[1,", 16, "1", "]}", 0},
-        {"{\"===\":[1,", 16, "1", "]}", 0},
-        {"{\"if\":[", 15, part, ",2,3]}", 0},
-        {"{\"if\":[1,", 15, shift, ",3]}", 0},
-        {"{\"if\":[0,2,", 15, shift, "]}", 0},
-        {"{\"if\":[0,2,", 14, dates, "]}", 0},
-        {"{\"and\":[1,1,", 15, part, "]}", 0},
-        {"{\"and\":[", 15, part, ",1]}", 0},
-        {"{\"reduce\":[", 15, "[1,2]", ",[{\"var\":\"current\"}],[]]}", 0},
-        {"{\"reduce\":[[1],", 15, shift, ",0]}", 0},
-        {"{\"reduce\":[[1],", 14, dates, ",0]}", 0},
-        {"{\"reduce\":[[1],{\"var\":\"accumulator\"},", 15, part, "]}", 0},
-        {"[{\"reduce\":[[1],", 10, shift, ",0]}]", 0},
-        {"{\"reduce\":[", 16, "1", ",2,3]}", JEHVRUKAM_WRONG_KIND},
+        {"[", 32, "", "]", 0, 0},
+        {"[", 31, path, "]", 0, 0},
+        {"[", 30, shift, "]", 0, 0},
+        {"[", 30, birth, "]", 0, 0},
+        {"[", 30, part, "]", 0, 0},
+        {"[", 30, "{\">=\":[3,2,1]}", "]", 0, 0},
+        {"[", 29, member, "]", 0, 0},
+        {"[", 28, dates, "]", 0, 0},
+        {"{\"!\":[", 16, "1", "]}", 0, 0},
+        {"{\"+\":[1,", 16, "1", "]}", 0, 0},
+        {"{\"===\":[1,", 16, "1", "]}", 0, 0},
+        {"{\"if\":[", 15, part, ",2,3]}", 0, 0},
+        {"{\"if\":[1,", 15, shift, ",3]}", 0, 0},
+        {"{\"if\":[0,2,", 15, shift, "]}", 0, 0},
+        {"{\"if\":[0,2,", 14, dates, "]}", 0, 0},
+        {"{\"and\":[1,1,", 15, part, "]}", 0, 0},
+        {"{\"and\":[", 15, part, ",1]}", 0, 0},
+        {"{\"reduce\":[", 15, "[1,2]", ",[{\"var\":\"current\"}],[]]}", 0, 0},
+        {"{\"reduce\":[[1],", 15, shift, ",0]}", 0, JEHVRUKAM_NOT_ACCEPTED},
+        {"{\"reduce\":[[1],", 14, dates, ",0]}", 0, JEHVRUKAM_NOT_ACCEPTED},
+        {"{\"reduce\":[[1],{\"var\":\"accumulator\"},", 15, part, "]}", 0, 0},
+        {"[{\"reduce\":[[1],", 10, shift, ",0]}]", 0, JEHVRUKAM_NOT_ACCEPTED},
+        {"{\"reduce\":[", 16, "1", ",2,3]}", JEHVRUKAM_WRONG_KIND, JEHVRUKAM_NOT_ACCEPTED},
+        {"{\"reduce\":[[1],", 15, shift, ",{\"dccDateOfBirth\":[\"2020\"]}]}", 0, 0},
+        {"{\"reduce\":[", 15, "[1,2]", ",{\"var\":\"accumulator\"},[{\"var\":\"b\"}]]}", 0, 0},
+        {"{\"reduce\":[[1],{\"+\":[{\"var\":\"current\"},{\"var\":\"accumulator\"}]},", 14, sum, "]}", 0, 0},
+        {"{\"reduce\":[[1],{\"if\":[{\"var\":\"current\"},{\"var\":\"accumulator\"},", 7, sum, "]},2]}", 0, 0},
     };
     static char text[JEHVRUKAM_MAX_TEXT_BYTES];
     static const char record[] = "{\"a\":[0,[\"abc\",\"xyz\"]]}";
 
     for (size_t i = 0; i < sizeof rules / sizeof *rules; i++) {
         struct evaluation given = {nested(text, rules[i].opening, rules[i].times, rules[i].inside, rules[i].closing),
-                                   {(const uint8_t *)record, sizeof record - 1}, 0};
+                                   literal(record), literal("{\"a.1\":[\"strings\"]}"), 0};
         size_t bytes = used(evaluate_texts, &given);
         count("rule", (int)i, bytes, given.refusal == rules[i].refusal, &evaluating);
+        bytes = used(check_texts, &given);
+        count("check of rule", (int)i, bytes, given.refusal == rules[i].checked, &checking);
+        bytes = used(evaluate_checked_texts, &given);
+        count("check and run of rule", (int)i, bytes, given.refusal == rules[i].checked, &evaluating_checked);
     }
+}
+
+/* Records 32 deep with something of a word inside, and a sheet of 256 members. */
+static void measure_fitting(void)
+{
+    static const struct {
+        const char *opening, *fragment;
+        int times;
+        const char *inside, *closing, *word;
+    } records[] = {
+        {"[", "0", 32, "1,-2", "]", "integers"},
+        {"[", "0", 32, "\"a\",\"\"", "]", "strings"},
+        {"[", "0", 32, "1,\"a\"", "]", "array"},
+        {"[", "0", 31, "{}", "]", "object"},
+        {"[", "0", 31, "\"2020-01-31T10:20:30.123456789+05:30\"", "]", "date"},
+        {"{\"a\":", "a", 31, "\"2020-02\"", "}", "day"},
+        {"{\"a\":", "a", 31, "[1,2]", "}", "integers"},
+    };
+    static char text[JEHVRUKAM_MAX_TEXT_BYTES], sheet[JEHVRUKAM_MAX_TEXT_BYTES];
+    for (size_t i = 0; i < sizeof records / sizeof *records; i++) {
+        size_t length = (size_t)sprintf(sheet, "{\"");
+        for (int level = 0; level < 31; level++)
+            length += (size_t)sprintf(sheet + length, "%s%s", level > 0 ? "." : "", records[i].fragment);
+        sprintf(sheet + length, "\":[\"null\",\"%s\"]}", records[i].word);
+        struct call record =
+            nested(text, records[i].opening, records[i].times, records[i].inside, records[i].closing);
+        struct evaluation given = {literal("1"), record, literal(sheet), 0};
+        size_t bytes = used(fit_texts, &given);
+        count("record", (int)i, bytes, given.refusal == JEHVRUKAM_DONE, &fitting);
+    }
+    size_t length = (size_t)sprintf(sheet, "{");
+    for (int i = 0; i < 256; i++)
+        length += (size_t)sprintf(sheet + length, "%s\"a.%d\":[\"null\",\"day\"]", i > 0 ? "," : "", i);
+    sprintf(sheet + length, "}");
+    struct evaluation given = {literal("{\"var\":\"a.255\"}"), literal("{\"a\":[\"2020\"]}"), literal(sheet), 0};
+    size_t bytes = used(fit_texts, &given);
+    count("sheet of 256 members", 0, bytes, given.refusal == JEHVRUKAM_DONE, &fitting);
+    bytes = used(check_texts, &given);
+    count("sheet of 256 members", 1, bytes, given.refusal == JEHVRUKAM_DONE, &checking);
 }
 
 /* A cell of a tag and two numbers. */
@@ -242,13 +334,15 @@ int main(void)
     thread = used(nothing, NULL);
     measure_reading();
     measure_evaluating();
+    measure_fitting();
     measure_writing_rows(0, "[", "-9007199254740991", "]");
     measure_writing_rows(1, "{\"\\u0001\":", "\"\\u0001\\n\\u00e9\"", "}");
     measure_writing_cells(0, 9, 3, 0xffffffff, 0xffffff); /* an integer of 17 digits */
     measure_writing_cells(1, 10, 4, 999, 73000);          /* an instant */
     measure_writing_cells(2, 10, 5, 0, 2500);             /* most of them zero bytes */
-    printf("the most stack that a call used: %zu bytes to read, %zu to evaluate, %zu to write\n", reading.most,
-           evaluating.most, writing.most);
+    printf("the most stack that a call used: %zu bytes to read, %zu to evaluate, %zu to write,\n"
+           "%zu to check, %zu to tell whether a record fits, %zu to check and evaluate\n", reading.most,
+           evaluating.most, writing.most, checking.most, fitting.most, evaluating_checked.most);
     printf("%d passed, %d failed\n", passed, failed);
     return failed == 0 ? 0 : 1;
 }

@@ -3,29 +3,20 @@
 use mathlib.Core.List.{[], _∷_, _++_}
 use Prim.Native.Nat.{ℕ}
 use Rattle.model.specs.Bytes.{Bytes, ascii}
-use Rattle.model.specs.Judgement.{Judged, done, refuses, ruleIn, Answer, answerOf, refusedBefore}
+use Rattle.model.specs.Judgement.{Judged, done, refuses, Answer, answerOf, refusedBefore}
 use Rattle.model.specs.Limits.{maxSteps, maxTextBytes}
-use Rattle.model.specs.Refusal.{number, reading}
-use Rattle.model.specs.Rule.{Rule}
+use Rattle.model.specs.Refusal.{number}
 use Rattle.model.specs.Writing.{decimal}
-use Rattle.syntax.specs.Read as readings
-use Rattle.syntax.specs.Read.{Read, read}
+use Rattle.stages.specs.Stage.{Stage, passed, refused}
+use Rattle.stages.specs.Texts.{TextsRead, evaluateStage}
 
--- ---- the answer to two texts: "rule read; 6; .. record read; evaluation; 11; 12"
-abbrev pub onRecord : Rule → Read → ℕ → ℕ → Answer
-onRecord r (readings.refuse k p) limit room = refusedBefore (reading k)
-onRecord r (readings.done w) limit room = answerOf r w limit room
-
-abbrev pub onShape : Judged Rule → Read → ℕ → ℕ → Answer
-onShape (refuses e) record′ limit room = refusedBefore e
-onShape (done r) record′ limit room = onRecord r record′ limit room
-
-abbrev pub onRule : Read → Read → ℕ → ℕ → Answer
-onRule (readings.refuse k p) record′ limit room = refusedBefore (reading k)
-onRule (readings.done v) record′ limit room = onShape (ruleIn v) record′ limit room
+-- ---- the answer to two texts: "rule read; 6; .. record read" (stages/Texts.antt: evaluateStage), then "evaluation; 11; 12"
+abbrev pub answerAfter : Stage TextsRead → ℕ → ℕ → Answer
+answerAfter (refused e which place) limit room = refusedBefore e
+answerAfter (passed t) limit room = answerOf (t .rule .content) (t .«record») limit room
 
 abbrev pub answerTo : Bytes → Bytes → ℕ → ℕ → Answer
-answerTo rule record′ limit room = onRule (read rule) (read record′) limit room
+answerTo rule record′ limit room = answerAfter (evaluateStage rule record′) limit room
 
 -- ---- its two lines: `answer TEXT` or `refused N`, then `steps N`
 abbrev pub line : Bytes → Bytes → Bytes

@@ -1,6 +1,8 @@
-// Bytes compared with bytes.
+// Bytes compared with bytes; the texts of paths.
 ghost use mathlib.Core.Path.{_≡_};
 ghost use Rattle.model.specs.Bytes.{sameBytes};
+
+pub mod path;
 
 // 01, Reading: "Names and strings are equal when their decoded UTF-8 bytes are."
 pub fn same(a: &[u8], b: &[u8]) -> bool

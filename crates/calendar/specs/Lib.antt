@@ -1,5 +1,4 @@
--- The calendar's answers in the terms of the model, what its private functions promise, and the theorems in plain terms.
+-- The calendar's answers in the terms of the model, and the theorems in plain terms.
 pub mod Answer
-pub mod Inner
 pub mod Main
 pub mod Laws

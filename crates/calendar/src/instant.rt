@@ -1,7 +1,7 @@
 // Instants: milliseconds from 1970-01-01, within the years 0000 to 9999.
-use crate::day::MS_PER_DAY;
-use crate::day::day_number;
-use crate::day::is_valid;
+use days::day::MS_PER_DAY;
+use days::day::day_number;
+use days::day::is_valid;
 use model::Date;
 ghost use mathlib.Core.Path.{_≡_};
 ghost use Rattle.model.specs.Instant.{earliest, latest, ranged, fromYear0, sinceYear0};

@@ -1,6 +1,2 @@
-// The calendar: the months' lengths, days and dates, instants, shifts, and an instant's text.
-mod day;
+// Instants: their range, and the start of a date.
 pub mod instant;
-pub mod month;
-pub mod shift;
-pub mod text;

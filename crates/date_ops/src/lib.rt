@@ -2,11 +2,11 @@
 use calendar::instant::DateAnswer;
 use calendar::instant::Instant;
 use calendar::instant::InstantAnswer;
-use calendar::shift::shift;
 use dates::read_date;
 use dates::read_day;
 use heap::handle::Handle;
 use heap::string::bytes;
+use instants::shift::shift;
 use model::TimeUnit;
 use result::Operated;
 use syntax::BIAS;

@@ -2,7 +2,7 @@
 use crate::shape::two_digits;
 use calendar::instant::DateAnswer;
 use calendar::instant::midnight;
-use calendar::month::month_days;
+use days::month::month_days;
 use model::Date;
 ghost use mathlib.Core.Path.{_≡_};
 ghost use Prim.Native.Nat.{_≤_};

@@ -17,17 +17,18 @@ use Rattle.heap.specs.Handles.{rowHandle, nextRow}
 use Rattle.heap.specs.Main as heap
 use Rattle.heap.specs.Means.{Means}
 use Rattle.heap.specs.Unfold.{areas}
+use Rattle.operate.specs.declared.ended.Ended.{Ended}
+use Rattle.operate.specs.declared.ended.Ended.the-variants.{Gives, Denies}
+use Rattle.operate.specs.declared.ended.Fault.{Fault}
+use Rattle.operate.specs.Ended.{EndsAs}
+use Rattle.operate.specs.Stack.{stackCell, stackedFrom, stacked}
+use Rattle.operate.specs.Laws.Ends.{got, failed}
+use Rattle.operate.specs.Laws.Stack.{stack-cell, stacked-same, stacked-more}
 use Rattle.rule.specs.Holds.{ruleCount}
-use Rattle.eval.specs.declared.ended.Ended.{Ended}
-use Rattle.eval.specs.declared.ended.Ended.the-variants.{Gives, Denies}
-use Rattle.eval.specs.declared.ended.Fault.{Fault}
 use Rattle.eval.specs.declared.run.Stacked.the-variants as Stackeds
-use Rattle.eval.specs.Ended.{EndsAs}
 use Rattle.eval.specs.Contract.{Room, Inside, Same, RowsHold, row-rule, Evals, StacksAs, stacks-all, stacks-stop, Stacks}
-use Rattle.eval.specs.Stack.{stackCell, stackedFrom, stacked}
 use Rattle.eval.proofs.Cells.{same-all, same-then, same-put, means-kept}
-use Rattle.eval.proofs.Ends.{got, failed}
-use Rattle.eval.proofs.Stack.{stack-cell, stacked-same, stacked-more, append, append-one, append-none, each-more, each-kept}
+use Rattle.eval.proofs.Stack.{append, append-one, append-none, each-more, each-kept}
 
 -- What the run of the rest comes to, with the values before.
 abbrev prefixed : Values → Plain Values → Plain Values

@@ -12,18 +12,18 @@ use Rattle.heap.specs.declared.handle.Handle.the-variants.{Null}
 use Rattle.heap.specs.Handles.{rowHandle, nextRow}
 use Rattle.heap.specs.Means.{Means, means-null}
 use Rattle.heap.specs.Unfold.{areas}
+use Rattle.operate.specs.declared.ended.Ended.{Ended}
+use Rattle.operate.specs.declared.ended.Ended.the-variants.{Gives, Denies}
+use Rattle.operate.specs.declared.ended.Fault.{Fault}
+use Rattle.operate.specs.declared.ended.Fault.the-variants.{WrongKind}
+use Rattle.operate.specs.Ended.{EndsAs, ends-value, ends-fault}
+use Rattle.operate.specs.Laws.Ends.{Got, got, failed}
 use Rattle.rule.specs.Holds.{ruleCount}
 use Rattle.scalars.specs.declared.truth.Truth as declared
 use Rattle.scalars.specs.declared.truth.Truth.the-variants.{Truthy, Falsy, Neither}
 use Rattle.scalars.specs.Contract.{truthOf, TruthIs}
-use Rattle.eval.specs.declared.ended.Ended.{Ended}
-use Rattle.eval.specs.declared.ended.Ended.the-variants.{Gives, Denies}
-use Rattle.eval.specs.declared.ended.Fault.{Fault}
-use Rattle.eval.specs.declared.ended.Fault.the-variants.{WrongKind}
-use Rattle.eval.specs.Ended.{EndsAs, ends-value, ends-fault}
 use Rattle.eval.specs.Contract.{Inside, Same, RowsHold, row-rule, andFrom, Evals, Ands}
 use Rattle.eval.proofs.Cells.{same-all, same-then, means-kept, later-room, stops-at, gives-at}
-use Rattle.eval.proofs.Ends.{Got, got, failed}
 
 -- The loop's definition is the model's.
 and-rest : (rs : Rules) (c v : Value) (n : ℕ) → plainAnd rs c v n ≡ goOn (truth v) v (andFrom rs c v) n

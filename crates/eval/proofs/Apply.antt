@@ -8,10 +8,9 @@ use denote.Enum.Declared.{tagOf}
 use types.Run.{OneOf}
 use lib.ListN.{length}
 use Rattle.model.specs.Bytes.{Bytes}
-use Rattle.model.specs.EvalPlain.{gives, lift, plainBody, plainAll}
+use Rattle.model.specs.EvalPlain.{gives, plainBody, plainAll}
 use Rattle.model.specs.Laws.Logic.{clash}
 use Rattle.model.specs.Limits.{heapCells}
-use Rattle.model.specs.Result.{Result}
 use Rattle.model.specs.Rule.{Operation, apply, Rules}
 use Rattle.model.specs.Value.{Value, array, Values}
 use Rattle.heap.specs.declared.handle.Form.the-variants as forms
@@ -22,34 +21,27 @@ use Rattle.heap.specs.Cells.{cellBytes}
 use Rattle.heap.specs.Handles.{parts}
 use Rattle.heap.specs.Main as heap
 use Rattle.heap.specs.Unfold.{areas}
+use Rattle.keywords.proofs.Op.{the-type}
+use Rattle.keywords.specs.declared.Op.{Op}
+use Rattle.keywords.specs.declared.Op.the-variants as Ops
+use Rattle.keywords.specs.Keyword.{Stands, stands-array, stands-equal, stands-member-of, stands-plus, stands-not, stands-date-of-birth, stands-compare, stands-plus-time, stands-extract}
+use Rattle.operate.specs.declared.ended.Ended.{Ended}
+use Rattle.operate.specs.declared.ended.Ended.the-variants.{Gives, Denies}
+use Rattle.operate.specs.declared.ended.Fault.{Fault}
+use Rattle.operate.specs.declared.ended.Fault.the-variants.{WrongKind, BadDate, OutOfRange}
+use Rattle.operate.specs.Ended.{operatedEnd, EndsAs, ends-value, ends-fault}
+use Rattle.operate.specs.Contract.{Operates}
+use Rattle.operate.specs.Laws.Ends.{operated-ends}
+use Rattle.operate.specs.Laws.Stack.{stacked-length}
+use Rattle.operate.specs.Stack.{stacked}
 use Rattle.result.specs.declared.Operated.{Operated}
 use Rattle.result.specs.declared.Operated.the-variants as Operateds
-use Rattle.result.specs.Gives as results
-use Rattle.result.specs.Gives.{gives-value, gives-wrong-kind, gives-bad-date, gives-out-of-range}
-use Rattle.rule.proofs.keyword.Op.{the-type}
-use Rattle.rule.specs.declared.keyword.Op.{Op}
-use Rattle.rule.specs.declared.keyword.Op.the-variants as Ops
-use Rattle.rule.specs.Keyword.{Stands, stands-array, stands-equal, stands-member-of, stands-plus, stands-not, stands-date-of-birth, stands-compare, stands-plus-time, stands-extract}
-use Rattle.eval.specs.declared.ended.Ended.{Ended}
-use Rattle.eval.specs.declared.ended.Ended.the-variants.{Gives, Denies}
-use Rattle.eval.specs.declared.ended.Fault.{Fault}
-use Rattle.eval.specs.declared.ended.Fault.the-variants.{WrongKind, BadDate, OutOfRange}
 use Rattle.eval.specs.declared.run.Stacked.{Stacked}
 use Rattle.eval.specs.declared.run.Stacked.the-variants as Stackeds
 use Rattle.eval.specs.Contract.{Inside, Bounded, StacksAs, stacks-all, stacks-stop, Stacks, Applies}
-use Rattle.eval.specs.Ended.{operatedEnd, EndsAs, ends-value, ends-fault, Operates}
-use Rattle.eval.specs.Stack.{stacked}
-use Rattle.eval.proofs.Block.{same-block}
-use Rattle.eval.proofs.Cells.{same-then, stops-at, gives-at}
-use Rattle.eval.proofs.Stack.{stacked-length}
+use Rattle.eval.proofs.Cells.{same-then, same-block, stops-at, gives-at}
 
 -- ---- what an operation gives ends the rule
-operated-ends : {A B R C : Bytes} {t : ℕ} {m : Result Value} {x : Operated} (l : ℕ) (r : Ended) → results.Gives (areas A B R C) t m x → r ≡ operatedEnd x l t → EndsAs (areas A B R C) (lift m l) r
-operated-ends {t = t} l r (gives-value {v = v} {h = h} e n) f = ends-value {v = v} {h = h} {left = l} {top = t} refl (rw e at f) n
-operated-ends l r (gives-wrong-kind e) f = ends-fault {e = WrongKind} {left = l} refl (rw e at f)
-operated-ends l r (gives-bad-date e) f = ends-fault {e = BadDate} {left = l} refl (rw e at f)
-operated-ends l r (gives-out-of-range e) f = ends-fault {e = OutOfRange} {left = l} refl (rw e at f)
-
 operated-bound : {left top : ℕ} (x : Operated) (l t : ℕ) (r : Ended) → r ≡ operatedEnd x l t → top ≤ t → t + 2 * l ≤ top + 2 * left → l ≤ left → Bounded 0 left top r
 operated-bound {left} {top} x l t r e a b d = rw e (go x)
   where

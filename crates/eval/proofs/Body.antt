@@ -15,18 +15,18 @@ use Rattle.heap.specs.declared.handle.Handle.{Handle}
 use Rattle.heap.specs.declared.handle.Parts.{Parts}
 use Rattle.heap.specs.Means.{Means}
 use Rattle.heap.specs.Unfold.{areas}
-use Rattle.rule.proofs.keyword.Op.{the-type}
-use Rattle.rule.specs.declared.keyword.Op.{Op}
-use Rattle.rule.specs.declared.keyword.Op.the-variants as Ops
+use Rattle.keywords.proofs.Op.{the-type}
+use Rattle.keywords.specs.declared.Op.{Op}
+use Rattle.keywords.specs.declared.Op.the-variants as Ops
+use Rattle.keywords.specs.Laws.Stands.{not-if, not-and, not-reduce}
+use Rattle.operate.specs.declared.ended.Ended.{Ended}
+use Rattle.operate.specs.declared.ended.Ended.the-variants.{Denies}
+use Rattle.operate.specs.declared.ended.Fault.the-variants.{WrongKind}
+use Rattle.operate.specs.Ended.{EndsAs}
 use Rattle.rule.specs.declared.view.View.the-variants as Seen
-use Rattle.rule.specs.Keyword.{Stands, stands-array, stands-equal, stands-member-of, stands-plus, stands-not, stands-date-of-birth, stands-compare, stands-plus-time, stands-extract}
 use Rattle.rule.specs.Laws.Holds.{holds-count}
 use Rattle.rule.specs.View.{Viewed, viewed-literal, viewed-var, viewed-if, viewed-and, viewed-reduce, viewed-apply}
-use Rattle.eval.specs.declared.ended.Ended.{Ended}
-use Rattle.eval.specs.declared.ended.Ended.the-variants.{Denies}
-use Rattle.eval.specs.declared.ended.Fault.the-variants.{WrongKind}
 use Rattle.eval.specs.Contract.{Bodies, Ifs, Ands, Reduces, Applies}
-use Rattle.eval.specs.Ended.{EndsAs}
 use Rattle.eval.proofs.And.{and-is}
 use Rattle.eval.proofs.Cells.{same-all, stops-at}
 use Rattle.eval.proofs.Rows.{rows-hold}
@@ -37,40 +37,6 @@ same-op e = cc
 
 same-parts : {op op′ : Op} {p p′ : Parts} → Seen.Operation op p ≡ Seen.Operation op′ p′ → p ≡ p′
 same-parts e = cc
-
--- `if`, `and` and `reduce` are none of the operations that evaluate all operands first.
-pub not-if : (op : Op) {o : Operation} {k : ℕ} → Stands op o k → op ≡ Ops.If → ⊥
-not-if op stands-array e = clash cc
-not-if op (stands-equal x) e = clash cc
-not-if op (stands-member-of x) e = clash cc
-not-if op (stands-plus x) e = clash cc
-not-if op (stands-not x) e = clash cc
-not-if op (stands-date-of-birth x) e = clash cc
-not-if op (stands-compare x y) e = clash cc
-not-if op (stands-plus-time x y z) e = clash cc
-not-if op (stands-extract x y z) e = clash cc
-
-pub not-and : (op : Op) {o : Operation} {k : ℕ} → Stands op o k → op ≡ Ops.And → ⊥
-not-and op stands-array e = clash cc
-not-and op (stands-equal x) e = clash cc
-not-and op (stands-member-of x) e = clash cc
-not-and op (stands-plus x) e = clash cc
-not-and op (stands-not x) e = clash cc
-not-and op (stands-date-of-birth x) e = clash cc
-not-and op (stands-compare x y) e = clash cc
-not-and op (stands-plus-time x y z) e = clash cc
-not-and op (stands-extract x y z) e = clash cc
-
-pub not-reduce : (op : Op) {o : Operation} {k : ℕ} → Stands op o k → op ≡ Ops.Reduce → ⊥
-not-reduce op stands-array e = clash cc
-not-reduce op (stands-equal x) e = clash cc
-not-reduce op (stands-member-of x) e = clash cc
-not-reduce op (stands-plus x) e = clash cc
-not-reduce op (stands-not x) e = clash cc
-not-reduce op (stands-date-of-birth x) e = clash cc
-not-reduce op (stands-compare x y) e = clash cc
-not-reduce op (stands-plus-time x y z) e = clash cc
-not-reduce op (stands-extract x y z) e = clash cc
 
 apart : (k : ℕ) → 1 ≤ k → k ≤ 3 → OneOf (0 ∷ 4 ∷ 5 ∷ 6 ∷ 7 ∷ 8 ∷ 9 ∷ 10 ∷ 11 ∷ []) k → ⊥
 apart k a b x = ⊎-elim (λ y. omega arith) (⊎-elim (λ y. omega arith) (⊎-elim (λ y. omega arith) (⊎-elim (λ y. omega arith) (⊎-elim (λ y. omega arith) (⊎-elim (λ y. omega arith) (⊎-elim (λ y. omega arith) (⊎-elim (λ y. omega arith) (λ y. omega arith)))))))) x

@@ -11,17 +11,17 @@ use Rattle.heap.specs.declared.handle.Handle.{Handle}
 use Rattle.heap.specs.Handles.{rowHandle, nextRow}
 use Rattle.heap.specs.Means.{Means}
 use Rattle.heap.specs.Unfold.{areas}
+use Rattle.operate.specs.declared.ended.Ended.{Ended}
+use Rattle.operate.specs.declared.ended.Ended.the-variants.{Gives, Denies}
+use Rattle.operate.specs.declared.ended.Fault.{Fault}
+use Rattle.operate.specs.Ended.{EndsAs, ends-fault}
+use Rattle.operate.specs.Laws.Ends.{got, failed}
 use Rattle.rule.specs.Holds.{Holds}
 use Rattle.scalars.specs.declared.truth.Truth as declared
 use Rattle.scalars.specs.declared.truth.Truth.the-variants.{Truthy}
 use Rattle.scalars.specs.Contract.{truthOf, TruthIs}
-use Rattle.eval.specs.declared.ended.Ended.{Ended}
-use Rattle.eval.specs.declared.ended.Ended.the-variants.{Gives, Denies}
-use Rattle.eval.specs.declared.ended.Fault.{Fault}
-use Rattle.eval.specs.Ended.{EndsAs, ends-fault}
 use Rattle.eval.specs.Contract.{RowsHold, row-rule, chosen, Branches, threeRules, Evals, Ifs}
 use Rattle.eval.proofs.Cells.{same-then, means-kept, stops-at, bound-then}
-use Rattle.eval.proofs.Ends.{got, failed}
 
 -- ---- the row that is chosen
 pub chooses-second : {T : Bytes} {second : ℕ} {guard g : Handle} (x : declared.Truth) → TruthIs guard x → x ≡ Truthy → g ≡ rowHandle T second → Branches T second guard g

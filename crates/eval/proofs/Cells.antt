@@ -1,4 +1,5 @@
 -- Cells: which cells a run changes, and what it leaves as it was.
+use mathlib.Core.List.{List}
 use mathlib.Core.Path.{_≡_, refl, sym, _∙_}
 use Prim.Native.Nat.{ℕ, _+_, _*_, _-_, _≤_, _<_}
 use native.Mathlib.Omega.{arith}
@@ -7,14 +8,17 @@ use Rattle.model.specs.Bytes.{Bytes}
 use Rattle.model.specs.Laws.Logic.{clash}
 use Rattle.model.specs.Value.{Value}
 use Rattle.heap.specs.declared.handle.Handle.{Handle}
+use Rattle.heap.specs.Blocks.{storedFrom}
 use Rattle.heap.specs.Cells.{stored}
 use Rattle.heap.specs.Laws.Cells.{length-stored, stored-other}
+use Rattle.heap.specs.Laws.Made.{length-storedFrom, storedFrom-before}
 use Rattle.heap.specs.Main as heap
 use Rattle.heap.specs.Means.{Means}
 use Rattle.heap.specs.Unfold.{areas}
-use Rattle.eval.specs.declared.ended.Ended.{Ended}
-use Rattle.eval.specs.declared.ended.Ended.the-variants.{Gives, Denies}
-use Rattle.eval.specs.declared.ended.Fault.{Fault}
+use Rattle.operate.specs.declared.ended.Ended.{Ended}
+use Rattle.operate.specs.declared.ended.Ended.the-variants.{Gives, Denies}
+use Rattle.operate.specs.declared.ended.Fault.{Fault}
+use Rattle.operate.specs.Laws.Stack.{storedFrom-after}
 use Rattle.eval.specs.Contract.{Room, Inside, Same, Bounded}
 
 -- ---- cells that stay
@@ -35,6 +39,14 @@ same-put C j h l m = record {
   below = λ k n. sym (stored-other C k j h (λ e. absurd (omega arith)));
   above = λ k n. sym (stored-other C k j h (λ e. absurd (omega arith)));
   size = length-stored C j h;
+}
+
+-- A block of handles between.
+pub same-block : (C : Bytes) (top : ℕ) (hs : List Handle) {bottom : ℕ} → top + length hs ≤ bottom → Same C (storedFrom C top hs) top bottom
+same-block C top hs l = record {
+  below = λ j k. sym (storedFrom-before C top hs j k);
+  above = λ j k. sym (storedFrom-after C top hs j (omega arith));
+  size = length-storedFrom C top hs;
 }
 
 -- What a handle means is kept.

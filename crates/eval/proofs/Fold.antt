@@ -21,14 +21,14 @@ use Rattle.heap.specs.Main as heap
 use Rattle.heap.specs.Means.{Means}
 use Rattle.heap.specs.Parts.{headOf, tailOf}
 use Rattle.heap.specs.Unfold.{areas}
+use Rattle.operate.specs.declared.ended.Ended.{Ended}
+use Rattle.operate.specs.declared.ended.Ended.the-variants.{Gives, Denies}
+use Rattle.operate.specs.declared.ended.Fault.{Fault}
+use Rattle.operate.specs.Ended.{EndsAs, ends-value, ends-fault}
+use Rattle.operate.specs.Laws.Ends.{got, failed}
 use Rattle.rule.specs.Holds.{Holds}
-use Rattle.eval.specs.declared.ended.Ended.{Ended}
-use Rattle.eval.specs.declared.ended.Ended.the-variants.{Gives, Denies}
-use Rattle.eval.specs.declared.ended.Fault.{Fault}
-use Rattle.eval.specs.Ended.{EndsAs, ends-value, ends-fault}
 use Rattle.eval.specs.Contract.{Room, Inside, Same, lambdaRun, Evals, Folds}
 use Rattle.eval.proofs.Cells.{same-then, same-put, means-kept, stops-at, gives-at}
-use Rattle.eval.proofs.Ends.{got, failed}
 
 -- The two cells of a context.
 pub two-puts : (C : Bytes) (t : ℕ) (x y : Handle) {C₁ C₂ : Bytes} → C₁ ≡ stored C t x → C₂ ≡ stored C₁ (t + 1) y → C₂ ≡ stored (stored C t x) (suc t) y

@@ -1,5 +1,4 @@
 pub mod Cells
-pub mod Ends
 pub mod Rows
 pub mod Rules
 pub mod Branch
@@ -8,8 +7,6 @@ pub mod Fold
 pub mod Reduce
 pub mod Stack
 pub mod All
-pub mod Block
 pub mod Apply
 pub mod Body
 pub mod Whole
-pub mod Operations

@@ -14,17 +14,17 @@ use Rattle.heap.specs.declared.handle.Parts.{Parts}
 use Rattle.heap.specs.Handles.{rowHandle, nextRow}
 use Rattle.heap.specs.Means.{Means, means-null, means-false, means-true, means-integer, means-instant, means-string, means-items, means-members, means-list, means-context}
 use Rattle.heap.specs.Unfold.{Areas, areas}
+use Rattle.operate.specs.declared.ended.Ended.{Ended}
+use Rattle.operate.specs.declared.ended.Ended.the-variants.{Gives, Denies}
+use Rattle.operate.specs.declared.ended.Fault.{Fault}
+use Rattle.operate.specs.declared.ended.Fault.the-variants.{WrongKind}
+use Rattle.operate.specs.Ended.{EndsAs, ends-fault}
+use Rattle.operate.specs.Laws.Ends.{Got, got, failed}
 use Rattle.rule.specs.Holds.{Holds}
-use Rattle.eval.specs.declared.ended.Ended.{Ended}
-use Rattle.eval.specs.declared.ended.Ended.the-variants.{Gives, Denies}
-use Rattle.eval.specs.declared.ended.Fault.{Fault}
-use Rattle.eval.specs.declared.ended.Fault.the-variants.{WrongKind}
 use Rattle.eval.specs.declared.run.Elements.{Elements}
 use Rattle.eval.specs.declared.run.Elements.the-variants.{NotArray, Of}
-use Rattle.eval.specs.Ended.{EndsAs, ends-fault}
 use Rattle.eval.specs.Contract.{Same, RowsHold, row-rule, threeRules, elementsOf, Evals, Folds, Reduces}
 use Rattle.eval.proofs.Cells.{same-then, means-kept, stops-at, bound-then}
-use Rattle.eval.proofs.Ends.{Got, got, failed}
 
 -- ---- arrays among values
 pub not-array : {a : Areas} {t : ℕ} {v : Value} {h : Handle} → Means a t v h → elementsOf h ≡ NotArray → asArray v ≡ none

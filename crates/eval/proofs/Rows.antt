@@ -14,11 +14,12 @@ use Rattle.syntax.specs.Layout.{itemCount}
 use Rattle.heap.specs.declared.handle.Handle.the-variants.{Compound}
 use Rattle.heap.specs.declared.handle.Parts.{Parts}
 use Rattle.heap.specs.Means.{Means, means-items, means-list, RowItems, row-item}
-use Rattle.rule.specs.Holds.{ruleAreas, HoldsAll}
+use Rattle.heap.specs.Unfold.{readAreas}
+use Rattle.rule.specs.Holds.{HoldsAll}
 use Rattle.eval.specs.Contract.{RowsHold, no-rows, row-rule}
 
 -- The rules of the items of a read array.
-rows-of : {T A : Bytes} {deep row : ℕ} (vs : Values) (rs : Rules) → RowItems (ruleAreas T A) row vs → rulesOf (operandsOf vs) ≡ some rs → itemsNesting vs ≤ deep → RowsHold T A deep row rs
+rows-of : {T A : Bytes} {deep row : ℕ} (vs : Values) (rs : Rules) → RowItems (readAreas T A) row vs → rulesOf (operandsOf vs) ≡ some rs → itemsNesting vs ≤ deep → RowsHold T A deep row rs
 unfolding operandsOf itemsNesting
 rows-of no-items no-rules i e n = no-rows
 rows-of no-items (rule r rs) i e n = clash cc
@@ -39,7 +40,7 @@ pub rows-hold : {T A : Bytes} {deep : ℕ} (rs : Rules) (p : Parts) → HoldsAll
 unfolding itemCount
 rows-hold {T} {A} {deep} rs p h = go (h .values) p (h .means) (h .shaped) (h .nests)
   where
-    go : (vs : Values) (q : Parts) → Means (ruleAreas T A) 0 (array vs) (Compound q) → rulesOf (operandsOf vs) ≡ some rs → itemsNesting vs ≤ deep → RowsHold T A deep (q .first) rs
+    go : (vs : Values) (q : Parts) → Means (readAreas T A) 0 (array vs) (Compound q) → rulesOf (operandsOf vs) ≡ some rs → itemsNesting vs ≤ deep → RowsHold T A deep (q .first) rs
     go vs q (means-items e f i) g n = rows-of vs rs i g n
     go no-items q (means-list e b i) g n = none-of rs g
     go (item v vs) q (means-list e b i) g n = absurd (omega arith)

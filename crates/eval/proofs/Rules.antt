@@ -13,15 +13,15 @@ use Rattle.heap.specs.declared.handle.Parts.{Parts}
 use Rattle.heap.specs.Means.{Means}
 use Rattle.heap.specs.Strings.{part}
 use Rattle.heap.specs.Unfold.{areas}
+use Rattle.keywords.specs.declared.Op.{Op}
 use Rattle.lookup.specs.Contract.{Leads}
-use Rattle.rule.specs.declared.keyword.Op.{Op}
+use Rattle.operate.specs.declared.ended.Ended.{Ended}
+use Rattle.operate.specs.declared.ended.Ended.the-variants.{Gives, Denies}
+use Rattle.operate.specs.declared.ended.Fault.the-variants.{WrongKind, OutOfSteps}
+use Rattle.operate.specs.Ended.{EndsAs, ends-value, ends-fault}
 use Rattle.rule.specs.declared.view.View.{View}
 use Rattle.rule.specs.declared.view.View.the-variants.{NotRule, Literal, Var, Operation}
 use Rattle.rule.specs.View.{Viewed, viewed-literal, viewed-var, viewed-if, viewed-and, viewed-reduce, viewed-apply, ViewsAs}
-use Rattle.eval.specs.declared.ended.Ended.{Ended}
-use Rattle.eval.specs.declared.ended.Ended.the-variants.{Gives, Denies}
-use Rattle.eval.specs.declared.ended.Fault.the-variants.{WrongKind, OutOfSteps}
-use Rattle.eval.specs.Ended.{EndsAs, ends-value, ends-fault}
 use Rattle.eval.specs.Contract.{Evals, Bodies}
 use Rattle.eval.proofs.Cells.{same-all, stops-at, gives-at, spent}
 

@@ -1,48 +1,16 @@
--- Stack: what stands on the stack of operands.
+-- Stack: the values of the operands that stand on the stack.
 use mathlib.Core.List.{List, [], _∷_, _++_}
-use mathlib.Core.Path.{_≡_, refl, sym, ap, _∙_}
-use Prim.Native.Nat.{ℕ, zero, suc, _+_, _-_, _≤_, _<_}
-use native.Mathlib.Omega.{arith}
-use borrow.Author.Tests.{lt-leb}
-use lib.ListN.{length}
+use mathlib.Core.Path.{_≡_, refl, ap}
+use Prim.Native.Nat.{ℕ, _≤_}
 use Rattle.model.specs.Bytes.{Bytes}
 use Rattle.model.specs.Value.{Value, Values, no-items, item}
 use Rattle.heap.specs.declared.handle.Handle.{Handle}
 use Rattle.heap.specs.Blocks.{MeansEach, no-handles, handle-item}
-use Rattle.heap.specs.Cells.{cellHandle}
 use Rattle.heap.specs.Means.{Means}
 use Rattle.heap.specs.Unfold.{Areas, areas}
 use Rattle.eval.specs.Contract.{Same}
-use Rattle.eval.specs.Stack.{stackCell, stackedFrom}
 use Rattle.eval.proofs.Cells.{means-kept}
 
-pub stack-cell : (C : Bytes) (bottom k : ℕ) → k < bottom → stackCell C bottom k ≡ cellHandle C (bottom - k - 1)
-unfolding stackCell
-stack-cell C bottom k l = rw (lt-leb bottom k l)
-
--- As many handles as were asked for.
-pub stacked-length : (C : Bytes) (bottom k n : ℕ) → length (stackedFrom C bottom k n) ≡ n
-unfolding stackedFrom
-stacked-length C bottom k zero = refl
-stacked-length C bottom k (suc n) = ap suc (stacked-length C bottom (suc k) n)
-
--- Cells from b on that stay, and with them the operands there.
-pub stacked-same : (C C′ : Bytes) (bottom b k n : ℕ) → ((j : ℕ) → b ≤ j → cellHandle C j ≡ cellHandle C′ j) → b + k + n ≤ bottom → stackedFrom C bottom k n ≡ stackedFrom C′ bottom k n
-unfolding stackedFrom
-stacked-same C C′ bottom b k zero f l = refl
-stacked-same C C′ bottom b k (suc n) f l =
-    let e : stackCell C bottom k ≡ stackCell C′ bottom k = stack-cell C bottom k (omega arith) ∙ f (bottom - k - 1) (omega arith) ∙ sym (stack-cell C′ bottom k (omega arith)) in
-    (λ i. e i ∷ stacked-same C C′ bottom b (suc k) n f (omega arith) i)
-
--- One more.
-pub stacked-more : (C : Bytes) (bottom k n : ℕ) → stackedFrom C bottom k (suc n) ≡ stackedFrom C bottom k n ++ (stackCell C bottom (k + n) ∷ [])
-unfolding stackedFrom
-stacked-more C bottom k zero = let e : k ≡ k + 0 = omega arith in ap (λ (j : ℕ). stackCell C bottom j ∷ []) e
-stacked-more C bottom k (suc n) =
-    let e : suc k + n ≡ k + suc n = omega arith in
-    ap (λ (hs : List Handle). stackCell C bottom k ∷ hs) (stacked-more C bottom (suc k) n ∙ ap (λ (j : ℕ). stackedFrom C bottom (suc k) n ++ (stackCell C bottom j ∷ [])) e)
-
--- ---- values
 abbrev pub append : Values → Values → Values
 append no-items ws = ws
 append (item v vs) ws = item v (append vs ws)

@@ -20,17 +20,17 @@ use Rattle.heap.specs.Handles.{rowHandle}
 use Rattle.heap.specs.Main as heap
 use Rattle.heap.specs.Means.{Means}
 use Rattle.heap.specs.Unfold.{areas}
+use Rattle.operate.specs.declared.ended.Ended.{Ended}
+use Rattle.operate.specs.declared.ended.Ended.the-variants.{Gives, Denies}
+use Rattle.operate.specs.declared.ended.Fault.{Fault}
+use Rattle.operate.specs.Ended.{faultOf, EndsAs}
+use Rattle.operate.specs.Laws.Ends.{got, failed}
 use Rattle.rule.specs.Holds.{Holds}
 use Rattle.writer.specs.declared.Answer as writing
 use Rattle.writer.specs.Contract.{answered, handleWritten}
 use Rattle.eval.specs.declared.Answer.{Answer}
-use Rattle.eval.specs.declared.ended.Ended.{Ended}
-use Rattle.eval.specs.declared.ended.Ended.the-variants.{Gives, Denies}
-use Rattle.eval.specs.declared.ended.Fault.{Fault}
 use Rattle.eval.specs.Contract.{Room, Evals}
-use Rattle.eval.specs.Ended.{faultOf, EndsAs}
 use Rattle.eval.specs.Evaluate.{Ready, evaluation, evaluated, Evaluates, writtenAnswer}
-use Rattle.eval.proofs.Ends.{got, failed}
 
 -- Cells for every step that a limit allows.
 pub whole-room : {T A R B C : Bytes} {limit : ℕ} → Ready T A R B C limit → Room C limit 0 heapCells

@@ -20,20 +20,20 @@ use Rattle.heap.specs.Cells.{cellBytes, cellHandle}
 use Rattle.heap.specs.Handles.{rowHandle, nextRow}
 use Rattle.heap.specs.Means.{Means}
 use Rattle.heap.specs.Unfold.{areas}
-use Rattle.rule.specs.declared.keyword.Op.{Op}
+use Rattle.keywords.specs.declared.Op.{Op}
+use Rattle.keywords.specs.Keyword.{Stands}
+use Rattle.operate.specs.declared.ended.Ended.{Ended}
+use Rattle.operate.specs.declared.ended.Ended.the-variants.{Gives, Denies}
+use Rattle.operate.specs.declared.ended.Fault.{Fault}
+use Rattle.operate.specs.Ended.{faultOf, EndsAs}
+use Rattle.operate.specs.Stack.{stacked}
 use Rattle.rule.specs.declared.view.View.the-variants as Views
 use Rattle.rule.specs.Holds.{Holds, ruleCount}
-use Rattle.rule.specs.Keyword.{Stands}
 use Rattle.rule.specs.View.{Viewed}
-use Rattle.eval.specs.declared.ended.Ended.{Ended}
-use Rattle.eval.specs.declared.ended.Ended.the-variants.{Gives, Denies}
-use Rattle.eval.specs.declared.ended.Fault.{Fault}
 use Rattle.eval.specs.declared.run.Elements.{Elements}
 use Rattle.eval.specs.declared.run.Elements.the-variants.{NotArray, Of}
 use Rattle.eval.specs.declared.run.Stacked.{Stacked}
 use Rattle.eval.specs.declared.run.Stacked.the-variants.{All, Stops}
-use Rattle.eval.specs.Ended.{faultOf, EndsAs}
-use Rattle.eval.specs.Stack.{stacked}
 
 -- ---- cells
 -- Two cells for each step that is left: enough for a rule, whose own step is not yet begun.

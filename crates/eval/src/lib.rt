@@ -1,20 +1,18 @@
 // The evaluator: a rule on a record, both as reading left them, under a step limit; and its answer, written.
-use crate::ended::Ended;
-use crate::ended::Fault;
 use crate::run::eval;
 use area::clear_from;
 use heap::handle::load;
 use model::HEAP_CELLS;
 use model::MAX_NESTING;
+use operate::ended::Ended;
+use operate::ended::Fault;
 use writer::Answer as Written;
 use writer::write;
 ghost use mathlib.Core.Path.{_≡_};
 ghost use Rattle.model.specs.Refusal.{evalNumber};
-ghost use Rattle.eval.specs.Ended.{faultOf};
+ghost use Rattle.operate.specs.Ended.{faultOf};
 ghost use Rattle.eval.specs.Evaluate.{Ready, Evaluates, writtenAnswer};
 
-pub mod ended;
-mod operate;
 mod run;
 
 // A refusal's number, or 0; the steps begun; the length of the answer's text.

@@ -2,11 +2,6 @@
 //
 // The rule is in its table and strings, the record in `table` and `strings`. The cells below `top` are the heap, which only grows; those from
 // `bottom` on hold the operands of the rules around this one. `left` steps may be begun; `deep` bounds the nesting of the rule.
-use crate::ended::Ended;
-use crate::ended::Fault;
-use crate::ended::operated;
-use crate::operate::list;
-use crate::operate::operate;
 use heap::cell::put;
 use heap::handle::Form;
 use heap::handle::Handle;
@@ -17,8 +12,13 @@ use heap::handle::next_row;
 use heap::part::head;
 use heap::part::tail;
 use heap::string::part_of;
+use keywords::Op;
 use lookup::value_at;
-use rule::keyword::Op;
+use operate::ended::Ended;
+use operate::ended::Fault;
+use operate::ended::operated;
+use operate::list;
+use operate::operate;
 use rule::view::View;
 use rule::view::view_of;
 use scalars::truth::Truth;

@@ -1,41 +1,53 @@
--- Inner: what the private functions of src/evaluate.rt do.
+-- Inner: what the private functions do.
+use mathlib.Core.Bool.{true, false}
 use mathlib.Core.Path.{_≡_}
-use mathlib.Core.Bool.{Bool, true, false}
-use mathlib.Core.List.{[]}
-use Prim.Native.Nat.{ℕ}
+use Prim.Native.Nat.{ℕ, _≤_}
 use lib.Dec.{eqb}
+use lib.ListN.{length, replicate}
 use Rattle.model.specs.Bytes.{Bytes}
-use Rattle.json.specs.declared.Answer as reading
-use Rattle.syntax.specs.Read.{read}
+use Rattle.stages.specs.Areas.{isShort, textAreas}
+use Rattle.stages.specs.declared.text.Stop as stages
 use Rattle.jehvrukam.specs.declared.evaluate.Outcome.{Outcome}
-use Rattle.jehvrukam.specs.Contract.{areasOf, numbersOf}
-use Rattle.jehvrukam.specs.Evaluate.{Areas, Numbers, isInvalid, zeros, withRule}
+use Rattle.jehvrukam.specs.declared.evaluate_checked.CheckedOutcome.{CheckedOutcome}
+use Rattle.jehvrukam.specs.Contract.{numbersOf, checkedNumbersOf}
+use Rattle.jehvrukam.specs.Entry.{Entry, cannotRun}
+use Rattle.jehvrukam.specs.Evaluate.{Numbers}
+use Rattle.jehvrukam.specs.EvaluateChecked.{CheckedNumbers}
+use Rattle.jehvrukam.specs.Fits.{yesOrNo}
 
--- Refusal 1 does not look at the output.
-abbrev pub invalidBy : ℕ → Bytes → Bytes → Bytes → Bytes → Bytes → Bool
-invalidBy limit T A R B C = isInvalid limit (areasOf T A R B C [])
+-- ---- areas after a refusal
+-- What stays after success is cleared after a refusal k.
+abbrev pub settledBy : {A : Type 0} → (A → A) → ℕ → A → A
+settledBy clear k a = elim (eqb k 0) [ true ↦ a | false ↦ clear a ]
 
-pub record Sized (limit : ℕ) (T A R B C : Bytes) : Type 0 where
-  pub valid : invalidBy limit T A R B C ≡ false
+abbrev pub settled : ℕ → Bytes → Bytes
+settled k s = settledBy (λ t. replicate (length t) 0) k s
 
--- A text that does not read.
-abbrev pub unreadOutcome : ℕ → reading.Answer → Outcome
-unreadOutcome text a = record { refusal = a .refusal; which = text; place = a .place; steps = 0; size = 0 }
+pub record Settled (k : ℕ) (S Z S′ Z′ : Bytes) : Type 0 where
+  pub first : S′ ≡ settled k S
+  pub second : Z′ ≡ settled k Z
+
+-- ---- the stages of an entry, before areas are cleared
+-- The refusal k and the numbers n are those of the whole answer; after success the areas a′ are too; after a refusal they are as long as they were.
+pub record Judges {N A : Type 0} (clear : A → A) (whole : Entry N A) (a : A) (k : ℕ) (n : N) (a′ : A) : Type 0 where
+  pub refusal : k ≡ whole .refusal
+  pub numbers : n ≡ whole .numbers
+  pub areas : k ≡ 0 → a′ ≡ whole .areas
+  pub sizes : clear a′ ≡ clear a
+
+-- ---- evaluation
+pub record Runs (limit : ℕ) (C : Bytes) : Type 0 where
+  pub runs : cannotRun limit C ≡ false
 
 abbrev pub told : Outcome → Numbers
 told o = numbersOf (o .which) (o .place) (o .steps) (o .size)
 
--- The answer of the stages; their areas after success; after a refusal the areas are only as long as they were.
-pub record Judges (rule record′ : Bytes) (limit : ℕ) (a : Areas) (r : Outcome) (a′ : Areas) : Type 0 where
-  pub refusal : r .refusal ≡ withRule a limit (read rule) record′ .refusal
-  pub numbers : told r ≡ withRule a limit (read rule) record′ .numbers
-  pub areas : r .refusal ≡ 0 → a′ ≡ withRule a limit (read rule) record′ .areas
-  pub sizes : zeros a′ ≡ zeros a
+-- A text that is refused before evaluation.
+abbrev pub unrun : stages.Stop → Outcome
+unrun s = record { refusal = s .refusal; which = s .which; place = s .place; steps = 0; size = 0 }
 
--- After a refusal every area is zero.
-abbrev pub settledBy : Bool → Areas → Areas
-settledBy true a = a
-settledBy false a = zeros a
+abbrev pub checkedTold : CheckedOutcome → CheckedNumbers
+checkedTold o = checkedNumbersOf (o .which) (o .place) (o .words) (yesOrNo (o .fits)) (o .steps) (o .size)
 
-abbrev pub settled : ℕ → Areas → Areas
-settled k a = settledBy (eqb k 0) a
+abbrev pub checkedUnrun : stages.Stop → CheckedOutcome
+checkedUnrun s = record { refusal = s .refusal; which = s .which; place = s .place; words = 0; fits = false; steps = 0; size = 0 }

@@ -8,8 +8,10 @@ use Rattle.model.specs.Limits.{maxSheetMembers}
 use Rattle.model.specs.Lists.{find, all}
 use Rattle.model.specs.Option.{_>>=_, when}
 use Rattle.model.specs.Path.{Path, pathOf, valueAt}
-use Rattle.model.specs.Types.{Ty, Types, isIn, hasType}
+use Rattle.model.specs.Types.{Types, isIn, hasType}
 use Rattle.model.specs.Value.{Value, scalar, instant, array, object, Values, no-items, item, Members, no-members, member, asString, asArray, memberCount}
+use Rattle.model.specs.declared.Ty.{Ty}
+use Rattle.model.specs.declared.Ty.the-variants as Ty
 
 -- For each path listed, its types.
 abbrev pub Sheet : Type 0
@@ -18,16 +20,16 @@ Sheet = List (Path × Types)
 -- The words as they are written.
 abbrev pub words : List (Bytes × Ty)
 words =
-    (ascii "null", Ty.null)
-    ∷ (ascii "boolean", Ty.boolean)
-    ∷ (ascii "integer", Ty.integer)
-    ∷ (ascii "string", Ty.string)
-    ∷ (ascii "date", Ty.date)
-    ∷ (ascii "day", Ty.day)
-    ∷ (ascii "integers", Ty.integers)
-    ∷ (ascii "strings", Ty.strings)
-    ∷ (ascii "array", Ty.array)
-    ∷ (ascii "object", Ty.object)
+    (ascii "null", Ty.Null)
+    ∷ (ascii "boolean", Ty.Boolean)
+    ∷ (ascii "integer", Ty.Integer)
+    ∷ (ascii "string", Ty.String)
+    ∷ (ascii "date", Ty.Date)
+    ∷ (ascii "day", Ty.Day)
+    ∷ (ascii "integers", Ty.Integers)
+    ∷ (ascii "strings", Ty.Strings)
+    ∷ (ascii "array", Ty.Array)
+    ∷ (ascii "object", Ty.Object)
     ∷ []
 
 -- A string that is none of these is no word.

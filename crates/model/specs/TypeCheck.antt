@@ -10,9 +10,11 @@ use Rattle.model.specs.Option.{when, orElse}
 use Rattle.model.specs.Path.{Path, samePath}
 use Rattle.model.specs.Rule.{Literal, Operation, Rule, literal, var, if, and, reduce, apply, Rules, no-rules, rule}
 use Rattle.model.specs.Sheet.{Sheet}
-use Rattle.model.specs.Types.{Ty, Types, passes, scalars, anyOfRecord, anyValue}
+use Rattle.model.specs.Types.{Types, passes, scalars, anyOfRecord, anyValue}
 use Rattle.model.specs.declared.Domain.{Domain}
 use Rattle.model.specs.declared.Domain.the-variants.{OnIntegers, OnInstants}
+use Rattle.model.specs.declared.Ty.{Ty}
+use Rattle.model.specs.declared.Ty.the-variants as Ty
 
 -- ---- variables
 -- Where a rule stands: outside every lambda, under a sheet; or in a lambda, with the types of `current` and `accumulator`.
@@ -27,11 +29,11 @@ partTypes ts (f ∷ q) = anyValue
 
 -- "the empty path is object"; "any other is null"
 abbrev pub lambdaTypes : Types → Types → Path → Types
-lambdaTypes cur acc [] = Ty.object ∷ []
+lambdaTypes cur acc [] = Ty.Object ∷ []
 lambdaTypes cur acc (f ∷ q) =
     cond (sameBytes f current) (partTypes cur q)
     (cond (sameBytes f accumulator) (partTypes acc q)
-    (Ty.null ∷ []))
+    (Ty.Null ∷ []))
 
 -- "`var` outside a lambda: the sheet's words, else null, boolean, integer, string, array, object."
 abbrev pub varTypes : Env → Path → Types
@@ -40,9 +42,9 @@ varTypes (inLambda cur acc) q = lambdaTypes cur acc q
 
 -- "A string literal is day, else date, else string."
 abbrev pub literalTypes : Literal → Types
-literalTypes (Literal.boolean b) = Ty.boolean ∷ []
-literalTypes (Literal.integer z) = Ty.integer ∷ []
-literalTypes (Literal.string s) = cond (isDay s) (Ty.day ∷ []) (cond (isDate s) (Ty.date ∷ []) (Ty.string ∷ []))
+literalTypes (Literal.boolean b) = Ty.Boolean ∷ []
+literalTypes (Literal.integer z) = Ty.Integer ∷ []
+literalTypes (Literal.string s) = cond (isDay s) (Ty.Day ∷ []) (cond (isDate s) (Ty.Date ∷ []) (Ty.String ∷ []))
 
 -- ---- operations that evaluate all their operands: the types that the operands may have
 abbrev pub oneOperand : Types → List Types → Bool
@@ -60,54 +62,54 @@ abbrev pub everyOperand : Types → List Types → Bool
 everyOperand a l = all (λ x. passes x a) l
 
 abbrev pub domainType : Domain → Ty
-domainType OnIntegers = Ty.integer
-domainType OnInstants = Ty.instant
+domainType OnIntegers = Ty.Integer
+domainType OnInstants = Ty.Instant
 
 -- "The other operations allow and give what evaluation does; `plusTime` needs date, `dccDateOfBirth` day. `extractFromUVCI` takes null or string".
 -- "`and` and `!` take no instant."
 abbrev pub allowed : Operation → List Types → Bool
 allowed Operation.array l = true
 allowed Operation.equal l = twoOperands scalars scalars l
-allowed Operation.memberOf l = twoOperands scalars (Ty.array ∷ []) l
-allowed Operation.plus l = twoOperands (Ty.integer ∷ []) (Ty.integer ∷ []) l
+allowed Operation.memberOf l = twoOperands scalars (Ty.Array ∷ []) l
+allowed Operation.plus l = twoOperands (Ty.Integer ∷ []) (Ty.Integer ∷ []) l
 allowed Operation.not l = oneOperand anyOfRecord l
-allowed Operation.dateOfBirth l = oneOperand (Ty.day ∷ []) l
+allowed Operation.dateOfBirth l = oneOperand (Ty.Day ∷ []) l
 allowed (Operation.compare d c) l = everyOperand (domainType d ∷ []) l
-allowed (Operation.plusTime amount unit) l = oneOperand (Ty.date ∷ []) l
-allowed (Operation.extractFromUVCI k) l = oneOperand (Ty.null ∷ Ty.string ∷ []) l
+allowed (Operation.plusTime amount unit) l = oneOperand (Ty.Date ∷ []) l
+allowed (Operation.extractFromUVCI k) l = oneOperand (Ty.Null ∷ Ty.String ∷ []) l
 
 -- "An array is integers if every item's only word is integer (the empty one too), else strings if all item words pass as string, else array."
 abbrev pub arrayTypes : List Types → Types
 arrayTypes l =
-    cond (everyOperand (Ty.integer ∷ []) l) (Ty.integers ∷ [])
-    (cond (everyOperand (Ty.string ∷ []) l) (Ty.strings ∷ [])
-    (Ty.array ∷ []))
+    cond (everyOperand (Ty.Integer ∷ []) l) (Ty.Integers ∷ [])
+    (cond (everyOperand (Ty.String ∷ []) l) (Ty.Strings ∷ [])
+    (Ty.Array ∷ []))
 
 -- "The other operations allow and give what evaluation does"; `extractFromUVCI` "gives null and string".
 abbrev pub given : Operation → List Types → Types
 given Operation.array l = arrayTypes l
-given Operation.equal l = Ty.boolean ∷ []
-given Operation.memberOf l = Ty.boolean ∷ []
-given Operation.plus l = Ty.integer ∷ []
-given Operation.not l = Ty.boolean ∷ []
-given Operation.dateOfBirth l = Ty.instant ∷ []
-given (Operation.compare d c) l = Ty.boolean ∷ []
-given (Operation.plusTime amount unit) l = Ty.instant ∷ []
-given (Operation.extractFromUVCI k) l = Ty.null ∷ Ty.string ∷ []
+given Operation.equal l = Ty.Boolean ∷ []
+given Operation.memberOf l = Ty.Boolean ∷ []
+given Operation.plus l = Ty.Integer ∷ []
+given Operation.not l = Ty.Boolean ∷ []
+given Operation.dateOfBirth l = Ty.Instant ∷ []
+given (Operation.compare d c) l = Ty.Boolean ∷ []
+given (Operation.plusTime amount unit) l = Ty.Instant ∷ []
+given (Operation.extractFromUVCI k) l = Ty.Null ∷ Ty.String ∷ []
 
 -- ---- `reduce`: "items of integers are integer, of strings string, of array those seven". What is no array has no items; `accepts` refuses it.
 abbrev pub itemTypes : Ty → Types
-itemTypes Ty.null = []
-itemTypes Ty.boolean = []
-itemTypes Ty.integer = []
-itemTypes Ty.string = []
-itemTypes Ty.date = []
-itemTypes Ty.day = []
-itemTypes Ty.integers = Ty.integer ∷ []
-itemTypes Ty.strings = Ty.string ∷ []
-itemTypes Ty.array = anyValue
-itemTypes Ty.object = []
-itemTypes Ty.instant = []
+itemTypes Ty.Null = []
+itemTypes Ty.Boolean = []
+itemTypes Ty.Integer = []
+itemTypes Ty.String = []
+itemTypes Ty.Date = []
+itemTypes Ty.Day = []
+itemTypes Ty.Integers = Ty.Integer ∷ []
+itemTypes Ty.Strings = Ty.String ∷ []
+itemTypes Ty.Array = anyValue
+itemTypes Ty.Object = []
+itemTypes Ty.Instant = []
 
 abbrev pub itemsTypes : Types → Types
 itemsTypes [] = []
@@ -150,7 +152,7 @@ unfoldable mutual
   accepts (reduce r lambda initial) e =
       accepts r e
       && (accepts initial e
-      && (passes (typesFor r e) (Ty.array ∷ [])
+      && (passes (typesFor r e) (Ty.Array ∷ [])
       && (accepts lambda (lambdaEnv r initial e)
       && passes (typesFor lambda (lambdaEnv r initial e)) (typesFor initial e))))
   accepts (apply o rs) e = acceptsAll rs e && allowed o (typesForAll rs e)

@@ -13,6 +13,8 @@ pub const HEAP_CELLS: usize = 4096;
 
 pub const MAX_INTEGER: u64 = 9007199254740991;
 
+pub const MAX_SHEET_MEMBERS: usize = 256;
+
 // A unit of `plusTime`.
 pub enum TimeUnit {
     Year,
@@ -33,6 +35,21 @@ pub enum Comparison {
 pub enum Domain {
     OnIntegers,
     OnInstants,
+}
+
+// A type, the paper's "word", in its order. "Instant is a word of the check only."
+pub enum Ty {
+    Null,
+    Boolean,
+    Integer,
+    String,
+    Date,
+    Day,
+    Integers,
+    Strings,
+    Array,
+    Object,
+    Instant,
 }
 
 // A date of the Gregorian calendar: months and days count from 1.

@@ -2,7 +2,7 @@
 use crate::bytes::put_byte;
 use crate::bytes::put_bytes;
 use calendar::instant::Instant;
-use calendar::text::InstantText;
+use instants::text::InstantText;
 ghost use Rattle.model.specs.InstantText.{instantText};
 ghost use Rattle.model.specs.Writing.{stringText};
 ghost use Rattle.print.specs.Contract.{Near, Put};

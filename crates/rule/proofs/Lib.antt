@@ -4,5 +4,3 @@ pub mod Chains
 pub mod Operands
 pub mod Objects
 pub mod Views
-pub mod Paths
-pub mod Rows

@@ -25,15 +25,15 @@ use Rattle.heap.specs.Handles.{rowHandle}
 use Rattle.heap.specs.Means.{Means, means-null, means-false, means-true, means-integer, means-instant, means-string, means-items, means-members, means-list, means-context, row-member}
 use Rattle.heap.specs.Parts.{rowLabel, labelBytes}
 use Rattle.heap.specs.Strings.{part}
-use Rattle.rule.specs.declared.keyword.Keyword.{Keyword}
-use Rattle.rule.specs.declared.keyword.Keyword.the-variants as Keywords
+use Rattle.heap.specs.Unfold.{readAreas}
+use Rattle.keywords.specs.declared.Keyword.{Keyword}
+use Rattle.keywords.specs.declared.Keyword.the-variants as Keywords
+use Rattle.keywords.specs.Keyword.{keywordOf}
 use Rattle.rule.specs.declared.view.Single.{Single}
 use Rattle.rule.specs.declared.view.Single.the-variants.{NotSingle, Member}
 use Rattle.rule.specs.declared.view.View.{View}
 use Rattle.rule.specs.declared.view.View.the-variants as Seen
-use Rattle.rule.specs.Holds.{ruleAreas}
 use Rattle.rule.specs.Inner.{named, singleOf, pathOn, operandsOn, formOn, compoundOn, contentOn, ObjectViews}
-use Rattle.rule.specs.Keyword.{keywordOf}
 use Rattle.rule.specs.View.{Views, views-none, views-var}
 use Rattle.rule.proofs.Chains.{bind-none}
 use Rattle.rule.proofs.Operands.{rule-part, of, keyword-shape, operands-views}
@@ -61,7 +61,7 @@ module _ {T B : Bytes} where
   path-views start size {s} Keywords.ExtractFromUvci name e l = views-none (keyword-shape name (scalar (string s)) e)
   path-views start size {s} (Keywords.Counted least most op) name e l = views-none (keyword-shape name (scalar (string s)) e)
 
-  content-views : {v : Value} {h : Handle} (k : Keyword) (name : Bytes) → keywordOf k ≡ keywordNamed name → Means (ruleAreas T B) 0 v h → Views T B (of name v) (contentOn T B k h)
+  content-views : {v : Value} {h : Handle} (k : Keyword) (name : Bytes) → keywordOf k ≡ keywordNamed name → Means (readAreas T B) 0 v h → Views T B (of name v) (contentOn T B k h)
   unfolding contentOf
   content-views k name e means-null = other-views k name _ e refl
   content-views k name e means-false = other-views k name _ e refl
@@ -114,7 +114,7 @@ one-member T row count {start} {size} {h} = go (eqb count 1) refl
 
 module _ {T B : Bytes} where
   -- No single member.
-  none-single : {p : Parts} (ms : Members) → singleOf T p ≡ NotSingle → p .form ≡ Forms.Members → Means (ruleAreas T B) 0 (object ms) (Compound p) → shape (object ms) ≡ none
+  none-single : {p : Parts} (ms : Members) → singleOf T p ≡ NotSingle → p .form ≡ Forms.Members → Means (readAreas T B) 0 (object ms) (Compound p) → shape (object ms) ≡ none
   unfolding shape
   none-single no-members e f m = refl
   none-single (member n v no-members) e f (means-members {row = row} {count = count} c b r) = let x = single-is T row count c (row-named T row) in clash cc
@@ -124,7 +124,7 @@ module _ {T B : Bytes} where
   not-single s g e f = record { views = λ ms m. views-none (none-single ms (sym g ∙ e) f m) }
 
   single-views : {p : Parts} {start size : ℕ} {h : Handle} {r : View} (ms : Members) (k : Keyword) → singleOf T p ≡ Member start size h → p .form ≡ Forms.Members → keywordOf k ≡ keywordNamed (part B start size) → r ≡ contentOn T B k h
-      → Means (ruleAreas T B) 0 (object ms) (Compound p) → Views T B (object ms) r
+      → Means (readAreas T B) 0 (object ms) (Compound p) → Views T B (object ms) r
   single-views no-members k e f g w (means-members {row = row} {count = count} c b r) = absurd (omega (arith, one-member T row count e))
   single-views {start = start} {size = size} {h = h} (member n v no-members) k e f g w (means-members {row = row} {count = count} c b (row-member l t x m r)) =
       let y = row-named T row in

@@ -3,7 +3,7 @@ use mathlib.Core.Path.{_≡_, refl, sym, ap, ap₂, subst, _∙_}
 use mathlib.Core.Bool.{Bool, true, false, _&&_, cond}
 use mathlib.Core.List.{[]}
 use mathlib.Core.Option.{Option, none, some}
-use Prim.Native.Nat.{ℕ, zero, suc, _+_, _-_, _≤_, _<_}
+use Prim.Native.Nat.{ℕ, zero, suc, _+_, _≤_, _<_}
 use native.Mathlib.Decide.{decLt}
 use native.Mathlib.Omega.{arith}
 use borrow.Author.Tests.{lt-ltb, le-ltb, le-leb, lt-leb, eqb-true, eqb-false}
@@ -28,15 +28,16 @@ use Rattle.heap.specs.Handles.{rowHandle, nextRow}
 use Rattle.heap.specs.Means.{Means, means-null, means-false, means-true, means-integer, means-instant, means-string, means-items, means-members, means-list, means-context, Lies, RowItems, no-row-items, row-item}
 use Rattle.heap.specs.Strings.{part, areaBytes}
 use Rattle.heap.specs.Laws.Means as MeansLaws
-use Rattle.rule.specs.declared.keyword.Keyword.{Keyword}
-use Rattle.rule.specs.declared.keyword.Keyword.the-variants as Keywords
-use Rattle.rule.specs.declared.keyword.Op.{Op}
-use Rattle.rule.specs.declared.keyword.Op.the-variants as Ops
+use Rattle.heap.specs.Unfold.{readAreas}
+use Rattle.keywords.specs.declared.Keyword.{Keyword}
+use Rattle.keywords.specs.declared.Keyword.the-variants as Keywords
+use Rattle.keywords.specs.declared.Op.{Op}
+use Rattle.keywords.specs.declared.Op.the-variants as Ops
+use Rattle.keywords.specs.Keyword.{countedOf, keywordOf, Stands, stands-plus-time, stands-extract}
 use Rattle.rule.specs.declared.view.View.{View}
 use Rattle.rule.specs.declared.view.View.the-variants as Seen
-use Rattle.rule.specs.Holds.{ruleAreas, ruleCount}
+use Rattle.rule.specs.Holds.{ruleCount}
 use Rattle.rule.specs.Inner.{countedOn, andOn, firstOf, unitAt, plusTimeOf, plusTimeBy, plusTimeOn, extractBy, extractOn, operandsOn}
-use Rattle.rule.specs.Keyword.{countedOf, keywordOf, Stands, stands-plus-time, stands-extract}
 use Rattle.rule.specs.View.{Built, built-if, built-and, built-reduce, built-apply, Builds, Operates, Views, views-none, views-operation}
 use Rattle.rule.specs.Laws.Holds.{rules-count}
 use Rattle.rule.proofs.Chains.{bind-none, one-refused, one-built, three-refused, three-built, unit-chain, operands-length, chain3, Two, two, two-of, ThreeItems, three, three-of, exactly2-none, exactly3-none}
@@ -99,7 +100,7 @@ of-nests : (name : Bytes) (vs : Values) → suc (itemsNesting vs) ≤ nesting (o
 unfolding nesting
 of-nests name vs = omega arith
 
-module _ {T B : Bytes} {vs : Values} {q : Parts} (name : Bytes) (m : Means (ruleAreas T B) 0 (array vs) (Compound q)) where
+module _ {T B : Bytes} {vs : Values} {q : Parts} (name : Bytes) (m : Means (readAreas T B) 0 (array vs) (Compound q)) where
   count-is : q .count ≡ itemCount vs
   count-is = MeansLaws.array-count m
 
@@ -118,7 +119,7 @@ module _ {T B : Bytes} {vs : Values} {q : Parts} (name : Bytes) (m : Means (rule
       (λ l k. operates (three-of vs (omega (arith, count-is))) e m nests)
     where
       operates : {ws : Values} → ThreeItems ws → shape (of name (array vs)) ≡ exactly3 (operandsOf ws) (λ a b c. chain3 (a .asRule) (b .asRule) (c .asRule) f)
-          → Means (ruleAreas T B) 0 (array ws) (Compound q) → suc (itemsNesting ws) ≤ nesting (of name (array vs)) → Operates T B (of name (array vs)) op q
+          → Means (readAreas T B) 0 (array ws) (Compound q) → suc (itemsNesting ws) ≤ nesting (of name (array vs)) → Operates T B (of name (array vs)) op q
       operates (three {a = a} {b = b′} {c = c}) e m n = record {
         operands = item a (item b′ (item c no-items));
         means = m;
@@ -212,12 +213,12 @@ shifted o i t = do
 
 -- The first item alone, and the others where they lie.
 record Bare (T B : Bytes) (a b : Value) (vs : Values) (q : Parts) : Type 0 where
-  only : Means (ruleAreas T B) 0 (array (item a no-items)) (Compound (firstOf q))
-  second : Means (ruleAreas T B) 0 b (rowHandle T (nextRow T (q .first)))
-  rest : RowItems (ruleAreas T B) (nextRow T (nextRow T (q .first))) vs
+  only : Means (readAreas T B) 0 (array (item a no-items)) (Compound (firstOf q))
+  second : Means (readAreas T B) 0 b (rowHandle T (nextRow T (q .first)))
+  rest : RowItems (readAreas T B) (nextRow T (nextRow T (q .first))) vs
 
 module _ {T B : Bytes} where
-  integer-of : {v : Value} {h : Handle} → Means (ruleAreas T B) 0 v h → IntegerAt v h
+  integer-of : {v : Value} {h : Handle} → Means (readAreas T B) 0 v h → IntegerAt v h
   integer-of means-null = other-at refl (λ u q. refl) (λ q. refl)
   integer-of means-false = other-at refl (λ u q. refl) (λ q. refl)
   integer-of means-true = other-at refl (λ u q. refl) (λ q. refl)
@@ -229,7 +230,7 @@ module _ {T B : Bytes} where
   integer-of (means-list e b r) = other-at refl (λ u q. refl) (λ q. refl)
   integer-of (means-context b i m n) = other-at refl (λ u q. refl) (λ q. refl)
 
-  unit-of : {v : Value} {h : Handle} → Means (ruleAreas T B) 0 v h → asString v >>= unitNamed ≡ unitAt B h
+  unit-of : {v : Value} {h : Handle} → Means (readAreas T B) 0 v h → asString v >>= unitNamed ≡ unitAt B h
   unit-of means-null = refl
   unit-of means-false = refl
   unit-of means-true = refl
@@ -241,7 +242,7 @@ module _ {T B : Bytes} where
   unit-of (means-list e b r) = refl
   unit-of (means-context b i m n) = refl
 
-  bare : {a b : Value} {vs : Values} {q : Parts} → Means (ruleAreas T B) 0 (array (item a (item b vs))) (Compound q) → Bare T B a b vs q
+  bare : {a b : Value} {vs : Values} {q : Parts} → Means (readAreas T B) 0 (array (item a (item b vs))) (Compound q) → Bare T B a b vs q
   unfolding itemCount maxValues
   bare {a} (means-items {row = row} e f (row-item l t m (row-item l′ t′ m′ r))) = record {
     only = means-items {vs = item a no-items} {row = row} {count = 1} refl (omega arith) (row-item {vs = no-items} l t m (no-row-items {row = nextRow T row} l′));
@@ -250,11 +251,11 @@ module _ {T B : Bytes} where
   }
   bare (means-list e b r) = absurd (omega arith)
 
-  third : {c : Value} {row : ℕ} → RowItems (ruleAreas T B) row (item c no-items) → Means (ruleAreas T B) 0 c (rowHandle T row)
+  third : {c : Value} {row : ℕ} → RowItems (readAreas T B) row (item c no-items) → Means (readAreas T B) 0 c (rowHandle T row)
   third (row-item l t m r) = m
 
   -- An operation on the first item.
-  on-first : {v a : Value} (q : Parts) (op : Op) (o : Operation) → Means (ruleAreas T B) 0 (array (item a no-items)) (Compound (firstOf q)) → suc (itemsNesting (item a no-items)) ≤ nesting v → Stands op o 1
+  on-first : {v a : Value} (q : Parts) (op : Op) (o : Operation) → Means (readAreas T B) 0 (array (item a no-items)) (Compound (firstOf q)) → suc (itemsNesting (item a no-items)) ≤ nesting v → Stands op o 1
       → shape v ≡ (shape a >>= λ r. some (apply o (rule r no-rules))) → Views T B v (Seen.Operation op (firstOf q))
   unfolding operandsOf
   on-first {v} {a} q op o m n s e = views-operation {op = op} {p = firstOf q} record {
@@ -267,20 +268,20 @@ module _ {T B : Bytes} where
         record { whole = apply o (rule (t .only) no-rules); shaped = e ∙ t .chain; built = subst (λ (xs : Rules). Built op xs (apply o (rule (t .only) no-rules))) (sym (t .all)) (built-apply s) };
   }
 
-  extract-by : {v a b : Value} {h : Handle} (q : Parts) → Means (ruleAreas T B) 0 (array (item a no-items)) (Compound (firstOf q)) → suc (itemsNesting (item a no-items)) ≤ nesting v
+  extract-by : {v a b : Value} {h : Handle} (q : Parts) → Means (readAreas T B) 0 (array (item a no-items)) (Compound (firstOf q)) → suc (itemsNesting (item a no-items)) ≤ nesting v
       → IntegerAt b h → shape v ≡ extracted (shape a) (asInteger b) → Views T B v (extractBy h q)
   extract-by {a = a} q m n (integer-at {z = z} {n = k} i g w f) e =
       rw i (on-first q (Ops.ExtractFromUvci k) (Operation.extractFromUVCI z) m n (stands-extract refl w f) (e ∙ ap (extracted (shape a)) g))
   extract-by {a = a} q m n (other-at g x y) e =
       rw (y q) (views-none (e ∙ ap (extracted (shape a)) g ∙ bind-none (shape a)))
 
-  plus-time-of : {v a : Value} (q : Parts) (z : ℤ) {k : ℕ} → Means (ruleAreas T B) 0 (array (item a no-items)) (Compound (firstOf q)) → suc (itemsNesting (item a no-items)) ≤ nesting v
+  plus-time-of : {v a : Value} (q : Parts) (z : ℤ) {k : ℕ} → Means (readAreas T B) 0 (array (item a no-items)) (Compound (firstOf q)) → suc (itemsNesting (item a no-items)) ≤ nesting v
       → IsTrue (withinLimits z) → k ≡ biased z → (o : Option TimeUnit) → shape v ≡ (shape a >>= λ r. o >>= λ u. some (apply (Operation.plusTime z u) (rule r no-rules))) → Views T B v (plusTimeOf k o q)
   plus-time-of {a = a} q z m n w f none e = views-none (e ∙ bind-none (shape a))
   plus-time-of q z {k} m n w f (some u) e = on-first q (Ops.PlusTime k u) (Operation.plusTime z u) m n (stands-plus-time refl w f) e
 
-  plus-time-by : {v a b c : Value} {h g : Handle} (q : Parts) → Means (ruleAreas T B) 0 (array (item a no-items)) (Compound (firstOf q)) → suc (itemsNesting (item a no-items)) ≤ nesting v
-      → IntegerAt b h → Means (ruleAreas T B) 0 c g → shape v ≡ shifted (shape a) (asInteger b) (asString c) → Views T B v (plusTimeBy h (unitAt B g) q)
+  plus-time-by : {v a b c : Value} {h g : Handle} (q : Parts) → Means (readAreas T B) 0 (array (item a no-items)) (Compound (firstOf q)) → suc (itemsNesting (item a no-items)) ≤ nesting v
+      → IntegerAt b h → Means (readAreas T B) 0 c g → shape v ≡ shifted (shape a) (asInteger b) (asString c) → Views T B v (plusTimeBy h (unitAt B g) q)
   plus-time-by {a = a} {c = c} {g = g} q m n (integer-at {z = z} i x w f) y e =
       rw i (plus-time-of q z m n w f (unitAt B g)
       (e ∙ ap (λ (o : Option ℤ). shifted (shape a) o (asString c)) x
@@ -292,7 +293,7 @@ module _ {T B : Bytes} where
 
 -- ---- all of them
 module _ {T B : Bytes} where
-  extract-views : {v : Value} {vs : Values} {q : Parts} → Means (ruleAreas T B) 0 (array vs) (Compound q) → suc (itemsNesting vs) ≤ nesting v
+  extract-views : {v : Value} {vs : Values} {q : Parts} → Means (readAreas T B) 0 (array vs) (Compound q) → suc (itemsNesting vs) ≤ nesting v
       → shape v ≡ exactly2 (operandsOf vs) (λ a b. extracted (a .asRule) (asInteger (b .value))) → Views T B v (extractOn T q)
   unfolding operandsOf itemsNesting
   extract-views {v} {vs} {q} m n e =
@@ -300,12 +301,12 @@ module _ {T B : Bytes} where
       (λ x. e ∙ exactly2-none vs _ (λ y. x (MeansLaws.array-count m ∙ y)))
       (λ x. go (two-of vs (sym (MeansLaws.array-count m) ∙ x)) m n e)
     where
-      go : {ws : Values} → Two ws → Means (ruleAreas T B) 0 (array ws) (Compound q) → suc (itemsNesting ws) ≤ nesting v
+      go : {ws : Values} → Two ws → Means (readAreas T B) 0 (array ws) (Compound q) → suc (itemsNesting ws) ≤ nesting v
           → shape v ≡ exactly2 (operandsOf ws) (λ a b. extracted (a .asRule) (asInteger (b .value)))
           → Views T B v (extractBy (rowHandle T (nextRow T (q .first))) q)
       go (two {a = a} {b = b}) m n e = let t = bare m in extract-by q (t .only) (omega arith) (integer-of (t .second)) e
 
-  plus-time-views : {v : Value} {vs : Values} {q : Parts} → Means (ruleAreas T B) 0 (array vs) (Compound q) → suc (itemsNesting vs) ≤ nesting v
+  plus-time-views : {v : Value} {vs : Values} {q : Parts} → Means (readAreas T B) 0 (array vs) (Compound q) → suc (itemsNesting vs) ≤ nesting v
       → shape v ≡ exactly3 (operandsOf vs) (λ a b c. shifted (a .asRule) (asInteger (b .value)) (asString (c .value)))
       → Views T B v (plusTimeOn T B q)
   unfolding operandsOf itemsNesting
@@ -314,13 +315,13 @@ module _ {T B : Bytes} where
       (λ x. e ∙ exactly3-none vs _ (λ y. x (MeansLaws.array-count m ∙ y)))
       (λ x. go (three-of vs (sym (MeansLaws.array-count m) ∙ x)) m n e)
     where
-      go : {ws : Values} → ThreeItems ws → Means (ruleAreas T B) 0 (array ws) (Compound q) → suc (itemsNesting ws) ≤ nesting v
+      go : {ws : Values} → ThreeItems ws → Means (readAreas T B) 0 (array ws) (Compound q) → suc (itemsNesting ws) ≤ nesting v
           → shape v ≡ exactly3 (operandsOf ws) (λ a b c. shifted (a .asRule) (asInteger (b .value)) (asString (c .value)))
           → Views T B v (plusTimeBy (rowHandle T (nextRow T (q .first))) (unitAt B (rowHandle T (nextRow T (nextRow T (q .first))))) q)
       go (three {a = a} {b = b} {c = c}) m n e = let t = bare m in plus-time-by q (t .only) (omega arith) (integer-of (t .second)) (third (t .rest)) e
 
   -- Any keyword.
-  pub operands-views : {vs : Values} {q : Parts} (k : Keyword) (name : Bytes) → keywordOf k ≡ keywordNamed name → Means (ruleAreas T B) 0 (array vs) (Compound q)
+  pub operands-views : {vs : Values} {q : Parts} (k : Keyword) (name : Bytes) → keywordOf k ≡ keywordNamed name → Means (readAreas T B) 0 (array vs) (Compound q)
       → Views T B (of name (array vs)) (operandsOn T B k q)
   unfolding contentOf
   operands-views {vs} Keywords.NoKeyword name e m = views-none (keyword-shape name (array vs) e)

@@ -23,13 +23,14 @@ use Rattle.heap.specs.Handles.{span}
 use Rattle.heap.specs.Means.{Means, means-null, means-false, means-true, means-integer, means-instant, means-string, means-items, means-members, means-list, means-context}
 use Rattle.heap.specs.Strings.{part}
 use Rattle.heap.specs.Laws.Means as MeansLaws
-use Rattle.rule.specs.declared.keyword.Op.{Op}
-use Rattle.rule.specs.declared.keyword.Op.the-variants as Ops
+use Rattle.heap.specs.Unfold.{readAreas}
+use Rattle.keywords.specs.declared.Op.{Op}
+use Rattle.keywords.specs.declared.Op.the-variants as Ops
+use Rattle.keywords.specs.Keyword.{Stands, stands-array}
 use Rattle.rule.specs.declared.view.View.{View}
 use Rattle.rule.specs.declared.view.View.the-variants as Seen
-use Rattle.rule.specs.Holds.{ruleAreas, HoldsAll}
+use Rattle.rule.specs.Holds.{HoldsAll}
 use Rattle.rule.specs.Inner.{ObjectViews}
-use Rattle.rule.specs.Keyword.{Stands, stands-array}
 use Rattle.rule.specs.View.{Viewed, viewed-literal, viewed-var, viewed-if, viewed-and, viewed-reduce, viewed-apply, Built, built-if, built-and, built-reduce, built-apply, Operates, Views, views-none, views-literal, views-var, views-operation, ViewsAs}
 use Rattle.rule.specs.Laws.Holds.{rules-count}
 use Rattle.rule.proofs.Operands.{rule-part}
@@ -70,11 +71,11 @@ module _ {T B : Bytes} where
   views-viewed deep (views-operation o) n e = operation-viewed o deep n e
 
   -- Whatever is seen of every value is seen of every rule.
-  pub seen : {h : Handle} {r : View} → ((v : Value) → Means (ruleAreas T B) 0 v h → Views T B v r) → ViewsAs T B h r
+  pub seen : {h : Handle} {r : View} → ((v : Value) → Means (readAreas T B) 0 v h → Views T B v r) → ViewsAs T B h r
   seen f = record { views = f; viewed = λ deep ρ x. views-viewed deep (f (x .value) (x .means)) (x .nests) (x .shaped) }
 
   -- ---- arrays and objects
-  array-operates : {vs : Values} {p : Parts} → Means (ruleAreas T B) 0 (array vs) (Compound p) → Views T B (array vs) (Seen.Operation Ops.Array p)
+  array-operates : {vs : Values} {p : Parts} → Means (readAreas T B) 0 (array vs) (Compound p) → Views T B (array vs) (Seen.Operation Ops.Array p)
   unfolding shape nesting
   array-operates {vs} {p} m = views-operation {op = Ops.Array} {p = p} record {
     operands = vs;
@@ -87,7 +88,7 @@ module _ {T B : Bytes} where
   pub items-seen : {p : Parts} → p .form ≡ Forms.Items → ViewsAs T B (Compound p) (Seen.Operation Ops.Array p)
   items-seen {p} e = seen (λ v m. go e m)
     where
-      go : {v : Value} {q : Parts} → q .form ≡ Forms.Items → Means (ruleAreas T B) 0 v (Compound q) → Views T B v (Seen.Operation Ops.Array q)
+      go : {v : Value} {q : Parts} → q .form ≡ Forms.Items → Means (readAreas T B) 0 v (Compound q) → Views T B v (Seen.Operation Ops.Array q)
       go e (means-items x f r) = array-operates (means-items x f r)
       go e (means-members x f r) = clash cc
       go e (means-list x f r) = clash cc
@@ -96,7 +97,7 @@ module _ {T B : Bytes} where
   pub list-seen : {p : Parts} → p .form ≡ Forms.List → ViewsAs T B (Compound p) (Seen.Operation Ops.Array p)
   list-seen {p} e = seen (λ v m. go e m)
     where
-      go : {v : Value} {q : Parts} → q .form ≡ Forms.List → Means (ruleAreas T B) 0 v (Compound q) → Views T B v (Seen.Operation Ops.Array q)
+      go : {v : Value} {q : Parts} → q .form ≡ Forms.List → Means (readAreas T B) 0 v (Compound q) → Views T B v (Seen.Operation Ops.Array q)
       go e (means-items x f r) = clash cc
       go e (means-members x f r) = clash cc
       go e (means-list x f r) = array-operates (means-list x f r)
@@ -105,7 +106,7 @@ module _ {T B : Bytes} where
   pub members-seen : {p : Parts} {r : View} → p .form ≡ Forms.Members → ObjectViews T B p r → ViewsAs T B (Compound p) r
   members-seen {p} {r} e o = seen (λ v m. go e o m)
     where
-      go : {v : Value} {q : Parts} → q .form ≡ Forms.Members → ObjectViews T B q r → Means (ruleAreas T B) 0 v (Compound q) → Views T B v r
+      go : {v : Value} {q : Parts} → q .form ≡ Forms.Members → ObjectViews T B q r → Means (readAreas T B) 0 v (Compound q) → Views T B v r
       go e o (means-items x f r) = clash cc
       go e o (means-members {ms = ms} x f r) = o .views ms (means-members x f r)
       go e o (means-list x f r) = clash cc
@@ -115,7 +116,7 @@ module _ {T B : Bytes} where
   pub context-seen : {p : Parts} {r : View} → p .form ≡ Forms.Context → ViewsAs T B (Compound p) r
   context-seen {p} {r} e = seen (λ v m. go e m)
     where
-      go : {v : Value} {q : Parts} → q .form ≡ Forms.Context → Means (ruleAreas T B) 0 v (Compound q) → Views T B v r
+      go : {v : Value} {q : Parts} → q .form ≡ Forms.Context → Means (readAreas T B) 0 v (Compound q) → Views T B v r
       go e (means-items x f r) = clash cc
       go e (means-members x f r) = clash cc
       go e (means-list x f r) = clash cc
@@ -126,40 +127,40 @@ module _ {T B : Bytes} where
   unfolding shape
   null-seen = seen (λ v m. go m)
     where
-      go : {v : Value} → Means (ruleAreas T B) 0 v Null → Views T B v Seen.NotRule
+      go : {v : Value} → Means (readAreas T B) 0 v Null → Views T B v Seen.NotRule
       go means-null = views-none refl
 
   pub false-seen : ViewsAs T B False (Seen.Literal False)
   unfolding shape
   false-seen = seen (λ v m. go m)
     where
-      go : {v : Value} → Means (ruleAreas T B) 0 v False → Views T B v (Seen.Literal False)
+      go : {v : Value} → Means (readAreas T B) 0 v False → Views T B v (Seen.Literal False)
       go means-false = views-literal {l = Literal.boolean false} refl (record { means = λ S T C top. means-false })
 
   pub true-seen : ViewsAs T B True (Seen.Literal True)
   unfolding shape
   true-seen = seen (λ v m. go m)
     where
-      go : {v : Value} → Means (ruleAreas T B) 0 v True → Views T B v (Seen.Literal True)
+      go : {v : Value} → Means (readAreas T B) 0 v True → Views T B v (Seen.Literal True)
       go means-true = views-literal {l = Literal.boolean true} refl (record { means = λ S T C top. means-true })
 
   pub integer-seen : (n : ℕ) → ViewsAs T B (Integer n) (Seen.Literal (Integer n))
   unfolding shape
   integer-seen n = seen (λ v m. go m)
     where
-      go : {v : Value} {k : ℕ} → Means (ruleAreas T B) 0 v (Integer k) → Views T B v (Seen.Literal (Integer k))
+      go : {v : Value} {k : ℕ} → Means (readAreas T B) 0 v (Integer k) → Views T B v (Seen.Literal (Integer k))
       go (means-integer {z = z} w e) = views-literal {l = Literal.integer z} refl (record { means = λ S T C top. means-integer w e })
 
   pub instant-seen : (n : ℕ) → ViewsAs T B (Instant n) Seen.NotRule
   unfolding shape
   instant-seen n = seen (λ v m. go m)
     where
-      go : {v : Value} {k : ℕ} → Means (ruleAreas T B) 0 v (Instant k) → Views T B v Seen.NotRule
+      go : {v : Value} {k : ℕ} → Means (readAreas T B) 0 v (Instant k) → Views T B v Seen.NotRule
       go (means-instant w e) = views-none refl
 
   pub string-seen : (s : Span) → ViewsAs T B (String s) (Seen.Literal (String (span Of.Rule (s .start) (s .size))))
   unfolding shape
   string-seen s = seen (λ v m. go m)
     where
-      go : {v : Value} {s : Span} → Means (ruleAreas T B) 0 v (String s) → Views T B v (Seen.Literal (String (span Of.Rule (s .start) (s .size))))
+      go : {v : Value} {s : Span} → Means (readAreas T B) 0 v (String s) → Views T B v (Seen.Literal (String (span Of.Rule (s .start) (s .size))))
       go (means-string {s = t} {area = area} l) = views-literal {l = Literal.string t} refl (record { means = λ S T C top. means-string (rule-part area l) })

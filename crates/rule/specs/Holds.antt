@@ -1,5 +1,4 @@
 -- Holds: the relation between a read table and the rule that it holds: a handle of one of its rows, and the rule that the value in it is.
-use mathlib.Core.List.{[]}
 use mathlib.Core.Option.{some}
 use mathlib.Core.Path.{_≡_}
 use Prim.Native.Nat.{ℕ, suc, _≤_}
@@ -12,23 +11,19 @@ use Rattle.heap.specs.declared.handle.Handle.{Handle}
 use Rattle.heap.specs.declared.handle.Handle.the-variants.{Compound}
 use Rattle.heap.specs.declared.handle.Parts.{Parts}
 use Rattle.heap.specs.Means.{Means}
-use Rattle.heap.specs.Unfold.{Areas, areas}
-
--- A rule's own table T and strings B, as the handles of its rows see them: there are no cells.
-abbrev pub ruleAreas : Bytes → Bytes → Areas
-ruleAreas T B = areas [] B T []
+use Rattle.heap.specs.Unfold.{readAreas}
 
 -- The rule r, nested no deeper than `deep`.
 pub record Holds (T B : Bytes) (deep : ℕ) (h : Handle) (r : Rule) : Type 0 where
   pub value : Value
-  pub means : Means (ruleAreas T B) 0 value h
+  pub means : Means (readAreas T B) 0 value h
   pub shaped : shape value ≡ some r
   pub nests : nesting value ≤ deep
 
 -- The rules of operands in an array, one after the other.
 pub record HoldsAll (T B : Bytes) (deep : ℕ) (p : Parts) (rs : Rules) : Type 0 where
   pub values : Values
-  pub means : Means (ruleAreas T B) 0 (array values) (Compound p)
+  pub means : Means (readAreas T B) 0 (array values) (Compound p)
   pub shaped : rulesOf (operandsOf values) ≡ some rs
   pub nests : itemsNesting values ≤ deep
 

@@ -1,15 +1,11 @@
 -- Inner: what the private functions of the view give, on the rule's table T and strings B.
-use mathlib.Core.Bool.{Bool, true, false, _&&_, not, cond}
-use mathlib.Core.List.{[], _∷_}
+use mathlib.Core.Bool.{cond}
 use mathlib.Core.Option.{Option, none, some}
-use mathlib.Core.Path.{_≡_}
-use Prim.Native.Nat.{ℕ, _≤_}
+use Prim.Native.Nat.{ℕ}
 use lib.Dec.{eqb, ltb}
-use Rattle.model.specs.Bytes.{Bytes, byte}
-use Rattle.model.specs.Option.{isSome}
-use Rattle.model.specs.Shape.{unitNamed, shape, rulesOf, operandsOf}
-use Rattle.model.specs.Size.{nesting, itemsNesting}
-use Rattle.model.specs.Value.{Value, array, object, Values, Members as ValueMembers}
+use Rattle.model.specs.Bytes.{Bytes}
+use Rattle.model.specs.Shape.{unitNamed}
+use Rattle.model.specs.Value.{object, Members as ValueMembers}
 use Rattle.model.specs.declared.TimeUnit.{TimeUnit}
 use Rattle.heap.specs.declared.handle.Form.{Form}
 use Rattle.heap.specs.declared.handle.Form.the-variants as Forms
@@ -22,15 +18,15 @@ use Rattle.heap.specs.Handles.{parts, rowHandle, nextRow}
 use Rattle.heap.specs.Means.{Means}
 use Rattle.heap.specs.Parts.{labelOf}
 use Rattle.heap.specs.Strings.{part}
-use Rattle.rule.specs.declared.keyword.Keyword.{Keyword}
-use Rattle.rule.specs.declared.keyword.Keyword.the-variants as Keywords
-use Rattle.rule.specs.declared.keyword.Op.{Op}
-use Rattle.rule.specs.declared.keyword.Op.the-variants as Ops
+use Rattle.heap.specs.Unfold.{readAreas}
+use Rattle.keywords.specs.declared.Keyword.{Keyword}
+use Rattle.keywords.specs.declared.Keyword.the-variants as Keywords
+use Rattle.keywords.specs.declared.Op.{Op}
+use Rattle.keywords.specs.declared.Op.the-variants as Ops
 use Rattle.rule.specs.declared.view.Single.{Single}
 use Rattle.rule.specs.declared.view.Single.the-variants.{NotSingle, Member}
 use Rattle.rule.specs.declared.view.View.{View}
 use Rattle.rule.specs.declared.view.View.the-variants.{NotRule, Var, Operation}
-use Rattle.rule.specs.Holds.{ruleAreas}
 use Rattle.rule.specs.View.{Views}
 
 -- ---- the single member
@@ -133,17 +129,4 @@ contentOn T B k (Compound q) = compoundOn T B k q
 
 -- What an object is seen as.
 pub record ObjectViews (T B : Bytes) (p : Parts) (r : View) : Type 0 where
-  pub views : (ms : ValueMembers) → Means (ruleAreas T B) 0 (object ms) (Compound p) → Views T B (object ms) r
-
--- ---- the shape check
--- Every fragment between the dots has a byte; the first has one before these bytes, unless it is empty so far.
-abbrev pub fragments : Bool → Bytes → Bool
-fragments empty [] = not empty
-fragments empty (x ∷ s) = cond (eqb (byte ".") x) (not empty && fragments true s) (fragments false s)
-
--- The value of the handle h nests no deeper than `deep`.
-pub record RuleAt (T B : Bytes) (h : Handle) (deep : ℕ) (r : Bool) : Type 0 where
-  pub is : (v : Value) → Means (ruleAreas T B) 0 v h → nesting v ≤ deep → r ≡ isSome (shape v)
-
-pub record AllRules (T B : Bytes) (p : Parts) (deep : ℕ) (r : Bool) : Type 0 where
-  pub is : (vs : Values) → Means (ruleAreas T B) 0 (array vs) (Compound p) → itemsNesting vs ≤ deep → r ≡ isSome (rulesOf (operandsOf vs))
+  pub views : (ms : ValueMembers) → Means (readAreas T B) 0 (object ms) (Compound p) → Views T B (object ms) r

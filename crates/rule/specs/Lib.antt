@@ -1,7 +1,5 @@
 -- The rule that a read table holds: the definitions, in the order to read them; then the laws.
-pub mod Keyword
 pub mod Holds
 pub mod View
-pub mod Check
 pub mod Inner
 pub mod Laws

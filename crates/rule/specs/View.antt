@@ -14,13 +14,13 @@ use Rattle.heap.specs.declared.handle.Handle.the-variants.{Compound}
 use Rattle.heap.specs.declared.handle.Parts.{Parts}
 use Rattle.heap.specs.Means.{Means}
 use Rattle.heap.specs.Strings.{part}
-use Rattle.heap.specs.Unfold.{areas}
-use Rattle.rule.specs.declared.keyword.Op.{Op}
-use Rattle.rule.specs.declared.keyword.Op.the-variants as Ops
+use Rattle.heap.specs.Unfold.{areas, readAreas}
+use Rattle.keywords.specs.declared.Op.{Op}
+use Rattle.keywords.specs.declared.Op.the-variants as Ops
+use Rattle.keywords.specs.Keyword.{Stands}
 use Rattle.rule.specs.declared.view.View.{View}
 use Rattle.rule.specs.declared.view.View.the-variants as Seen
-use Rattle.rule.specs.Holds.{ruleAreas, Holds, HoldsAll, ruleCount}
-use Rattle.rule.specs.Keyword.{Stands}
+use Rattle.rule.specs.Holds.{Holds, HoldsAll, ruleCount}
 
 -- In evaluation the handle g means the literal's value: a string lies in the rule's strings B, whatever the other areas hold.
 pub record LiteralMeans (B : Bytes) (l : Literal) (g : Handle) : Type 0 where
@@ -72,7 +72,7 @@ pub record Builds (v : Value) (op : Op) (rs : Rules) : Type 0 where
 -- The value is a rule exactly when its operands, less deep, all are.
 pub record Operates (T B : Bytes) (v : Value) (op : Op) (p : Parts) : Type 0 where
   pub operands : Values
-  pub means : Means (ruleAreas T B) 0 (array operands) (Compound p)
+  pub means : Means (readAreas T B) 0 (array operands) (Compound p)
   pub nests : suc (itemsNesting operands) ≤ nesting v
   pub refused : rulesOf (operandsOf operands) ≡ none → shape v ≡ none
   pub builds : (rs : Rules) → rulesOf (operandsOf operands) ≡ some rs → Builds v op rs
@@ -86,5 +86,5 @@ pub data Views (T B : Bytes) (v : Value) : View → Type 0 where
 
 -- What `view` promises of the handle h: of every value that it may mean, and of every rule that it holds.
 pub record ViewsAs (T B : Bytes) (h : Handle) (r : View) : Type 0 where
-  pub views : (v : Value) → Means (ruleAreas T B) 0 v h → Views T B v r
+  pub views : (v : Value) → Means (readAreas T B) 0 v h → Views T B v r
   pub viewed : (deep : ℕ) (ρ : Rule) → Holds T B deep h ρ → Viewed T B deep r ρ

@@ -1,4 +1,2 @@
-// The rule that a read table holds: the shape check, and what stands at a row of it.
-pub mod check;
-pub mod keyword;
+// The rule that a read table holds: what stands at a row of it.
 pub mod view;

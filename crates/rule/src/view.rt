@@ -1,9 +1,4 @@
 // What stands at a row of a rule's table: a rule's own kind, and where its operands lie.
-use crate::keyword::Keyword;
-use crate::keyword::Op;
-use crate::keyword::UnitAnswer;
-use crate::keyword::keyword_named;
-use crate::keyword::unit_named;
 use heap::handle::Area;
 use heap::handle::Form;
 use heap::handle::Handle;
@@ -14,9 +9,14 @@ use heap::handle::string;
 use heap::part::Label;
 use heap::part::name_of;
 use heap::string::part_of;
+use keywords::Keyword;
+use keywords::Op;
+use keywords::UnitAnswer;
+use keywords::keyword_named;
+use keywords::unit_named;
 ghost use mathlib.Core.Path.{_≡_};
+ghost use Rattle.keywords.specs.Keyword.{unitOf};
 ghost use Rattle.rule.specs.Inner.{named, singleOf, countedOn, andOn, firstOf, unitAt, plusTimeOf, plusTimeOn, extractOn, pathOn, operandsOn, compoundOn, contentOn, ObjectViews};
-ghost use Rattle.rule.specs.Keyword.{unitOf};
 ghost use Rattle.rule.specs.View.{ViewsAs};
 
 // A literal's handle, where a path's text lies, or an operation and its operands.

@@ -9,7 +9,7 @@ use lib.Dec.{leb}
 use lib.ListN.{length, take, replicate, length-replicate}
 use Rattle.model.specs.Bytes.{Bytes}
 use Rattle.model.specs.Limits.{maxTextBytes}
-use Rattle.jehvrukam.specs.Contract.{numbersOf, evaluated}
+use Rattle.jehvrukam.specs.Contract.{entry, numbersOf}
 use Rattle.jehvrukam.specs.Evaluate.{Areas, Evaluated}
 use Rattle.vectors.specs.declared.Header.{Header}
 use Rattle.vectors.specs.declared.Outcome.{Outcome}
@@ -30,16 +30,16 @@ whole n h l = go (leb (h .answer) (n - h .end - h .rule - h .«record»)) refl
 -- ---- what the entry gives
 pub entry-gives :
     {e : Evaluated} {k which place steps size : ℕ} {a : Areas}
-    → evaluated k (numbersOf which place steps size) a ≡ e
-    → Gives e (record { refusal = k; which = which; place = place; steps = steps; size = size }) (a .output)
+    → entry k (numbersOf which place steps size) a ≡ e
+    → Gives e (record { refusal = k; which = which; place = place; steps = steps; size = size }) (a .work .output)
 entry-gives e =
-    record { refusal = ap (λ (x : Evaluated). x .refusal) e; numbers = ap (λ (x : Evaluated). x .numbers) e; output = ap (λ (x : Evaluated). x .areas .output) e }
+    record { refusal = ap (λ (x : Evaluated). x .refusal) e; numbers = ap (λ (x : Evaluated). x .numbers) e; output = ap (λ (x : Evaluated). x .areas .work .output) e }
 
 module _ (h : Header) (answer : Bytes) {e : Evaluated} {o : Outcome} {O : Bytes} (g : Gives e o O) where
   expected-same : isExpected h (o .refusal) (o .which) (o .place) (o .steps) ≡ isExpected h (e .refusal) (e .numbers .which) (e .numbers .place) (e .numbers .steps)
   expected-same = rw (g .refusal, ← g .numbers)
 
-  text-same : isText O (o .size) answer ≡ isText (e .areas .output) (e .numbers .size) answer
+  text-same : isText O (o .size) answer ≡ isText (e .areas .work .output) (e .numbers .size) answer
   text-same = rw (← g .output, ← g .numbers)
 
   pub unexpected : isExpected h (o .refusal) (o .which) (o .place) (o .steps) ≡ false → false ≡ agreesWith h e answer

@@ -9,7 +9,8 @@ use Rattle.model.specs.Bytes.{Bytes, byte, isDigit, digitValue, sameBytes}
 use Rattle.model.specs.Limits.{maxTextBytes}
 use Rattle.syntax.specs.Layout.{tableBytes, stringsBytes}
 use Rattle.jehvrukam.specs.Contract.{areasOf, numbersOf}
-use Rattle.jehvrukam.specs.Evaluate.{Areas, Numbers, Evaluated, cellsBytes, evaluateEntry}
+use Rattle.jehvrukam.specs.Entry.{cellsBytes}
+use Rattle.jehvrukam.specs.Evaluate.{Areas, Numbers, Evaluated, evaluateEntry}
 use Rattle.vectors.specs.declared.Number.{Number}
 use Rattle.vectors.specs.declared.Header.{Header}
 use Rattle.vectors.specs.declared.Case.{Case}
@@ -81,7 +82,7 @@ isText output size text = eqb size (length text) && (leb (length text) (length o
 
 abbrev pub agreesWith : Header → Evaluated → Bytes → Bool
 agreesWith h e answer =
-    isExpected h (e .refusal) (e .numbers .which) (e .numbers .place) (e .numbers .steps) && isText (e .areas .output) (e .numbers .size) answer
+    isExpected h (e .refusal) (e .numbers .which) (e .numbers .place) (e .numbers .steps) && isText (e .areas .work .output) (e .numbers .size) answer
 
 unfoldable pub agreesIn : Header → Bytes → Bytes → Bytes → Bytes → Bool
 agreesIn h rule record′ answer output = agreesWith h (evaluateEntry rule record′ (h .limit) (lent output) untold) answer

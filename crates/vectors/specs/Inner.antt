@@ -26,7 +26,7 @@ pub record Ran (s : Bytes) (at : ℕ) (r : Case) : Type 0 where
 pub record Gives (e : Evaluated) (o : Outcome) (O : Bytes) : Type 0 where
   pub refusal : o .refusal ≡ e .refusal
   pub numbers : numbersOf (o .which) (o .place) (o .steps) (o .size) ≡ e .numbers
-  pub output : O ≡ e .areas .output
+  pub output : O ≡ e .areas .work .output
 
 -- One case more can be counted.
 pub record Few (t : Tally) : Type 0 where

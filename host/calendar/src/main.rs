@@ -10,15 +10,11 @@
 mod dates;
 mod generate;
 mod library;
-#[path = "../../differential/src/random.rs"]
-mod random;
-#[path = "../../differential/src/report.rs"]
-mod report;
 
 use dates::{Refusal, Unit, EARLIEST, LATEST};
+use harness::random::{self, Random};
+use harness::report::{report, Group};
 use library::Library;
-use random::Random;
-use report::{report, Group};
 use std::collections::BTreeMap;
 use std::process::exit;
 use std::time::Instant;

@@ -1,7 +1,7 @@
 //! The C library against the independent reader: the same refusal, place and bytes of both areas, on the cases and
 //! texts of `vectors/`, on all small texts of some forms, and on random texts, whole and damaged.
 //!
-//!     differential [--seed N] [--count N]   so many random texts, made from this seed
+//!     differential [--seed N] [--cases N]   so many random texts, made from this seed
 //!     differential --one N                  the random text of this number alone, as a difference names it
 //!     differential --say                    also prints the number of each random text before the call
 //!
@@ -12,22 +12,20 @@
 mod compare;
 mod damage;
 mod generate;
-mod random;
-mod report;
 mod small;
 
-use compare::{Comparer, Lent};
-use random::Random;
+use compare::{answer, compare, STATED};
+use harness::arguments::Arguments;
+use harness::lend::{Comparer, Lent};
+use harness::random::{self, Random};
+use harness::report::{report, Group};
+use harness::trial::{escaped, numbers, shortened};
 use reader::{cases, judge, Fault, Form, Why};
-use report::{report, Group};
 use std::collections::{BTreeMap, HashSet};
-use std::process::exit;
-use std::time::Instant;
 
 const COUNT: usize = 200_000; // random texts
 const LEAST: usize = 1_400; // of each class, among so many random texts
 const SHOWN: usize = 5; // differences that are printed
-const LONGEST_SHOWN: usize = 2_000; // bytes of a text that are printed
 
 /// Features of texts that read, each to be met often.
 type Feature = (&'static str, fn(&[u8], &Form) -> bool);
@@ -93,17 +91,18 @@ impl Run {
         origin: &dyn Fn() -> String,
     ) -> Result<Form, Fault> {
         let judged = judge(text);
-        let difference = comparer.compare(text, &judged, lent);
+        let difference = compare(comparer, text, &judged, lent);
         let group = self.groups.last_mut().unwrap();
         group.inputs += 1;
         if let Some(said) = difference {
             group.differences += 1;
             self.differences += 1;
             if self.differences <= SHOWN {
-                let short = shorten(comparer, text, lent);
-                let said_of_short = comparer.compare(&short, &judge(&short), lent).unwrap_or_default();
+                let said_of = |comparer: &mut Comparer, text: &[u8]| compare(comparer, text, &judge(text), lent);
+                let short = &shortened(vec![text.to_vec()], |texts| said_of(comparer, &texts[0]).is_some())[0];
+                let said_of_short = said_of(comparer, short).unwrap_or_default();
                 println!("DIFFERENCE in {}: {}\n  text     {}", origin(), said, escaped(text));
-                println!("  shorter  {}\n  there    {}\n  areas    {:?}", escaped(&short), said_of_short, lent);
+                println!("  shorter  {}\n  there    {}\n  areas    {:?}", escaped(short), said_of_short, lent);
             }
         }
         judged
@@ -118,12 +117,11 @@ impl Run {
     }
 
     fn count(&mut self, text: &[u8], lent: &Lent, judged: &Result<Form, Fault>) {
-        if lent.is_short() {
-            return self.met(match (lent.table < reader::TABLE_BYTES, lent.strings < reader::STRINGS_BYTES) {
-                (true, true) => "1 both areas short",
-                (true, false) => "1 table short",
-                _ => "1 strings short",
-            });
+        match lent.short(&STATED).collect::<Vec<_>>()[..] {
+            [] => {}
+            [0] => return self.met("1 table short"),
+            [1] => return self.met("1 strings short"),
+            _ => return self.met("1 both areas short"),
         }
         match judged {
             Err(fault) => self.met(&class(fault.why)),
@@ -134,12 +132,12 @@ impl Run {
                         self.met(&format!("0 read, with {}", name));
                     }
                 }
-                if lent.table > reader::TABLE_BYTES || lent.strings > reader::STRINGS_BYTES {
+                if lent.is_longer(&STATED) {
                     self.met("0 read, with areas larger than stated");
                 }
             }
         }
-        if judged.is_err() && (lent.table > reader::TABLE_BYTES || lent.strings > reader::STRINGS_BYTES) {
+        if judged.is_err() && lent.is_longer(&STATED) {
             self.met("2 to 5, with areas larger than stated");
         }
     }
@@ -163,33 +161,6 @@ fn classes() -> Vec<String> {
     all
 }
 
-/// A text in which pieces were left out as long as it still differs.
-fn shorten(comparer: &mut Comparer, text: &[u8], lent: &Lent) -> Vec<u8> {
-    let mut text = text.to_vec();
-    let mut piece = text.len();
-    while piece > 0 {
-        let mut at = 0;
-        while at + piece <= text.len() {
-            let mut fewer = text.clone();
-            fewer.drain(at..at + piece);
-            if comparer.compare(&fewer, &judge(&fewer), lent).is_some() {
-                text = fewer;
-            } else {
-                at += piece;
-            }
-        }
-        piece /= 2;
-    }
-    text
-}
-
-/// A text in printable ASCII.
-fn escaped(text: &[u8]) -> String {
-    let shown: String =
-        text.iter().take(LONGEST_SHOWN).flat_map(|&byte| std::ascii::escape_default(byte)).map(char::from).collect();
-    format!("b\"{}\"{} ({} bytes)", shown, if text.len() > LONGEST_SHOWN { ".." } else { "" }, text.len())
-}
-
 /// The random text of a number, with its areas.
 fn random_text(number: u64) -> (Vec<u8>, Lent) {
     let mut random = Random::new(number);
@@ -197,7 +168,7 @@ fn random_text(number: u64) -> (Vec<u8>, Lent) {
     if random.chance(45) {
         damage::damage(&mut random, &mut text);
     }
-    (text, Lent::new(&mut random))
+    (text, Lent::new(&mut random, &STATED, &[]))
 }
 
 /// What vectors/ holds: cases of `read` with what they expect, then every text.
@@ -206,11 +177,11 @@ fn try_vectors(run: &mut Run, comparer: &mut Comparer) {
     let all = cases::all();
     run.begin("cases of reading in vectors/");
     for case in all.iter().filter(|case| case.entry == "read") {
-        let lent = Lent::sized(&mut random, case.table, case.strings);
+        let lent = Lent::sized(&mut random, vec![case.table, case.strings]);
         let _ = run.try_text(comparer, &case.texts[0].1, &lent, &|| case.id.clone());
         let group = run.groups.last_mut().unwrap();
         if group.differences == 0 {
-            if let Err(fault) = case.check(&comparer.answer()) {
+            if let Err(fault) = case.check(&answer(comparer)) {
                 println!("DIFFERENCE in {}: {}", case.id, fault);
                 group.differences += 1;
             }
@@ -220,7 +191,7 @@ fn try_vectors(run: &mut Run, comparer: &mut Comparer) {
     let mut seen = HashSet::new();
     for case in &all {
         for (name, text) in case.texts.iter().filter(|(_, text)| seen.insert(text.clone())) {
-            let lent = Lent::new(&mut random);
+            let lent = Lent::new(&mut random, &STATED, &[]);
             let _ = run.try_text(comparer, text, &lent, &|| format!("{}, {}", case.id, name));
         }
     }
@@ -231,7 +202,7 @@ fn try_small(run: &mut Run, comparer: &mut Comparer) {
     for (name, make) in small::FORMS {
         run.begin(name);
         make(&mut |text| {
-            let lent = Lent::new(&mut random);
+            let lent = Lent::new(&mut random, &STATED, &[]);
             let _ = run.try_text(comparer, text, &lent, &|| name.to_string());
         });
     }
@@ -249,51 +220,22 @@ fn try_random(run: &mut Run, comparer: &mut Comparer, numbers: impl Iterator<Ite
     }
 }
 
-/// A whole number, decimal or hexadecimal.
-fn whole(word: Option<String>) -> u64 {
-    let word = word.unwrap_or_default();
-    let parsed = match word.strip_prefix("0x") {
-        Some(digits) => u64::from_str_radix(digits, 16),
-        None => word.parse(),
-    };
-    parsed.unwrap_or_else(|_| {
-        eprintln!("not a number: '{}'", word);
-        exit(2)
-    })
-}
-
 fn main() {
-    let (mut seed, mut count, mut one, mut say) = (20_261_115, COUNT, None, false);
-    let mut words = std::env::args().skip(1);
-    while let Some(word) = words.next() {
-        match word.as_str() {
-            "--seed" => seed = whole(words.next()),
-            "--count" => count = whole(words.next()) as usize,
-            "--one" => one = Some(whole(words.next())),
-            "--say" => say = true,
-            _ => {
-                eprintln!("usage: differential [--seed N] [--count N] [--one N] [--say]");
-                exit(2);
-            }
-        }
-    }
-    let began = Instant::now();
+    let given = Arguments::of("differential", 20_261_115, COUNT);
+    assert!(!given.self_test, "there is no self-test");
     let mut run = Run::default();
     let mut comparer = Comparer::new();
-    let least = if let Some(number) = one {
+    let least = if let Some(number) = given.one {
         println!("{}", escaped(&random_text(number).0));
-        try_random(&mut run, &mut comparer, std::iter::once(number), say);
+        try_random(&mut run, &mut comparer, std::iter::once(number), given.say);
         None
     } else {
         try_vectors(&mut run, &mut comparer);
         try_small(&mut run, &mut comparer);
-        let mut numbers = Random::new(seed);
-        try_random(&mut run, &mut comparer, (0..count).map(|_| numbers.next()), say);
-        Some(LEAST).filter(|_| count >= COUNT)
+        try_random(&mut run, &mut comparer, numbers(given.seed, given.cases), given.say);
+        Some(LEAST).filter(|_| given.cases >= COUNT)
     };
-    let (passed, failed) = report(&run.groups, &run.classes, &classes(), least);
-    let texts: usize = run.groups.iter().map(|group| group.inputs).sum();
-    println!("{} texts, seed {}, {:.1} s", texts, seed, began.elapsed().as_secs_f64());
-    println!("{} passed, {} failed", passed, failed);
-    exit(i32::from(failed > 0));
+    let tally = report(&run.groups, &run.classes, &classes(), least);
+    println!("{} texts", run.groups.iter().map(|group| group.inputs).sum::<usize>());
+    given.finish(tally)
 }

@@ -1,6 +1,6 @@
 //! Random cases, in classes: two texts, a limit, lent areas, and what is to come of them.
 
-use crate::compare::Lent;
+use crate::compare::Call;
 use crate::damage::damage;
 use crate::generate;
 use crate::limits::{self, Pair};
@@ -11,26 +11,16 @@ use crate::rules::{lambda_scope, operation, var, Maker, DATE_WORDS};
 use crate::spell::spell;
 use crate::values::{self, integer, member, string, Kind, KINDS};
 use evaluator::cases;
-use evaluator::entry::{is_wrong_size, Evaluation, Judgement, MAX_LIMIT, WRONG_SIZE};
+use evaluator::entry::{Evaluation, EVALUATE};
+use harness::classes;
+use harness::classes::class_at;
 use writer::value::{Value, MAX_TEXT_BYTES};
 
-/// A class of cases, and how its texts are made: a rule's and a record's.
-pub struct Class {
-    pub name: &'static str,
-    /// Of each hundred cases.
-    pub share: usize,
-    make: fn(&mut Random) -> Texts,
-}
-
-type Texts = (Vec<u8>, Vec<u8>);
-
-macro_rules! classes {
-    ($($name:literal, $share:literal, $make:expr;)*) => {
-        pub const CLASSES: &[Class] = &[$(Class { name: $name, share: $share, make: $make }),*];
-    };
-}
+/// Of a rule and a record.
+pub type Texts = (Vec<u8>, Vec<u8>);
 
 classes! {
+    Texts;
     "ordinary rules", 18, |random| spelled(random, ordinary);
     "one operation on few values", 12, |random| spelled(random, one_operation);
     "dates", 10, |random| spelled(random, dates);
@@ -55,91 +45,20 @@ classes! {
 pub struct Case {
     /// Its number among `CLASSES`; that number is past the last for a case of `vectors/`.
     pub class: usize,
-    pub rule: Vec<u8>,
-    pub record: Vec<u8>,
-    pub limit: u64,
-    pub lent: Lent,
-    pub evaluation: Evaluation,
-    pub judgement: Judgement,
-}
-
-impl Case {
-    pub fn new(class: usize, texts: Texts, limit: u64, lent: Lent) -> Case {
-        let evaluation = Evaluation::of(&texts.0, &texts.1);
-        Case::judged(class, texts, evaluation, limit, lent)
-    }
-
-    fn judged(class: usize, (rule, record): Texts, evaluation: Evaluation, limit: u64, lent: Lent) -> Case {
-        let judgement = match is_wrong_size(lent.work, limit) {
-            true => Judgement { refusal: WRONG_SIZE, ..Judgement::default() },
-            false => evaluation.judge(limit, lent.room),
-        };
-        Case { class, rule, record, limit, lent, evaluation, judgement }
-    }
-
-    /// The same with other texts.
-    pub fn with(&self, rule: &[u8], record: &[u8]) -> Case {
-        Case::new(self.class, (rule.to_vec(), record.to_vec()), self.limit, self.lent.clone())
-    }
+    pub call: Call,
 }
 
 /// The case of a number.
 pub fn case(number: u64) -> Case {
     let mut random = Random::new(number);
-    let class = class_at(random.below(100));
-    let texts = (CLASSES[class].make)(&mut random);
-    let evaluation = Evaluation::of(&texts.0, &texts.1);
-    let limit = limit(&mut random, &evaluation);
-    let length = evaluation.judge(limit.min(MAX_LIMIT), usize::MAX).text.len();
-    let room = room(&mut random, length);
-    let lent = Lent::new(&mut random, room);
-    Case::judged(class, texts, evaluation, limit, lent)
-}
-
-fn class_at(of_hundred: usize) -> usize {
-    let mut sum = 0;
-    let ends = CLASSES.iter().map(|class| {
-        sum += class.share;
-        sum
-    });
-    ends.take_while(|&end| end <= of_hundred).count()
-}
-
-/// A limit: the largest, about the steps that the run needs, or above the largest.
-fn limit(random: &mut Random, evaluation: &Evaluation) -> u64 {
-    let needed = match evaluation {
-        Evaluation::Run { run, .. } => run.steps.len() as u64,
-        _ => random.below(20) as u64,
-    };
-    match random.below(40) {
-        0 => random.pick(&[1_001, 1_002, 1 << 16, 1 << 32, (1 << 32) + 20, 1 << 63, u64::MAX]),
-        1 => 0,
-        2..=3 => random.below(needed as usize + 1) as u64,
-        4..=8 => needed.saturating_sub(1),
-        9..=14 => needed.min(MAX_LIMIT),
-        15..=18 => (needed + 1).min(MAX_LIMIT),
-        19..=20 => MAX_LIMIT - 1,
-        _ => MAX_LIMIT,
-    }
-}
-
-/// The room of an output: none, just too short, just enough, one more, as the program has, or more.
-fn room(random: &mut Random, length: usize) -> usize {
-    match random.below(16) {
-        0 => 0,
-        1 => random.below(length + 1),
-        2 => length.saturating_sub(1),
-        3..=5 => length,
-        6 => length + 1,
-        7 => length + random.below(40),
-        8 => random.pick(&[MAX_TEXT_BYTES - 1, MAX_TEXT_BYTES + 1, MAX_TEXT_BYTES + 3_000]),
-        9..=11 => 100.max(length),
-        _ => MAX_TEXT_BYTES,
-    }
+    let class = class_at(CLASSES, random.below(100));
+    let (rule, record) = (CLASSES[class].make)(&mut random);
+    let evaluation = Evaluation::of(&EVALUATE, &[&rule, &record]);
+    Case { class, call: Call::random(&mut random, &EVALUATE, vec![rule, record], evaluation) }
 }
 
 /// The texts of a rule and a record; rarely one is filled up with white space, to about the largest length.
-fn spelled(random: &mut Random, make: fn(&mut Random) -> Pair) -> Texts {
+pub fn spelled(random: &mut Random, make: fn(&mut Random) -> Pair) -> Texts {
     let (rule, record) = make(random);
     let (mut rule, mut record) = (spell(random, &rule), spell(random, &record));
     if random.chance(1) {
@@ -281,7 +200,7 @@ fn damaged(random: &mut Random) -> Texts {
 }
 
 /// Puts a fault of 3 or 4 where it is likely one.
-fn put_fault(random: &mut Random, text: &mut Vec<u8>) {
+pub fn put_fault(random: &mut Random, text: &mut Vec<u8>) {
     let (before, fault): (&[u8], &[u8]) = random.pick(&[
         (b"\"", b"\\ud800"),
         (b"\"", b"\\udc00x"),
@@ -311,10 +230,10 @@ fn any_texts(random: &mut Random) -> Texts {
 /// A rule of one case of `vectors/`, and the record of another.
 fn crossed(random: &mut Random) -> Texts {
     thread_local! {
-        static ALL: Vec<cases::Case> = cases::all();
+        static ALL: Vec<cases::Case> = cases::of_entry(&EVALUATE);
     }
     ALL.with(|all| {
         let (one, other) = (random.below(all.len()), random.below(all.len()));
-        (all[one].rule.clone(), all[other].record.clone())
+        (all[one].texts[0].clone(), all[other].texts[1].clone())
     })
 }

@@ -21,12 +21,11 @@ pub mod generate;
 pub mod limits;
 pub mod misshape;
 pub mod operations;
-#[path = "../../differential/src/report.rs"]
-pub mod report;
 pub mod rules;
 pub mod run;
 pub mod spell;
 pub mod values;
 pub mod wrong;
 
-pub use writer::{dates, random};
+pub use harness::random;
+pub use writer::dates;

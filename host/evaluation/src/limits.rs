@@ -3,7 +3,7 @@
 use crate::random::Random;
 use crate::rules::{operation, var, Maker, SIGNS};
 use crate::values::{self, any_integer, integer, member, string, Kind, MAX_INTEGER};
-use evaluator::entry::Evaluation;
+use evaluator::entry::{Evaluation, EVALUATE};
 use evaluator::run::End;
 use writer::value::Value;
 
@@ -12,11 +12,8 @@ pub type Pair = (Value, Value);
 
 /// The answer, unless it is far too large or there is none.
 fn answer(rule: &Value, record: &Value) -> Option<Value> {
-    match Evaluation::of(&rule.text(), &record.text()) {
-        Evaluation::Run { run, .. } => match run.end {
-            End::Value(value) => value.unshared(),
-            _ => None,
-        },
+    match Evaluation::of(&EVALUATE, &[&rule.text(), &record.text()]).run()?.end {
+        End::Value(ref value) => value.unshared(),
         _ => None,
     }
 }

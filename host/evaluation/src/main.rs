@@ -10,12 +10,12 @@
 //! and some features were met; one that was met rarely fails. The last line is 'N passed, M failed': one for each class,
 //! one for each of these.
 
-use evaluation::cases::case;
-use evaluation::compare::Evaluator;
-use evaluation::run::{describe, numbers, run, self_test, CASES, LEAST};
-use evaluator::entry::Parameters;
-use std::process::exit;
-use std::time::Instant;
+use evaluation::cases::Case;
+use evaluation::compare::Implementation;
+use evaluation::run::{plan, self_test};
+use evaluator::entry::{Entry, Parameters};
+use harness::lend::Comparer;
+use harness::trial;
 
 #[link(name = "jehvrukam", kind = "static")]
 extern "C" {
@@ -46,10 +46,13 @@ extern "C" {
 
 struct Library;
 
-impl Evaluator for Library {
-    fn evaluate(&mut self, parameters: Parameters) -> u32 {
-        let Parameters { rule, record, limit, work, output, which, place, steps, length } = parameters;
-        let [rule_table, rule_strings, record_table, record_strings, cells] = work;
+impl Implementation for Library {
+    fn call(&mut self, _entry: &Entry, parameters: Parameters) -> u32 {
+        let Parameters { texts, limit, areas, numbers } = parameters;
+        let [rule, record]: [&[u8]; 2] = texts.try_into().unwrap();
+        let [rule_table, rule_strings, record_table, record_strings, cells, output]: [&mut [u8]; 6] =
+            areas.try_into().unwrap();
+        let [which, place, steps, length]: [&mut u64; 4] = numbers.try_into().unwrap();
         // SAFETY: the texts and areas have these lengths, and all lie apart.
         unsafe {
             jehvrukam_evaluate(
@@ -79,40 +82,8 @@ impl Evaluator for Library {
     }
 }
 
-fn whole(word: Option<String>) -> u64 {
-    let word = word.unwrap_or_default();
-    word.parse().unwrap_or_else(|_| {
-        eprintln!("not a number: '{}'", word);
-        exit(2)
-    })
-}
-
 fn main() {
-    let (mut seed, mut cases, mut one, mut say, mut slips) = (20_261_117, CASES, None, false, false);
-    let mut words = std::env::args().skip(1);
-    while let Some(word) = words.next() {
-        match word.as_str() {
-            "--seed" => seed = whole(words.next()),
-            "--cases" => cases = whole(words.next()) as usize,
-            "--one" => one = Some(whole(words.next())),
-            "--say" => say = true,
-            "--self-test" => slips = true,
-            _ => {
-                eprintln!("usage: evaluation [--seed N] [--cases N] [--one N] [--say] [--self-test]");
-                exit(2);
-            }
-        }
-    }
-    let began = Instant::now();
-    let (passed, failed) = match one {
-        _ if slips => self_test(numbers(seed, cases), cases.min(20_000)),
-        Some(number) => {
-            println!("{}", describe(&case(number)));
-            run(&mut Library, std::iter::once(number), None, say)
-        }
-        None => run(&mut Library, numbers(seed, cases), Some(LEAST).filter(|_| cases >= CASES), say),
-    };
-    println!("seed {}, {:.1} s", seed, began.elapsed().as_secs_f64());
-    println!("{} passed, {} failed", passed, failed);
-    exit(i32::from(failed > 0));
+    let mut comparer = Comparer::new();
+    let compare = &mut |case: &Case| case.call.compare(&mut comparer, &mut Library);
+    trial::program("evaluation", 20_261_117, &plan(), compare, self_test)
 }

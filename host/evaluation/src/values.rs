@@ -42,8 +42,8 @@ impl Kind {
             Value::String(text) if text.iter().any(|byte| b"/#:".contains(byte)) => Kind::Uvci,
             Value::String(_) => Kind::String,
             Value::Instant(_) => Kind::Instant,
-            Value::Array(items) if items.iter().all(|item| Kind::of(item) == Kind::Integer) => Kind::Integers,
-            Value::Array(items) if items.iter().all(|item| Kind::of(item).serves(Kind::String)) => Kind::Strings,
+            Value::Array(items) if items.iter().all(|item| matches!(item, Value::Integer(_))) => Kind::Integers,
+            Value::Array(items) if items.iter().all(|item| matches!(item, Value::String(_))) => Kind::Strings,
             Value::Array(_) => Kind::Array,
             Value::Object(_) => Kind::Object,
         }

@@ -7,15 +7,7 @@ mod run;
 mod shape;
 mod text;
 
-macro_rules! slips {
-    ($($name:ident: $what:literal,)*) => {
-        #[derive(Clone, Copy, Debug, PartialEq, Eq)]
-        pub enum Slip { $($name),* }
-
-        /// All slips, and what each is.
-        pub const SLIPS: &[(Slip, &str)] = &[$((Slip::$name, $what)),*];
-    };
-}
+use harness::slips;
 
 slips! {
     None: "no slip",
@@ -235,19 +227,4 @@ slips! {
     SharedOnce: "a list that was written is null when met again",
     ControlRaw: "a control character stands raw",
     EscapeKept: "a slash is escaped",
-}
-
-#[derive(Clone, Copy)]
-pub struct Wrong {
-    slip: Slip,
-}
-
-impl Wrong {
-    pub fn new(slip: Slip) -> Wrong {
-        Wrong { slip }
-    }
-
-    fn is(&self, slip: Slip) -> bool {
-        self.slip == slip
-    }
 }

@@ -1,9 +1,12 @@
-//! Evaluation as document 01 has it, written from the paper alone, to compare the proved evaluator with:
+//! Evaluation and the kind check as document 01 has them, written from the paper alone, to compare the proved ones with:
 //!
 //! - `form`: what a row of a read text says;
 //! - `rule`: the shape of a rule, and its tree;
 //! - `value`: values, which share their parts;
 //! - `run`: the run of a rule, whatever the limit;
+//! - `words`: the words of sheets and of the check, and what belongs to them;
+//! - `sheet`: the shape of a sheet, and which records fit;
+//! - `check`: the words of a rule under a sheet;
 //! - `entry`: the refusals in their order, the numbers and the areas;
 //! - `cases`: the cases of `vectors/`.
 //!
@@ -11,10 +14,13 @@
 //! independent calendar.
 
 pub mod cases;
+pub mod check;
 pub mod entry;
 pub mod form;
 pub mod rule;
 pub mod run;
+pub mod sheet;
 pub mod value;
+pub mod words;
 
 pub use writer::dates;

@@ -154,12 +154,15 @@ fn body(operands: Operands, content: Row) -> Option<Body> {
     rules(rows.iter().copied()).map(|rules| Body::Operation(operation, rules))
 }
 
-/// The fragments of a path: none of the empty one, else some that are not empty, parted by dots.
 fn path(row: Row) -> Option<Vec<Vec<u8>>> {
-    let path = match row.content() {
-        Content::String(path) => path,
-        _ => return None,
-    };
+    match row.content() {
+        Content::String(path) => fragments(path),
+        _ => None,
+    }
+}
+
+/// The fragments of a path: none of the empty one, else some that are not empty, parted by dots.
+pub fn fragments(path: &[u8]) -> Option<Vec<Vec<u8>>> {
     if path.is_empty() {
         return Some(Vec::new());
     }

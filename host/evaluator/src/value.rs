@@ -89,6 +89,22 @@ impl Value {
     }
 }
 
+impl From<&Unshared> for Value {
+    fn from(value: &Unshared) -> Value {
+        match value {
+            Unshared::Null => Value::Null,
+            Unshared::Boolean(boolean) => Value::Boolean(*boolean),
+            Unshared::Integer(integer) => Value::Integer(i64::try_from(*integer).expect("an integer of a text")),
+            Unshared::String(bytes) => Value::String(bytes[..].into()),
+            Unshared::Instant(ms) => Value::Instant(*ms),
+            Unshared::Array(items) => Value::Array(items.iter().map(Value::from).collect()),
+            Unshared::Object(members) => {
+                Value::Object(members.iter().map(|(name, content)| (name[..].into(), content.into())).collect())
+            }
+        }
+    }
+}
+
 /// The index that a fragment is: 0, or digits without a leading zero. One with too many digits is past every end.
 fn index(fragment: &[u8]) -> Option<usize> {
     let is_index = fragment == b"0" || fragment[0] != b'0' && fragment.iter().all(u8::is_ascii_digit);

@@ -4,6 +4,7 @@
 use crate::areas::Areas;
 use crate::cases::Case;
 use crate::random::Random;
+use harness::lend::told;
 
 /// Writes the value of a cell as the C entry `writer_write` does.
 pub trait Writer {
@@ -12,7 +13,6 @@ pub trait Writer {
 
 const GUARD: usize = 32; // bytes before and behind each area that nothing may touch
 const NOISES: usize = 1_024; // different noises
-const SHOWN: usize = 24; // bytes of an output that are told
 
 /// Bytes with others around them.
 struct Area {
@@ -120,12 +120,4 @@ impl Default for Comparer {
     fn default() -> Comparer {
         Comparer::new()
     }
-}
-
-/// Some bytes from a place on, in printable ASCII.
-pub fn told(bytes: &[u8], at: usize) -> String {
-    let rest = &bytes[at.min(bytes.len())..];
-    let some = &rest[..rest.len().min(SHOWN)];
-    let escaped: String = some.iter().flat_map(|&byte| std::ascii::escape_default(byte)).map(char::from).collect();
-    format!("b\"{}\"{}", escaped, if some.len() < rest.len() { ".." } else { "" })
 }

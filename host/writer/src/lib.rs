@@ -14,10 +14,10 @@ pub mod compare;
 pub mod dates;
 pub mod generate;
 pub mod layout;
-#[path = "../../differential/src/random.rs"]
-pub mod random;
 pub mod run;
 #[cfg(test)]
 mod tests;
 pub mod value;
 pub mod wrong;
+
+pub use harness::random;

@@ -10,12 +10,12 @@
 //! a feature that was met rarely, fails. The last line is 'N passed, M failed': one for each class, one for each
 //! feature.
 
-use std::process::exit;
-use std::time::Instant;
+use harness::arguments::Arguments;
+use harness::trial::numbers;
 use writer::areas::Areas;
 use writer::cases::case;
 use writer::compare::Writer;
-use writer::run::{describe, numbers, run, self_test, CASES};
+use writer::run::{describe, run, self_test, CASES};
 
 #[link(name = "writer_c", kind = "static")]
 extern "C" {
@@ -60,40 +60,14 @@ impl Writer for Library {
     }
 }
 
-fn whole(word: Option<String>) -> u64 {
-    let word = word.unwrap_or_default();
-    word.parse().unwrap_or_else(|_| {
-        eprintln!("not a number: '{}'", word);
-        exit(2)
-    })
-}
-
 fn main() {
-    let (mut seed, mut cases, mut one, mut say, mut slips) = (20_261_116, CASES, None, false, false);
-    let mut words = std::env::args().skip(1);
-    while let Some(word) = words.next() {
-        match word.as_str() {
-            "--seed" => seed = whole(words.next()),
-            "--cases" => cases = whole(words.next()) as usize,
-            "--one" => one = Some(whole(words.next())),
-            "--say" => say = true,
-            "--self-test" => slips = true,
-            _ => {
-                eprintln!("usage: writer [--seed N] [--cases N] [--one N] [--say] [--self-test]");
-                exit(2);
-            }
-        }
-    }
-    let began = Instant::now();
-    let (passed, failed) = match one {
-        _ if slips => self_test(numbers(seed, cases), cases.min(20_000)),
+    let given = Arguments::of("writer", 20_261_116, CASES);
+    given.finish(match given.one {
+        _ if given.self_test => self_test(given.seed, given.cases),
         Some(number) => {
             println!("{}", describe(&case(number)));
-            run(&mut Library, std::iter::once(number), false, say)
+            run(&mut Library, std::iter::once(number), false, given.say)
         }
-        None => run(&mut Library, numbers(seed, cases), cases >= CASES, say),
-    };
-    println!("seed {}, {:.1} s", seed, began.elapsed().as_secs_f64());
-    println!("{} passed, {} failed", passed, failed);
-    exit(i32::from(failed > 0));
+        None => run(&mut Library, numbers(given.seed, given.cases), given.cases >= CASES, given.say),
+    })
 }

@@ -1,10 +1,11 @@
 //! Runs the cases on a writer and counts.
 
 use crate::cases::{case, Case, Size, CLASSES};
-use crate::compare::{told, Comparer, Writer};
-use crate::random::Random;
+use crate::compare::{Comparer, Writer};
 use crate::value::{MAX_NESTING, MAX_TEXT_BYTES, MAX_VALUES, OUTPUT_TOO_SHORT, TOO_LARGE};
-use crate::wrong::{Slip, Wrong, SLIPS};
+use crate::wrong::{Wrong, SLIPS};
+use harness::lend::told;
+use harness::trial::{self, Shown};
 use std::time::{Duration, Instant};
 
 /// Cases that a run has if not told otherwise.
@@ -86,6 +87,16 @@ impl Count {
     }
 }
 
+impl Shown for Case {
+    fn class(&self) -> &'static str {
+        CLASSES[self.class].name
+    }
+
+    fn describe(&self) -> String {
+        describe(self)
+    }
+}
+
 /// A case as one can look at it.
 pub fn describe(case: &Case) -> String {
     let Case { lent, room, .. } = case;
@@ -109,12 +120,6 @@ pub fn describe(case: &Case) -> String {
         hex(&lent.strings, 16),
         hex(&lent.rule, 16)
     )
-}
-
-/// The numbers of the cases of a seed.
-pub fn numbers(seed: u64, count: usize) -> impl Iterator<Item = u64> {
-    let mut random = Random::new(seed);
-    (0..count).map(move |_| random.next())
 }
 
 /// Runs the cases of these numbers; prints a few differences and what was met; gives the passed and the failed: one for
@@ -185,37 +190,10 @@ fn report(counts: &[Count], features: &[usize], all: bool) -> (usize, usize) {
     (passed, failed)
 }
 
-/// Runs the cases on writers with a slip each, until all have been noticed, and on one with none; gives the passed and
-/// the failed, one for each slip.
-pub fn self_test(numbers: impl Iterator<Item = u64>, least: usize) -> (usize, usize) {
+/// Runs the cases on writers with a slip each; gives the passed and the failed, one for each slip.
+pub fn self_test(seed: u64, cases: usize) -> (usize, usize) {
     let mut comparer = Comparer::new();
-    let mut noticed: Vec<Option<(usize, usize)>> = vec![None; SLIPS.len()]; // after how many cases, and in which class
-    for (done, number) in numbers.enumerate() {
-        if done >= least && noticed[1..].iter().all(|slip| slip.is_some()) {
-            break;
-        }
-        let case = case(number);
-        for (&(slip, _), noticed) in SLIPS.iter().zip(&mut noticed).filter(|(_, noticed)| noticed.is_none()) {
-            if let Some(difference) = comparer.compare(&case, &mut Wrong::new(slip)) {
-                *noticed = Some((done + 1, case.class));
-                if slip == Slip::None {
-                    println!("DIFFERENCE in {}, --one {}: {}", CLASSES[case.class].name, number, difference);
-                    println!("{}", describe(&case));
-                }
-            }
-        }
-    }
-    let (mut passed, mut failed) = (0, 0);
-    for (&(slip, what), noticed) in SLIPS.iter().zip(&noticed) {
-        let good = noticed.is_some() == (slip != Slip::None);
-        let when = match noticed {
-            Some((after, class)) => format!("noticed after {} cases, in {}", after, CLASSES[*class].name),
-            None => "not noticed".to_string(),
-        };
-        println!("{}: {}{}", what, when, if good { "" } else { "  FAILED" });
-        *(if good { &mut passed } else { &mut failed }) += 1;
-    }
-    (passed, failed)
+    trial::self_test(case, SLIPS, (seed, cases), &mut |case, slip| comparer.compare(case, &mut Wrong::new(slip)))
 }
 
 #[cfg(test)]
@@ -224,7 +202,7 @@ mod tests {
 
     #[test]
     fn each_slip_is_noticed() {
-        assert_eq!(self_test(numbers(20_261_116, CASES), 20_000), (SLIPS.len(), 0));
+        assert_eq!(self_test(20_261_116, CASES), (SLIPS.len(), 0));
     }
 
     #[test]

@@ -5,16 +5,7 @@ use crate::areas::{Areas, CELL_BYTES, ROW_BYTES};
 use crate::compare::Writer;
 use crate::dates;
 use crate::value::{MAX_NESTING, MAX_TEXT_BYTES, MAX_VALUES, OUTPUT_TOO_SHORT, TOO_LARGE};
-
-macro_rules! slips {
-    ($($name:ident: $what:literal,)*) => {
-        #[derive(Clone, Copy, Debug, PartialEq, Eq)]
-        pub enum Slip { $($name),* }
-
-        /// All slips, and what each is.
-        pub const SLIPS: &[(Slip, &str)] = &[$((Slip::$name, $what)),*];
-    };
-}
+use harness::slips;
 
 slips! {
     None: "no slip",
@@ -90,16 +81,6 @@ slips! {
 
 /// What may not go on: refused with 11.
 struct TooLarge;
-
-pub struct Wrong {
-    slip: Slip,
-}
-
-impl Wrong {
-    pub fn new(slip: Slip) -> Wrong {
-        Wrong { slip }
-    }
-}
 
 /// A cell or row, taken apart.
 #[derive(Clone, Copy)]

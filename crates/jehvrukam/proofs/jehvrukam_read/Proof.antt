@@ -1,7 +1,7 @@
 use borrow.Author.Needs.{needs}
 use Rattle.jehvrukam.proofs.jehvrukam_read.Statement.{statement}
 use Rattle.jehvrukam.proofs.jehvrukam_read.Tie as tie
-use Rattle.jehvrukam.proofs.Entry.{place-written, place-left}
+use Rattle.jehvrukam.proofs.Reading.{place-written, place-left}
 
 read-requires : tie.Need-read-requires
 read-requires c κs = search needs

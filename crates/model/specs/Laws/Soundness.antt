@@ -22,7 +22,7 @@ use Rattle.model.specs.Sheet.{Sheet, fits}
 use Rattle.model.specs.Shift.{shift}
 use Rattle.model.specs.Truth.{Truth, truthy, falsy, neither, truth}
 use Rattle.model.specs.TypeCheck.{Env, outside, inLambda, partTypes, varTypes, literalTypes, oneOperand, twoOperands, everyOperand, domainType, allowed, arrayTypes, given, itemsTypes, union, typesFor, typesForAll, lambdaEnv, accepts, acceptsAll, check}
-use Rattle.model.specs.Types.{Ty, Types, hasType, passes, scalars, anyOfRecord}
+use Rattle.model.specs.Types.{Types, hasType, passes, scalars, anyOfRecord}
 use Rattle.model.specs.Value.{Value, scalar, instant, array, object, null, boolean, integer, string, Values, no-items, item, asScalar, asInteger, asInstant, asArray, asString, allItems, isInteger, isString, instantFree, withinLimits}
 use Rattle.model.specs.Laws.Logic.{and-l, and-r, and-i, or-l, or-f, bytes→≡}
 use Rattle.model.specs.Laws.Lookup.{valueAt-instant-free}
@@ -33,6 +33,8 @@ use Rattle.model.specs.Laws.Types.{decided, passes-sound, hasType-l, has
 use Rattle.model.specs.declared.TimeUnit.{TimeUnit}
 use Rattle.model.specs.declared.Domain.{Domain}
 use Rattle.model.specs.declared.Domain.the-variants.{OnIntegers, OnInstants}
+use Rattle.model.specs.declared.Ty.{Ty}
+use Rattle.model.specs.declared.Ty.the-variants as Ty
 
 -- A value of one of the types.
 abbrev pub Has : Types → Value → Type 0
@@ -72,7 +74,7 @@ pub lambda-typed : (cur acc : Types) (v w : Value) → Has cur v → Has acc w �
 lambda-typed cur acc v w h k [] = tt
 lambda-typed cur acc v w h k (f ∷ q) = go (sameBytes f current) (sameBytes f accumulator)
   where
-    go : (a b : Bool) → Has (cond a (partTypes cur q) (cond b (partTypes acc q) (Ty.null ∷ []))) (orElse (Rattle.model.specs.Option._>>=_ (cond a (some v) (cond b (some w) none)) (lookup q)) (scalar null))
+    go : (a b : Bool) → Has (cond a (partTypes cur q) (cond b (partTypes acc q) (Ty.Null ∷ []))) (orElse (Rattle.model.specs.Option._>>=_ (cond a (some v) (cond b (some w) none)) (lookup q)) (scalar null))
     go true b = part-typed cur v h q
     go false true = part-typed acc w k q
     go false false = tt
@@ -136,11 +138,11 @@ every-sound ts f m (x ∷ l) (item v vs) h k =
 
 array-sound : (l : List Types) (vs : Values) → Operands l vs → Has (arrayTypes l) (array vs)
 array-sound l vs h =
-    go (everyOperand (Ty.integer ∷ []) l) (everyOperand (Ty.string ∷ []) l)
-    (every-sound (Ty.integer ∷ []) isInteger (λ v. or-f (isInteger v)) l vs h)
-    (every-sound (Ty.string ∷ []) isString (λ v. or-f (isString v)) l vs h)
+    go (everyOperand (Ty.Integer ∷ []) l) (everyOperand (Ty.String ∷ []) l)
+    (every-sound (Ty.Integer ∷ []) isInteger (λ v. or-f (isInteger v)) l vs h)
+    (every-sound (Ty.String ∷ []) isString (λ v. or-f (isString v)) l vs h)
   where
-    go : (a b : Bool) → (T a → T (allItems isInteger vs)) → (T b → T (allItems isString vs)) → Has (cond a (Ty.integers ∷ []) (cond b (Ty.strings ∷ []) (Ty.array ∷ []))) (array vs)
+    go : (a b : Bool) → (T a → T (allItems isInteger vs)) → (T b → T (allItems isString vs)) → Has (cond a (Ty.Integers ∷ []) (cond b (Ty.Strings ∷ []) (Ty.Array ∷ []))) (array vs)
     go true b f g = or-l (allItems isInteger vs) false (f tt)
     go false true f g = or-l (allItems isString vs) false (g tt)
     go false false f g = tt
@@ -151,23 +153,23 @@ scalar-some (instant t) h = h
 scalar-some (array vs) h = h
 scalar-some (object ms) h = h
 
-equal-sound : (a b : Value) → Has scalars a → Has scalars b → Gives (Has (Ty.boolean ∷ [])) (equality a b)
+equal-sound : (a b : Value) → Has scalars a → Has scalars b → Gives (Has (Ty.Boolean ∷ [])) (equality a b)
 equal-sound a b h k =
     yields-bind Out Any _ (required wrongKind (asScalar a)) _ (gives-some wrongKind (asScalar a) (scalar-some a h))
     (λ x e. yields-bind Out Any _ (required wrongKind (asScalar b)) _ (gives-some wrongKind (asScalar b) (scalar-some b k)) (λ y f. tt))
 
-member-sound : (a b : Value) → Has scalars a → Has (Ty.array ∷ []) b → Gives (Has (Ty.boolean ∷ [])) (membership a b)
+member-sound : (a b : Value) → Has scalars a → Has (Ty.Array ∷ []) b → Gives (Has (Ty.Boolean ∷ [])) (membership a b)
 member-sound a b h k =
     yields-bind Out Any _ (required wrongKind (asScalar a)) _ (gives-some wrongKind (asScalar a) (scalar-some a h))
     (λ x e. yields-bind Out Any _ (required wrongKind (asArray b)) _ (gives-some wrongKind (asArray b) (or-f (isSome (asArray b)) k)) (λ vs f. tt))
 
-sum-sound : (a b : Value) → Has (Ty.integer ∷ []) a → Has (Ty.integer ∷ []) b → Gives (Has (Ty.integer ∷ [])) (sum a b)
+sum-sound : (a b : Value) → Has (Ty.Integer ∷ []) a → Has (Ty.Integer ∷ []) b → Gives (Has (Ty.Integer ∷ [])) (sum a b)
 sum-sound a b h k =
     yields-bind Out Any _ (required wrongKind (asInteger a)) _ (gives-some wrongKind (asInteger a) (or-f (isInteger a) h))
     (λ m e. yields-bind Out Any _ (required wrongKind (asInteger b)) _ (gives-some wrongKind (asInteger b) (or-f (isInteger b) k))
     (λ n f. yields-provided Out _ (withinLimits (m +ℤ n)) outOfRange (ok (scalar (integer (m +ℤ n)))) refl (λ x. tt)))
 
-negated-sound : (t : Truth) → T (decided t) → Gives (Has (Ty.boolean ∷ [])) (negated t)
+negated-sound : (t : Truth) → T (decided t) → Gives (Has (Ty.Boolean ∷ [])) (negated t)
 negated-sound truthy h = tt
 negated-sound falsy h = tt
 negated-sound neither h = absurd h
@@ -186,26 +188,26 @@ numbers-sound d (item v vs) h =
 every-number : (d : Domain) (l : List Types) (vs : Values) → Operands l vs → T (everyOperand (domainType d ∷ []) l) → Gives Any (numbers d vs)
 every-number d l vs h k = numbers-sound d vs (every-sound (domainType d ∷ []) (λ v. isSome (asNumber d v)) (number-some d) l vs h k)
 
-birth-sound : (v : Value) → Has (Ty.day ∷ []) v → Gives (Has (Ty.instant ∷ [])) (dateOfBirth v)
+birth-sound : (v : Value) → Has (Ty.Day ∷ []) v → Gives (Has (Ty.Instant ∷ [])) (dateOfBirth v)
 birth-sound v h =
     yields-bind Out _ _ (required wrongKind (asString v)) _ (gives-required isDay wrongKind (asString v) (or-f (holds isDay (asString v)) h))
     (λ s k. yields-bind Out Any _ (dayText s) _ (gives-ok (dayText s) k) (λ t e. tt))
 
-plusTime-sound : (amount : ℤ) (unit : TimeUnit) (v : Value) → Has (Ty.date ∷ []) v → Gives (Has (Ty.instant ∷ [])) (plusTime amount unit v)
+plusTime-sound : (amount : ℤ) (unit : TimeUnit) (v : Value) → Has (Ty.Date ∷ []) v → Gives (Has (Ty.Instant ∷ [])) (plusTime amount unit v)
 plusTime-sound amount unit v h =
     yields-bind Out _ _ (required wrongKind (asString v)) _ (gives-required isDate wrongKind (asString v) (or-f (holds isDate (asString v)) h))
     (λ s k. yields-bind Out Any _ (dateText s) _ (gives-ok (dateText s) k) (λ t e. yields-bind Out Any _ (shift t amount unit) _ (gives-shift t amount unit) (λ r f. tt)))
 
-fragment-sound : (l : List Bytes) (k : ℤ) → Has (Ty.null ∷ Ty.string ∷ []) (fragment l k)
+fragment-sound : (l : List Bytes) (k : ℤ) → Has (Ty.Null ∷ Ty.String ∷ []) (fragment l k)
 fragment-sound l (pos k) = go l k
   where
-    go : (l : List Bytes) (k : ℕ) → Has (Ty.null ∷ Ty.string ∷ []) (nthString l k)
+    go : (l : List Bytes) (k : ℕ) → Has (Ty.Null ∷ Ty.String ∷ []) (nthString l k)
     go [] k = tt
     go (f ∷ l) zero = tt
     go (f ∷ l) (suc k) = go l k
 fragment-sound l (negsuc k) = tt
 
-extract-sound : (k : ℤ) (v : Value) → Has (Ty.null ∷ Ty.string ∷ []) v → Gives (Has (Ty.null ∷ Ty.string ∷ [])) (extractFromUVCI k v)
+extract-sound : (k : ℤ) (v : Value) → Has (Ty.Null ∷ Ty.String ∷ []) v → Gives (Has (Ty.Null ∷ Ty.String ∷ [])) (extractFromUVCI k v)
 extract-sound k (scalar null) h = tt
 extract-sound k (scalar (boolean b)) h = absurd h
 extract-sound k (scalar (integer z)) h = absurd h
@@ -217,14 +219,14 @@ extract-sound k (object ms) h = absurd h
 -- An operation on operands of allowed types gives a value of the types given, or refusal 9.
 pub operate-sound : (o : Operation) (l : List Types) (vs : Values) → Operands l vs → T (allowed o l) → Gives (Has (given o l)) (operate o vs)
 operate-sound Operation.array l vs h k = array-sound l vs h
-operate-sound Operation.equal l vs h k = binary-sound equality scalars scalars (Ty.boolean ∷ []) equal-sound l vs h k
-operate-sound Operation.memberOf l vs h k = binary-sound membership scalars (Ty.array ∷ []) (Ty.boolean ∷ []) member-sound l vs h k
-operate-sound Operation.plus l vs h k = binary-sound sum (Ty.integer ∷ []) (Ty.integer ∷ []) (Ty.integer ∷ []) sum-sound l vs h k
-operate-sound Operation.not l vs h k = unary-sound (λ v. negated (truth v)) anyOfRecord (Ty.boolean ∷ []) (λ v x. negated-sound (truth v) (anyOfRecord-decided v x)) l vs h k
-operate-sound Operation.dateOfBirth l vs h k = unary-sound dateOfBirth (Ty.day ∷ []) (Ty.instant ∷ []) birth-sound l vs h k
+operate-sound Operation.equal l vs h k = binary-sound equality scalars scalars (Ty.Boolean ∷ []) equal-sound l vs h k
+operate-sound Operation.memberOf l vs h k = binary-sound membership scalars (Ty.Array ∷ []) (Ty.Boolean ∷ []) member-sound l vs h k
+operate-sound Operation.plus l vs h k = binary-sound sum (Ty.Integer ∷ []) (Ty.Integer ∷ []) (Ty.Integer ∷ []) sum-sound l vs h k
+operate-sound Operation.not l vs h k = unary-sound (λ v. negated (truth v)) anyOfRecord (Ty.Boolean ∷ []) (λ v x. negated-sound (truth v) (anyOfRecord-decided v x)) l vs h k
+operate-sound Operation.dateOfBirth l vs h k = unary-sound dateOfBirth (Ty.Day ∷ []) (Ty.Instant ∷ []) birth-sound l vs h k
 operate-sound (Operation.compare d c) l vs h k = yields-bind Out Any _ (numbers d vs) _ (every-number d l vs h k) (λ ns e. tt)
-operate-sound (Operation.plusTime amount unit) l vs h k = unary-sound (plusTime amount unit) (Ty.date ∷ []) (Ty.instant ∷ []) (plusTime-sound amount unit) l vs h k
-operate-sound (Operation.extractFromUVCI i) l vs h k = unary-sound (extractFromUVCI i) (Ty.null ∷ Ty.string ∷ []) (Ty.null ∷ Ty.string ∷ []) (extract-sound i) l vs h k
+operate-sound (Operation.plusTime amount unit) l vs h k = unary-sound (plusTime amount unit) (Ty.Date ∷ []) (Ty.Instant ∷ []) (plusTime-sound amount unit) l vs h k
+operate-sound (Operation.extractFromUVCI i) l vs h k = unary-sound (extractFromUVCI i) (Ty.Null ∷ Ty.String ∷ []) (Ty.Null ∷ Ty.String ∷ []) (extract-sound i) l vs h k
 
 -- ---- runs
 -- The refusals that an accepted rule may end in: 9 and 10.
@@ -243,7 +245,7 @@ runs-lift : {A : Type 0} (P : A → Type 0) (r : Result A) → Gives P r → Run
 runs-lift P r h = always-lift Late Out P r (λ e x. inl (ap fault x)) h
 
 -- The items of an operand that is an array.
-items-sound : (ts : Types) (v : Value) → Has ts v → Has (Ty.array ∷ []) v → Gives (λ vs. T (allItems (hasType (itemsTypes ts)) vs)) (required wrongKind (asArray v))
+items-sound : (ts : Types) (v : Value) → Has ts v → Has (Ty.Array ∷ []) v → Gives (λ vs. T (allItems (hasType (itemsTypes ts)) vs)) (required wrongKind (asArray v))
 items-sound ts (scalar x) h k = absurd k
 items-sound ts (instant t) h k = absurd k
 items-sound ts (array vs) h k = itemsTypes-sound ts vs h
@@ -254,7 +256,7 @@ literal-sound (Literal.boolean b) = tt
 literal-sound (Literal.integer z) = tt
 literal-sound (Literal.string s) = go (isDay s) (isDate s) (λ h. h) (λ h. h)
   where
-    go : (a b : Bool) → (T a → T (isDay s)) → (T b → T (isDate s)) → Has (cond a (Ty.day ∷ []) (cond b (Ty.date ∷ []) (Ty.string ∷ []))) (scalar (string s))
+    go : (a b : Bool) → (T a → T (isDay s)) → (T b → T (isDate s)) → Has (cond a (Ty.Day ∷ []) (cond b (Ty.Date ∷ []) (Ty.String ∷ []))) (scalar (string s))
     go true b f g = or-l (isDay s) false (f tt)
     go false true f g = or-l (isDate s) false (g tt)
     go false false f g = tt
@@ -297,15 +299,15 @@ mutual
       let us = typesFor initial e in
       let inner = lambdaEnv r initial e in
       let ws = typesFor lambda inner in
-      let h₁ = and-r (accepts r e) (accepts initial e && (passes ts (Ty.array ∷ []) && (accepts lambda inner && passes ws us))) h in
-      let h₂ = and-r (accepts initial e) (passes ts (Ty.array ∷ []) && (accepts lambda inner && passes ws us)) h₁ in
-      let h₃ = and-r (passes ts (Ty.array ∷ [])) (accepts lambda inner && passes ws us) h₂ in
+      let h₁ = and-r (accepts r e) (accepts initial e && (passes ts (Ty.Array ∷ []) && (accepts lambda inner && passes ws us))) h in
+      let h₂ = and-r (accepts initial e) (passes ts (Ty.Array ∷ []) && (accepts lambda inner && passes ws us)) h₁ in
+      let h₃ = and-r (passes ts (Ty.Array ∷ [])) (accepts lambda inner && passes ws us) h₂ in
       always-bind Late (Has ts) (Has us) (eval r (0 ∷ p) c) _
       (eval-sound r ts (0 ∷ p) c (body-sound r e (0 ∷ p) c (and-l (accepts r e) _ h) F))
       (λ v x. always-bind Late (Has us) (Has us) (eval initial (2 ∷ p) c) _
       (eval-sound initial us (2 ∷ p) c (body-sound initial e (2 ∷ p) c (and-l (accepts initial e) _ h₁) F))
       (λ i y. always-bind Late (λ vs. T (allItems (hasType (itemsTypes ts)) vs)) (Has us) (lift (required wrongKind (asArray v))) _
-      (runs-lift _ (required wrongKind (asArray v)) (items-sound ts v x (passes-sound v ts (Ty.array ∷ []) x (and-l (passes ts (Ty.array ∷ [])) _ h₂))))
+      (runs-lift _ (required wrongKind (asArray v)) (items-sound ts v x (passes-sound v ts (Ty.Array ∷ []) x (and-l (passes ts (Ty.Array ∷ [])) _ h₂))))
       (λ vs z. always-fold Late (Has us) (Has (itemsTypes ts)) (λ ws. T (allItems (hasType (itemsTypes ts)) ws)) (λ w ws k. (and-l (hasType (itemsTypes ts) w) _ k, and-r (hasType (itemsTypes ts) w) _ k))
       (λ cur acc. eval lambda (1 ∷ p) (context cur acc))
       (λ cur acc a b. always-map Late (Has ws) (Has us) (eval lambda (1 ∷ p) (context cur acc)) (λ w k. passes-sound w ws us k (and-r (accepts lambda inner) _ h₃))

@@ -14,10 +14,12 @@ use Rattle.model.specs.Lists.{any, all}
 use Rattle.model.specs.Option.{isSome, holds}
 use Rattle.model.specs.Truth.{Truth, truthy, falsy, neither, truth}
 use Rattle.model.specs.TypeCheck.{itemTypes, itemsTypes}
-use Rattle.model.specs.Types.{Ty, Types, belongs, hasType, tyNumber, sameTy, supertypes, isIn, passes, anyOfRecord, anyValue, allTypes, typeBits}
+use Rattle.model.specs.Types.{Types, belongs, hasType, tyNumber, sameTy, supertypes, isIn, passes, anyOfRecord, anyValue, allTypes, typeBits}
 use Rattle.model.specs.Value.{Value, scalar, instant, array, object, null, boolean, integer, string, Values, no-items, item, no-members, member, asString, asArray, allItems, isInteger, isString, instantFree}
 use Rattle.model.specs.Laws.DateText.{isDay→isDate}
 use Rattle.model.specs.Laws.Logic.{and-l, and-r, and-i, or-e, or-l, or-r}
+use Rattle.model.specs.declared.Ty.{Ty}
+use Rattle.model.specs.declared.Ty.the-variants as Ty
 
 -- A truth that is not neither.
 abbrev pub decided : Truth → Bool
@@ -28,31 +30,31 @@ decided neither = false
 -- ---- equality of types
 -- The type with a number.
 typeAt : ℕ → Ty
-typeAt zero = Ty.null
-typeAt (suc zero) = Ty.boolean
-typeAt (suc (suc zero)) = Ty.integer
-typeAt (suc (suc (suc zero))) = Ty.string
-typeAt (suc (suc (suc (suc zero)))) = Ty.date
-typeAt (suc (suc (suc (suc (suc zero))))) = Ty.day
-typeAt (suc (suc (suc (suc (suc (suc zero)))))) = Ty.integers
-typeAt (suc (suc (suc (suc (suc (suc (suc zero))))))) = Ty.strings
-typeAt (suc (suc (suc (suc (suc (suc (suc (suc zero)))))))) = Ty.array
-typeAt (suc (suc (suc (suc (suc (suc (suc (suc (suc zero))))))))) = Ty.object
-typeAt (suc (suc (suc (suc (suc (suc (suc (suc (suc (suc n)))))))))) = Ty.instant
+typeAt zero = Ty.Null
+typeAt (suc zero) = Ty.Boolean
+typeAt (suc (suc zero)) = Ty.Integer
+typeAt (suc (suc (suc zero))) = Ty.String
+typeAt (suc (suc (suc (suc zero)))) = Ty.Date
+typeAt (suc (suc (suc (suc (suc zero))))) = Ty.Day
+typeAt (suc (suc (suc (suc (suc (suc zero)))))) = Ty.Integers
+typeAt (suc (suc (suc (suc (suc (suc (suc zero))))))) = Ty.Strings
+typeAt (suc (suc (suc (suc (suc (suc (suc (suc zero)))))))) = Ty.Array
+typeAt (suc (suc (suc (suc (suc (suc (suc (suc (suc zero))))))))) = Ty.Object
+typeAt (suc (suc (suc (suc (suc (suc (suc (suc (suc (suc n)))))))))) = Ty.Instant
 
 typeAt-number : (a : Ty) → typeAt (tyNumber a) ≡ a
 unfolding typeAt
-typeAt-number Ty.null = refl
-typeAt-number Ty.boolean = refl
-typeAt-number Ty.integer = refl
-typeAt-number Ty.string = refl
-typeAt-number Ty.date = refl
-typeAt-number Ty.day = refl
-typeAt-number Ty.integers = refl
-typeAt-number Ty.strings = refl
-typeAt-number Ty.array = refl
-typeAt-number Ty.object = refl
-typeAt-number Ty.instant = refl
+typeAt-number Ty.Null = refl
+typeAt-number Ty.Boolean = refl
+typeAt-number Ty.Integer = refl
+typeAt-number Ty.String = refl
+typeAt-number Ty.Date = refl
+typeAt-number Ty.Day = refl
+typeAt-number Ty.Integers = refl
+typeAt-number Ty.Strings = refl
+typeAt-number Ty.Array = refl
+typeAt-number Ty.Object = refl
+typeAt-number Ty.Instant = refl
 
 pub sameTy→≡ : (a b : Ty) → T (sameTy a b) → a ≡ b
 sameTy→≡ a b h = sym (typeAt-number a) ∙ (ap typeAt (eqb→eq (tyNumber a) (tyNumber b) h) ∙ typeAt-number b)
@@ -74,20 +76,20 @@ cons-all v a ts h k = and-i (belongs v a) (all (belongs v) ts) h k
 
 -- A value of a type belongs to each wider one.
 pub supertypes-sound : (a : Ty) (v : Value) → T (belongs v a) → T (all (belongs v) (supertypes a))
-supertypes-sound Ty.null v h = cons-all v Ty.null [] h tt
-supertypes-sound Ty.boolean v h = cons-all v Ty.boolean [] h tt
-supertypes-sound Ty.integer v h = cons-all v Ty.integer [] h tt
-supertypes-sound Ty.string v h = cons-all v Ty.string [] h tt
-supertypes-sound Ty.date v h = cons-all v Ty.date (Ty.string ∷ []) h (cons-all v Ty.string [] (holds-some isDate (asString v) h) tt)
-supertypes-sound Ty.day v h =
-    cons-all v Ty.day (Ty.date ∷ Ty.string ∷ []) h
-    (cons-all v Ty.date (Ty.string ∷ []) (holds-mono isDay isDate isDay→isDate (asString v) h)
-    (cons-all v Ty.string [] (holds-some isDay (asString v) h) tt))
-supertypes-sound Ty.integers v h = cons-all v Ty.integers (Ty.array ∷ []) h (cons-all v Ty.array [] (holds-some (allItems isInteger) (asArray v) h) tt)
-supertypes-sound Ty.strings v h = cons-all v Ty.strings (Ty.array ∷ []) h (cons-all v Ty.array [] (holds-some (allItems isString) (asArray v) h) tt)
-supertypes-sound Ty.array v h = cons-all v Ty.array [] h tt
-supertypes-sound Ty.object v h = cons-all v Ty.object [] h tt
-supertypes-sound Ty.instant v h = cons-all v Ty.instant [] h tt
+supertypes-sound Ty.Null v h = cons-all v Ty.Null [] h tt
+supertypes-sound Ty.Boolean v h = cons-all v Ty.Boolean [] h tt
+supertypes-sound Ty.Integer v h = cons-all v Ty.Integer [] h tt
+supertypes-sound Ty.String v h = cons-all v Ty.String [] h tt
+supertypes-sound Ty.Date v h = cons-all v Ty.Date (Ty.String ∷ []) h (cons-all v Ty.String [] (holds-some isDate (asString v) h) tt)
+supertypes-sound Ty.Day v h =
+    cons-all v Ty.Day (Ty.Date ∷ Ty.String ∷ []) h
+    (cons-all v Ty.Date (Ty.String ∷ []) (holds-mono isDay isDate isDay→isDate (asString v) h)
+    (cons-all v Ty.String [] (holds-some isDay (asString v) h) tt))
+supertypes-sound Ty.Integers v h = cons-all v Ty.Integers (Ty.Array ∷ []) h (cons-all v Ty.Array [] (holds-some (allItems isInteger) (asArray v) h) tt)
+supertypes-sound Ty.Strings v h = cons-all v Ty.Strings (Ty.Array ∷ []) h (cons-all v Ty.Array [] (holds-some (allItems isString) (asArray v) h) tt)
+supertypes-sound Ty.Array v h = cons-all v Ty.Array [] h tt
+supertypes-sound Ty.Object v h = cons-all v Ty.Object [] h tt
+supertypes-sound Ty.Instant v h = cons-all v Ty.Instant [] h tt
 
 isIn-sound : (v : Value) (a : Ty) (allowed : Types) → T (belongs v a) → T (isIn allowed a) → T (hasType allowed v)
 isIn-sound v a [] h k = k
@@ -171,17 +173,17 @@ allItems-any f m no-items = tt
 allItems-any f m (item v vs) = and-i (f v) _ (m v) (allItems-any f m vs)
 
 itemTypes-sound : (a : Ty) (vs : Values) → T (belongs (array vs) a) → T (allItems (hasType (itemTypes a)) vs)
-itemTypes-sound Ty.null vs h = absurd h
-itemTypes-sound Ty.boolean vs h = absurd h
-itemTypes-sound Ty.integer vs h = absurd h
-itemTypes-sound Ty.string vs h = absurd h
-itemTypes-sound Ty.date vs h = absurd h
-itemTypes-sound Ty.day vs h = absurd h
-itemTypes-sound Ty.integers vs h = allItems-mono isInteger (hasType (Ty.integer ∷ [])) (λ v. or-l (isInteger v) false) vs h
-itemTypes-sound Ty.strings vs h = allItems-mono isString (hasType (Ty.string ∷ [])) (λ v. or-l (isString v) false) vs h
-itemTypes-sound Ty.array vs h = allItems-any (hasType anyValue) anyValue-all vs
-itemTypes-sound Ty.object vs h = absurd h
-itemTypes-sound Ty.instant vs h = absurd h
+itemTypes-sound Ty.Null vs h = absurd h
+itemTypes-sound Ty.Boolean vs h = absurd h
+itemTypes-sound Ty.Integer vs h = absurd h
+itemTypes-sound Ty.String vs h = absurd h
+itemTypes-sound Ty.Date vs h = absurd h
+itemTypes-sound Ty.Day vs h = absurd h
+itemTypes-sound Ty.Integers vs h = allItems-mono isInteger (hasType (Ty.Integer ∷ [])) (λ v. or-l (isInteger v) false) vs h
+itemTypes-sound Ty.Strings vs h = allItems-mono isString (hasType (Ty.String ∷ [])) (λ v. or-l (isString v) false) vs h
+itemTypes-sound Ty.Array vs h = allItems-any (hasType anyValue) anyValue-all vs
+itemTypes-sound Ty.Object vs h = absurd h
+itemTypes-sound Ty.Instant vs h = absurd h
 
 -- The items of an array of some types have the types of items of those.
 pub itemsTypes-sound : (ts : Types) (vs : Values) → T (hasType ts (array vs)) → T (allItems (hasType (itemsTypes ts)) vs)
@@ -215,7 +217,7 @@ scaled false k = sym (mul-zero k)
 typeBits-digits : (ts : Types) → typeBits ts ≡ digits (isIn ts) allTypes
 unfolding digits
 typeBits-digits ts =
-    omega (arith, scaled (isIn ts Ty.boolean) 2, scaled (isIn ts Ty.integer) 4, scaled (isIn ts Ty.string) 8, scaled (isIn ts Ty.date) 16, scaled (isIn ts Ty.day) 32, scaled (isIn ts Ty.integers) 64, scaled (isIn ts Ty.strings) 128, scaled (isIn ts Ty.array) 256, scaled (isIn ts Ty.object) 512, scaled (isIn ts Ty.instant) 1024)
+    omega (arith, scaled (isIn ts Ty.Boolean) 2, scaled (isIn ts Ty.Integer) 4, scaled (isIn ts Ty.String) 8, scaled (isIn ts Ty.Date) 16, scaled (isIn ts Ty.Day) 32, scaled (isIn ts Ty.Integers) 64, scaled (isIn ts Ty.Strings) 128, scaled (isIn ts Ty.Array) 256, scaled (isIn ts Ty.Object) 512, scaled (isIn ts Ty.Instant) 1024)
 
 -- `|` on the lowest digits.
 or-digits : (m n : ℕ) (a b : Bool) → bitOr (m * 2 + cond a 1 0) (n * 2 + cond b 1 0) ≡ bitOr m n * 2 + cond (a || b) 1 0

@@ -1,13 +1,11 @@
--- Holds: the operands of a rule, one by one; the rule that a table holds.
-use mathlib.Core.Bool.{true}
-use mathlib.Core.Option.{Option, none, some}
+-- Holds: the operands of a rule, one by one; a handle holds one rule.
+use mathlib.Core.Option.{some}
 use mathlib.Core.Path.{_≡_, refl, sym, ap, _∙_}
 use Prim.Native.Nat.{ℕ, suc, _-_, _≤_}
 use native.Mathlib.Omega.{arith}
 use Rattle.model.specs.Bytes.{Bytes}
 use Rattle.model.specs.Laws.Logic.{clash}
 use Rattle.model.specs.Laws.Option.{bind-some}
-use Rattle.model.specs.Limits.{maxNesting}
 use Rattle.model.specs.Rule.{Rule, Rules, no-rules, rule}
 use Rattle.model.specs.Shape.{shape, rulesOf, operandsOf}
 use Rattle.model.specs.Size.{itemsNesting}
@@ -16,19 +14,18 @@ use Rattle.syntax.specs.Layout.{itemCount}
 use Rattle.heap.specs.declared.handle.Handle.{Handle}
 use Rattle.heap.specs.declared.handle.Handle.the-variants.{Compound}
 use Rattle.heap.specs.declared.handle.Parts.{Parts}
-use Rattle.heap.specs.Handles.{rowHandle}
 use Rattle.heap.specs.Means.{Means, means-items, means-list, row-item}
 use Rattle.heap.specs.Parts.{headOf, tailOf}
 use Rattle.heap.specs.Laws.Means as MeansLaws
-use Rattle.rule.specs.Check.{Readable, Checks}
-use Rattle.rule.specs.Holds.{ruleAreas, Holds, HoldsAll, ruleCount}
+use Rattle.heap.specs.Unfold.{readAreas}
+use Rattle.rule.specs.Holds.{Holds, HoldsAll, ruleCount}
 
 -- ---- the items of an array, which lie in rows: no cells are looked at
 pub record Items (T B C : Bytes) (v : Value) (vs : Values) (p : Parts) : Type 0 where
-  pub head : Means (ruleAreas T B) 0 v (headOf T C p)
-  pub rest : Means (ruleAreas T B) 0 (array vs) (Compound (tailOf T C p))
+  pub head : Means (readAreas T B) 0 v (headOf T C p)
+  pub rest : Means (readAreas T B) 0 (array vs) (Compound (tailOf T C p))
 
-pub items : {T B : Bytes} {v : Value} {vs : Values} {p : Parts} (C : Bytes) → Means (ruleAreas T B) 0 (array (item v vs)) (Compound p) → Items T B C v vs p
+pub items : {T B : Bytes} {v : Value} {vs : Values} {p : Parts} (C : Bytes) → Means (readAreas T B) 0 (array (item v vs)) (Compound p) → Items T B C v vs p
 unfolding itemCount
 items {vs = vs} C (means-items {count = count} e f (row-item b t m r)) = record { head = m; rest = means-items {vs = vs} {count = count - 1} (omega arith) (omega arith) r }
 items C (means-list e b r) = absurd (omega arith)
@@ -51,7 +48,7 @@ module _ {T B : Bytes} {deep : ℕ} {p : Parts} {r : Rule} {rs : Rules} where
   unfolding operandsOf itemsNesting
   holds-head C h = go (h .values) (h .means) (h .shaped) (h .nests)
     where
-      go : (vs : Values) → Means (ruleAreas T B) 0 (array vs) (Compound p) → rulesOf (operandsOf vs) ≡ some (rule r rs) → itemsNesting vs ≤ deep → Holds T B deep (headOf T C p) r
+      go : (vs : Values) → Means (readAreas T B) 0 (array vs) (Compound p) → rulesOf (operandsOf vs) ≡ some (rule r rs) → itemsNesting vs ≤ deep → Holds T B deep (headOf T C p) r
       go no-items m e n = clash cc
       go (item v vs) m e n = bind-some (shape v) _ e λ x f g. bind-some (rulesOf (operandsOf vs)) _ g λ xs k l. record {
         value = v;
@@ -64,7 +61,7 @@ module _ {T B : Bytes} {deep : ℕ} {p : Parts} {r : Rule} {rs : Rules} where
   unfolding operandsOf itemsNesting
   holds-tail C h = go (h .values) (h .means) (h .shaped) (h .nests)
     where
-      go : (vs : Values) → Means (ruleAreas T B) 0 (array vs) (Compound p) → rulesOf (operandsOf vs) ≡ some (rule r rs) → itemsNesting vs ≤ deep → HoldsAll T B deep (tailOf T C p) rs
+      go : (vs : Values) → Means (readAreas T B) 0 (array vs) (Compound p) → rulesOf (operandsOf vs) ≡ some (rule r rs) → itemsNesting vs ≤ deep → HoldsAll T B deep (tailOf T C p) rs
       go no-items m e n = clash cc
       go (item v vs) m e n = bind-some (shape v) _ e λ x f g. bind-some (rulesOf (operandsOf vs)) _ g λ xs k l. record {
         values = vs;
@@ -79,20 +76,3 @@ pub holds-one : {T B : Bytes} {deep deep′ : ℕ} {h : Handle} {ρ ρ′ : Rule
 holds-one x y =
     let e : some _ ≡ some _ = sym (x .shaped) ∙ ap shape (MeansLaws.one (x .means) (y .means)) ∙ y .shaped in
     cc
-
--- What reads and passes the shape check is a rule.
-pub record HoldsRule (T B : Bytes) : Type 0 where
-  pub held : Rule
-  pub holds : Holds T B maxNesting (rowHandle T 0) held
-  pub shaped : (v : Value) → Means (ruleAreas T B) 0 v (rowHandle T 0) → shape v ≡ some held
-
-pub holds-rule : {T B : Bytes} → Readable T B → Checks T B true → HoldsRule T B
-holds-rule {T} {B} d c = go (shape (d .value)) refl
-  where
-    go : (o : Option Rule) → shape (d .value) ≡ o → HoldsRule T B
-    go none e = let x = c .is (d .value) (d .means) in clash cc
-    go (some ρ) e = record {
-      held = ρ;
-      holds = record { value = d .value; means = d .means; shaped = e; nests = d .nests };
-      shaped = λ v m. ap shape (MeansLaws.one m (d .means)) ∙ e;
-    }

@@ -1,11 +1,14 @@
 //! The order of the refusals, the numbers and the areas.
 
 use super::{Slip, Wrong};
-use crate::compare::Evaluator;
-use evaluator::entry::{Parameters, MAX_LIMIT, RECORD, RULE, WORK_AREAS};
+use crate::compare::Implementation;
+use evaluator::entry::{Entry, Parameters, EVALUATE, MAX_LIMIT};
 use reader::{Fault, Form};
 use writer::areas::Areas;
 use writer::value::Value;
+
+const RULE: u64 = 1;
+const RECORD: u64 = 3;
 
 /// What comes back, and the read forms that were made.
 #[derive(Default)]
@@ -26,9 +29,14 @@ fn value(form: &Form) -> Value {
         .expect("a read text is no larger")
 }
 
-impl Evaluator for Wrong {
-    fn evaluate(&mut self, parameters: Parameters) -> u32 {
-        let Parameters { rule, record, limit, work, output, which, place, steps, length } = parameters;
+impl Implementation for Wrong {
+    fn call(&mut self, _entry: &Entry, parameters: Parameters) -> u32 {
+        let Parameters { texts, limit, areas: mut work, numbers } = parameters;
+        let (rule, record) = (texts[0], texts[1]);
+        let output = work.pop().expect("the output");
+        let mut numbers = numbers.into_iter();
+        let mut next = || numbers.next().expect("a number");
+        let (which, place, steps, length) = (next(), next(), next(), next());
         let limit = if self.is(Slip::LimitOf32Bits) { limit & 0xffff_ffff } else { limit };
         let reads = reader::judge(rule).is_ok() && reader::judge(record).is_ok();
         if self.is_refused(&work, output.len(), limit) && (reads || !self.is(Slip::SizesAfterReading)) {
@@ -72,7 +80,7 @@ impl Evaluator for Wrong {
 
 impl Wrong {
     /// Whether sizes and limit are refused.
-    fn is_refused(&self, work: &[&mut [u8]; 5], room: usize, limit: u64) -> bool {
+    fn is_refused(&self, work: &[&mut [u8]], room: usize, limit: u64) -> bool {
         let short = [
             Slip::RuleTableShort,
             Slip::RuleStringsShort,
@@ -80,7 +88,7 @@ impl Wrong {
             Slip::RecordStringsShort,
             Slip::CellsShort,
         ];
-        let least = |at: usize| WORK_AREAS[at].1 - usize::from(self.is(short[at]));
+        let least = |at: usize| EVALUATE.stated[at] - usize::from(self.is(short[at]));
         let most = match self.slip {
             Slip::LimitOneMore => MAX_LIMIT + 1,
             Slip::LimitOneLess => MAX_LIMIT - 1,
@@ -143,7 +151,7 @@ impl Wrong {
     }
 
     /// Leaves the areas behind.
-    fn leave(&self, outcome: Outcome, work: [&mut [u8]; 5], output: &mut [u8]) {
+    fn leave(&self, outcome: Outcome, work: Vec<&mut [u8]>, output: &mut [u8]) {
         let Outcome { refusal, which, rule, record, text, .. } = outcome;
         let (rule, record) = if self.is(Slip::AreasSwapped) { (record, rule) } else { (rule, record) };
         let late = refusal >= 7;
@@ -171,7 +179,7 @@ impl Wrong {
             if is_left {
                 continue;
             }
-            let end = if self.is(Slip::TailLeft) { area.len().min(WORK_AREAS[at].1) } else { area.len() };
+            let end = if self.is(Slip::TailLeft) { area.len().min(EVALUATE.stated[at]) } else { area.len() };
             front.truncate(if stays { area.len() } else { 0 });
             area[..front.len()].copy_from_slice(&front);
             area[front.len()..end].fill(0);

@@ -38,9 +38,9 @@ use Rattle.eval.proofs.run.+body+eval+eval_all+eval_and+eval_apply+eval
 use Rattle.eval.proofs.run.fold.Reads as fold
 use Rattle.eval.proofs.run.fold.Kinds as fold-kinds
 use Rattle.eval.proofs.run.+body+eval+eval_all+eval_and+eval_apply+eval_if+eval_reduce+fold.Lts-fold as fold-lts
-use Rattle.eval.proofs.ended.operated.Reads as operated-reads
-use Rattle.eval.proofs.operate.list.Reads as list-reads
-use Rattle.eval.proofs.operate.operate.Reads as operate-reads
+use Rattle.operate.proofs.ended.operated.Reads as operated-reads
+use Rattle.operate.proofs.list.Reads as list-reads
+use Rattle.operate.proofs.operate.Reads as operate-reads
 use Rattle.eval.proofs.run.branch.Reads as branch-reads
 use Rattle.eval.proofs.run.elements_of.Reads as elements-of-reads
 use Rattle.heap.proofs.cell.put.Reads as put-reads

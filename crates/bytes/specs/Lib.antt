@@ -1,0 +1,2 @@
+-- What the private functions of this crate do.
+pub mod Inner

@@ -1,0 +1,2 @@
+-- The dates that a day number is asked of.
+pub mod Contract

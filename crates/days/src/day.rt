@@ -1,0 +1,90 @@
+// Days and dates. A day is counted from 0000-01-01.
+use crate::month::month_days;
+use model::Date;
+ghost use mathlib.Core.Path.{_≡_};
+ghost use Prim.Native.Nat.{_+_, _-_, _<_, _≤_};
+ghost use Rattle.model.specs.Calendar.{isValid, months, sumFirst, yearDays, yearStart, dayNumber, dateOfDay};
+ghost use Rattle.days.specs.Contract.{WithinYears};
+
+pub const MS_PER_DAY: u64 = 86400000;
+
+// Whether there is such a date.
+pub fn is_valid(date: Date) -> bool
+    ensures { λ r. ⌜ r ≡ isValid date ⌝ }
+{
+    let month = date.month;
+    let day = date.day;
+    if month < 1 {
+        return false;
+    }
+    if month > 12 {
+        return false;
+    }
+    if day < 1 {
+        return false;
+    }
+    day <= month_days(date.year, month)
+}
+
+// The days of all years before a year: 365 each, and one more for each leap year.
+fn year_start(year: u64) -> u64
+    requires { ⌜ year ≤ 10000000000 ⌝ }
+    ensures { λ r. ⌜ r ≡ yearStart year ⌝ }
+{
+    365 * year + (year + 3) / 4 + (year + 399) / 400 - (year + 99) / 100
+}
+
+// The days of a year's months before a month.
+fn months_before(year: u64, month: u64) -> u64
+    requires { ⌜ (1 ≤ month) × (month ≤ 12) ⌝ }
+    ensures { λ r. ⌜ (r ≡ sumFirst (month - 1) (months year)) × (r ≤ 372) ⌝ }
+{
+    let mut sum: u64 = 0;
+    let mut m: u64 = 1;
+    while m < month {
+        sum += month_days(year, m);
+        m += 1;
+    }
+    sum
+}
+
+// The day of a date.
+pub fn day_number(date: Date) -> u64
+    requires { ⌜ WithinYears date ⌝ }
+    ensures { λ r. ⌜ (r ≡ dayNumber date) × (r ≤ 3652424) ⌝ }
+{
+    year_start(date.year) + months_before(date.year, date.month) + (date.day - 1)
+}
+
+// The date of day n of a year, from 0: months are taken off.
+fn date_in_year(year: u64, n: u64) -> Date
+    requires { ⌜ n < yearDays year ⌝ }
+    ensures { λ r. ⌜ r ≡ dateOfDay (yearStart year + n) ⌝ }
+{
+    let mut month: u64 = 1;
+    let mut left = n;
+    loop {
+        let days = month_days(year, month);
+        if left < days {
+            return Date {
+                year,
+                month,
+                day: left + 1,
+            };
+        }
+        left -= days;
+        month += 1;
+    }
+}
+
+// The date of a day. No year has more than 366 days, so that the year is n / 366 or a later one.
+pub fn date_of_day(n: u64) -> Date
+    requires { ⌜ n ≤ 1000000000000 ⌝ }
+    ensures { λ r. ⌜ r ≡ dateOfDay n ⌝ }
+{
+    let mut year = n / 366;
+    while year_start(year + 1) <= n {
+        year += 1;
+    }
+    date_in_year(year, n - year_start(year))
+}

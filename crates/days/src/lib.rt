@@ -1,0 +1,3 @@
+// The months' lengths; days and dates.
+pub mod day;
+pub mod month;

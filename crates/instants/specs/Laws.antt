@@ -1,0 +1,2 @@
+-- Laws: what is proved of shifts. Main restates the theorems.
+pub mod Shift

@@ -1,0 +1,142 @@
+-- CheckedJudging: the stages of evaluation under a sheet, one after the other.
+use mathlib.Core.Bool.{Bool}
+use mathlib.Core.List.{[]}
+use mathlib.Core.Path.{_≡_, refl, sym, ap, _∙_}
+use Prim.Native.Nat.{ℕ}
+use lib.ListN.{length, replicate}
+use Rattle.model.specs.Bytes.{Bytes}
+use Rattle.model.specs.Judgement.{Judged, done, refuses, judgedNumber, ruleIn, sheetIn, answerOf}
+use Rattle.model.specs.Sheet.{fits}
+use Rattle.model.specs.Types.{typeBits}
+use Rattle.model.specs.Value.{Value}
+use Rattle.syntax.specs.Output.{writtenSize, writtenOutput}
+use Rattle.eval.specs.declared.Answer as evaluating
+use Rattle.eval.specs.Evaluate.{Ready, Evaluates}
+use Rattle.sheet.specs.Contract.{Fits}
+use Rattle.stages.specs.declared.check.Checked.{Checked}
+use Rattle.stages.specs.declared.text.Stop as stages
+use Rattle.stages.specs.Areas.{TextAreas, textAreas, holding}
+use Rattle.stages.specs.Contract.{stopOf, leftAfter, wordsOf, Reads, ChecksTexts}
+use Rattle.stages.specs.Laws.{number-some, Passed, Stopped, CheckHeld, check-held, TextHeld, text-held, record-held, left-holding, left-sheet, left-means}
+use Rattle.stages.specs.Stage.{Stage, passed, refused, ruleText, sheetText, recordText, readAs}
+use Rattle.stages.specs.Texts.{TextsChecked, checkStage, CheckedTextsRead, evaluateCheckedStage}
+use Rattle.jehvrukam.specs.declared.evaluate_checked.CheckedOutcome.{CheckedOutcome}
+use Rattle.jehvrukam.specs.Contract.{checkedAreasOf, checkedNumbersOf}
+use Rattle.jehvrukam.specs.Entry.{Entry, WorkAreas, workAreas}
+use Rattle.jehvrukam.specs.EvaluateChecked.{CheckedAreas, CheckedNumbers, checkedZeros, checkedAnswered, evaluateCheckedAnswer}
+use Rattle.jehvrukam.specs.Fits.{yesOrNo}
+use Rattle.jehvrukam.specs.Inner.{Judges, Runs, checkedTold, checkedUnrun}
+use Rattle.jehvrukam.proofs.Settling.{AsLong, same-long, long-text, long-work}
+use Rattle.jehvrukam.proofs.Stopping.{passes-stage, stops}
+use Rattle.jehvrukam.proofs.Running.{Texts, ready, refusal-is, steps-are, size-is, output-is, cells-are}
+
+abbrev parts : TextAreas → TextAreas → TextAreas → WorkAreas → CheckedAreas
+parts t s r c = record { rule = t; sheet = s; «record» = r; work = c }
+
+as-long : {T A S Z R B C O T′ A′ S′ Z′ R′ B′ C′ O′ : Bytes} → AsLong T A T′ A′ → AsLong S Z S′ Z′ → AsLong R B R′ B′ → AsLong C O C′ O′
+    → checkedZeros (checkedAreasOf T′ A′ S′ Z′ R′ B′ C′ O′) ≡ checkedZeros (checkedAreasOf T A S Z R B C O)
+as-long t s r c = λ i. parts (long-text t i) (long-text s i) (long-text r i) (long-work c i)
+
+all-read : (rule sheet d : Bytes) (t : TextsChecked) (v : Value) → checkStage rule sheet ≡ passed t → readAs recordText d ≡ passed v → evaluateCheckedStage rule sheet d ≡ passed (record { checked = t; «record» = v })
+all-read rule sheet d t v e f = rw (e, f)
+
+module _ (rule sheet d : Bytes) (limit : ℕ) (T A S Z R B C O : Bytes) {T′ A′ S′ Z′ : Bytes} {c : Checked}
+    (h : ChecksTexts rule sheet (textAreas T A) (textAreas S Z) c (textAreas T′ A′) (textAreas S′ Z′)) (l : AsLong T A T′ A′) (m : AsLong S Z S′ Z′) where
+  abbrev lent : CheckedAreas
+  lent = checkedAreasOf T A S Z R B C O
+
+  abbrev Whole : Entry CheckedNumbers CheckedAreas
+  Whole = evaluateCheckedAnswer lent limit (evaluateCheckedStage rule sheet d)
+
+  stopping : {X : Type 0} (x : Stage X) (y : Stage CheckedTextsRead) {q : stages.Stop} {a′ : CheckedAreas} → ((p : Stopped x) → y ≡ refused (p .refusal) (p .which) (p .place)) → q ≡ stopOf x → (q .refusal ≡ 0 → ⊥) → checkedZeros a′ ≡ checkedZeros lent
+      → Judges checkedZeros (evaluateCheckedAnswer lent limit y) lent (q .refusal) (checkedNumbersOf (q .which) (q .place) 0 0 0 0) a′
+  stopping = stops checkedZeros (evaluateCheckedAnswer lent limit) lent (λ w p. checkedNumbersOf w p 0 0 0 0) (λ e w p. refl) (λ e w p. refl)
+
+  pub check-stops : {o : CheckedOutcome} → (c .stop .refusal ≡ 0 → ⊥) → o ≡ checkedUnrun (c .stop) → Judges checkedZeros Whole lent (o .refusal) (checkedTold o) (checkedAreasOf T′ A′ S′ Z′ R B C O)
+  check-stops n e = rw e (stopping (checkStage rule sheet) (evaluateCheckedStage rule sheet d) (λ p. rw (p .is)) (h .stop) n (as-long l m (same-long R B) (same-long C O)))
+
+  module _ (zero : c .stop .refusal ≡ 0) {R′ B′ : Bytes} {q : stages.Stop} (g : Reads recordText d (textAreas R B) q (textAreas R′ B′)) (k : AsLong R B R′ B′) where
+    pub check-passes : Passed (checkStage rule sheet)
+    check-passes = passes-stage (checkStage rule sheet) (h .stop) zero
+
+    pub record-stops : {o : CheckedOutcome} → (q .refusal ≡ 0 → ⊥) → o ≡ checkedUnrun q → Judges checkedZeros Whole lent (o .refusal) (checkedTold o) (checkedAreasOf T′ A′ S′ Z′ R′ B′ C O)
+    record-stops n e = rw e (stopping (readAs recordText d) (evaluateCheckedStage rule sheet d) (λ p. rw (check-passes .is, p .is)) (g .stop) n (as-long l m k (same-long C O)))
+
+    module _ (zero₂ : q .refusal ≡ 0) where
+      pub record-passes : Passed (readAs recordText d)
+      record-passes = passes-stage (readAs recordText d) (g .stop) zero₂
+
+      abbrev checked : TextsChecked
+      checked = check-passes .result
+
+      abbrev value : Value
+      value = record-passes .result
+
+      held : CheckHeld rule sheet checked
+      held = check-held rule sheet checked (check-passes .is)
+
+      rule-text-held : TextHeld ruleIn rule (checked .rule)
+      rule-text-held = text-held ruleText ruleIn rule (checked .rule) (held .rule-passes)
+
+      sheet-text-held : TextHeld sheetIn sheet (checked .sheet)
+      sheet-text-held = text-held sheetText sheetIn sheet (checked .sheet) (held .sheet-passes)
+
+      sheet-left : textAreas S′ Z′ ≡ leftAfter (passed (checked .rule)) sheet (textAreas S Z)
+      sheet-left = h .sheet-areas ∙ ap (λ y. leftAfter y sheet (textAreas S Z)) (held .rule-passes)
+
+      pub texts : Texts rule d (checked .rule) value T A R B T′ A′ R′ B′
+      texts = record { rule = rule-text-held; rule-left = h .rule-areas; reads = record-held d value (record-passes .is); record-left = g .areas }
+
+      pub run-ready : Runs limit C → Ready T′ A′ R′ B′ C limit
+      run-ready u = ready texts u
+
+      fit-is : {f : Bool} → Fits S′ Z′ R′ B′ f → f ≡ fits (checked .sheet .content) value
+      fit-is w =
+          w .is (checked .sheet .content) value
+          (left-sheet sheet (checked .sheet) S Z S′ Z′ sheet-text-held sheet-left)
+          (left-means d value R B R′ B′ (record-held d value (record-passes .is)) (g .areas) [] [])
+
+      words-are : c .words ≡ typeBits (checked .types)
+      words-are = h .words ∙ ap wordsOf (check-passes .is)
+
+      -- By what evaluation comes to.
+      abbrev all-texts : CheckedTextsRead
+      all-texts = record { checked = checked; «record» = value }
+
+      refusals : (j : Judged Bytes) (n : ℕ) → judgedNumber j ≡ checkedAnswered lent all-texts j n .refusal
+      refusals (done x) n = refl
+      refusals (refuses e) n = refl
+
+      numbers : (j : Judged Bytes) (n : ℕ) → checkedNumbersOf 0 0 (typeBits (checked .types)) (yesOrNo (fits (checked .sheet .content) value)) n (writtenSize j) ≡ checkedAnswered lent all-texts j n .numbers
+      numbers (done x) n = refl
+      numbers (refuses e) n = refl
+
+      areas : (j : Judged Bytes) (n : ℕ) → judgedNumber j ≡ 0
+          → parts (holding (checked .rule .value) (textAreas T A)) (holding (checked .sheet .value) (textAreas S Z)) (holding value (textAreas R B)) (workAreas (replicate (length C) 0) (writtenOutput j (length O))) ≡ checkedAnswered lent all-texts j n .areas
+      areas (done x) n e = refl
+      areas (refuses e) n f = absurd (number-some e f)
+
+      module _ (u : Runs limit C) {f : Bool} (w : Fits S′ Z′ R′ B′ f) {C′ O′ : Bytes} {e : evaluating.Answer} (v : Evaluates T′ A′ R′ B′ C limit O e C′ O′) where
+        pub judged : AsLong C O C′ O′ → Judges checkedZeros Whole lent (e .refusal) (checkedNumbersOf 0 0 (c .words) (yesOrNo f) (e .steps) (e .size)) (checkedAreasOf T′ A′ S′ Z′ R′ B′ C′ O′)
+        judged long = record {
+          refusal = refusal-is texts u v ∙ refusals result begun ∙ sym (ap (λ (y : Stage CheckedTextsRead). evaluateCheckedAnswer lent limit y .refusal) stage-is);
+          numbers = (λ i. checkedNumbersOf 0 0 (words-are i) (yesOrNo (fit-is w i)) (steps-are texts u v i) (size-is texts u v i)) ∙ numbers result begun ∙ sym (ap (λ (y : Stage CheckedTextsRead). evaluateCheckedAnswer lent limit y .numbers) stage-is);
+          areas = λ z. areas-left ∙ areas result begun (sym (refusal-is texts u v) ∙ z) ∙ sym (ap (λ (y : Stage CheckedTextsRead). evaluateCheckedAnswer lent limit y .areas) stage-is);
+          sizes = as-long l m k long;
+        }
+          where
+            result : Judged Bytes
+            result = answerOf (checked .rule .content) value limit (length O) .result
+
+            begun : ℕ
+            begun = answerOf (checked .rule .content) value limit (length O) .stepsBegun
+
+            stage-is : evaluateCheckedStage rule sheet d ≡ passed (record { checked = checked; «record» = value })
+            stage-is = all-read rule sheet d checked value (check-passes .is) (record-passes .is)
+
+            areas-left : checkedAreasOf T′ A′ S′ Z′ R′ B′ C′ O′ ≡ parts (holding (checked .rule .value) (textAreas T A)) (holding (checked .sheet .value) (textAreas S Z)) (holding value (textAreas R B)) (workAreas (replicate (length C) 0) (writtenOutput (answerOf (checked .rule .content) value limit (length O) .result) (length O)))
+            areas-left = λ i. parts
+                ((h .rule-areas ∙ left-holding rule (checked .rule .value) (textAreas T A) (rule-text-held .reads)) i)
+                ((sheet-left ∙ left-holding sheet (checked .sheet .value) (textAreas S Z) (sheet-text-held .reads)) i)
+                ((g .areas ∙ left-holding d value (textAreas R B) (record-held d value (record-passes .is))) i)
+                (workAreas (cells-are texts u v i) (output-is texts u v i))

@@ -1,0 +1,77 @@
+-- Running: evaluation on a rule and a record that were read.
+use mathlib.Core.Bool.{false}
+use mathlib.Core.Path.{_≡_, ap}
+use Prim.Native.Nat.{ℕ, _*_, _/_, _≤_}
+use native.Mathlib.Omega.{arith}
+use borrow.Author.Tests.{ltb-false}
+use lib.Dec.{ltb}
+use lib.ListN.{length, replicate}
+use Rattle.model.specs.Bytes.{Bytes}
+use Rattle.model.specs.Judgement.{Judged, judgedNumber, ruleIn, answerOf}
+use Rattle.model.specs.Limits.{maxSteps, heapCells}
+use Rattle.model.specs.Rule.{Rule}
+use Rattle.model.specs.Value.{Value}
+use Rattle.syntax.specs.Output.{writtenSize, writtenOutput}
+use Rattle.syntax.specs.Read as readings
+use Rattle.syntax.specs.Read.{read}
+use Rattle.heap.specs.Cells.{cellBytes}
+use Rattle.eval.specs.declared.Answer as evaluating
+use Rattle.eval.specs.Evaluate.{Ready, Evaluation, evaluation, evaluated, Evaluates}
+use Rattle.stages.specs.Areas.{textAreas, leftBy}
+use Rattle.stages.specs.Laws.{TextHeld, left-rule, left-means}
+use Rattle.stages.specs.Texts.{TextRead}
+use Rattle.jehvrukam.specs.Inner.{Runs}
+use Rattle.jehvrukam.proofs.Settling.{neither}
+
+-- ---- limit and cells
+module _ {limit : ℕ} {C : Bytes} (r : Runs limit C) where
+  limit-fits : limit ≤ maxSteps
+  limit-fits = ltb-false maxSteps limit (neither (ltb maxSteps limit) _ (r .runs) .0)
+
+  cells-long : heapCells ≤ length C / cellBytes
+  unfolding heapCells cellBytes
+  cells-long = enough (length C) (ltb-false (length C) (heapCells * cellBytes) (neither (ltb maxSteps limit) _ (r .runs) .1))
+    where
+      enough : (n : ℕ) → 32768 ≤ n → 4096 ≤ n / 8
+      enough n l = omega arith
+
+-- ---- the areas hold a rule and a record
+pub record Texts (s d : Bytes) (x : TextRead Rule) (v : Value) (T A R B T′ A′ R′ B′ : Bytes) : Type 0 where
+  pub rule : TextHeld ruleIn s x
+  pub rule-left : textAreas T′ A′ ≡ leftBy s (textAreas T A)
+  pub reads : read d ≡ readings.done v
+  pub record-left : textAreas R′ B′ ≡ leftBy d (textAreas R B)
+
+module _ {s d : Bytes} {x : TextRead Rule} {v : Value} {T A R B T′ A′ R′ B′ C : Bytes} {limit : ℕ} (t : Texts s d x v T A R B T′ A′ R′ B′) (r : Runs limit C) where
+  pub ready : Ready T′ A′ R′ B′ C limit
+  ready = record {
+    rule = x .content;
+    holds = left-rule s x T A T′ A′ (t .rule) (t .rule-left);
+    value = v;
+    means = left-means d v R B R′ B′ (t .reads) (t .record-left) A′ C;
+    limited = limit-fits r;
+    enough = cells-long r;
+  }
+
+  -- What evaluation comes to, 11 and 12 included.
+  module _ {O C′ O′ : Bytes} {e : evaluating.Answer} (h : Evaluates T′ A′ R′ B′ C limit O e C′ O′) where
+    abbrev result : Judged Bytes
+    result = answerOf (x .content) v limit (length O) .result
+
+    is : evaluated e C′ O′ ≡ evaluation (x .content) v limit (length C) (length O)
+    is = h .is (x .content) v (left-rule s x T A T′ A′ (t .rule) (t .rule-left)) (left-means d v R B R′ B′ (t .reads) (t .record-left) A′ C)
+
+    pub refusal-is : e .refusal ≡ judgedNumber result
+    refusal-is = ap (λ (y : Evaluation). y .written .refusal) is
+
+    pub steps-are : e .steps ≡ answerOf (x .content) v limit (length O) .stepsBegun
+    steps-are = ap (λ (y : Evaluation). y .steps) is
+
+    pub size-is : e .size ≡ writtenSize result
+    size-is = ap (λ (y : Evaluation). y .written .size) is
+
+    pub output-is : O′ ≡ writtenOutput result (length O)
+    output-is = ap (λ (y : Evaluation). y .written .output) is
+
+    pub cells-are : C′ ≡ replicate (length C) 0
+    cells-are = ap (λ (y : Evaluation). y .cells) is

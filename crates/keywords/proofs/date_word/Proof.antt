@@ -1,0 +1,80 @@
+use borrow.Author.Needs.{needs}
+use Rattle.keywords.proofs.date_word.Statement.{statement}
+use Rattle.keywords.proofs.date_word.Tie as tie
+
+slice-aggregate-same : tie.Need-slice-aggregate-same
+slice-aggregate-same c = search needs
+
+same-requires : tie.Need-same-requires
+same-requires c κs = search needs
+
+compare-requires : tie.Need-compare-requires
+compare-requires c κs = search needs
+
+returns : tie.Need-returns
+returns c = rw (c .compare .ensures, ← c .before .before .same .ensures, c .before .if1 .taken)
+
+slice-aggregate-same-2 : tie.Need-slice-aggregate-same-2
+slice-aggregate-same-2 c = search needs
+
+same-requires-2 : tie.Need-same-requires-2
+same-requires-2 c κs = search needs
+
+compare-requires-2 : tie.Need-compare-requires-2
+compare-requires-2 c κs = search needs
+
+returns-2 : tie.Need-returns-2
+returns-2 c = rw (c .compare2 .ensures, ← c .before .before .before .before .before .same .ensures, c .before .before .before .before .if1 .left, ← c .before .before .same2 .ensures, c .before .if2 .taken)
+
+slice-aggregate-same-3 : tie.Need-slice-aggregate-same-3
+slice-aggregate-same-3 c = search needs
+
+same-requires-3 : tie.Need-same-requires-3
+same-requires-3 c κs = search needs
+
+compare-requires-3 : tie.Need-compare-requires-3
+compare-requires-3 c κs = search needs
+
+returns-3 : tie.Need-returns-3
+returns-3 c = rw (c .compare3 .ensures, ← c .before .before .before .before .before .before .before .before .same .ensures, c .before .before .before .before .before .before .before .if1 .left, ← c .before .before .before .before .before .same2 .ensures, c .before .before .before .before .if2 .left, ← c .before .before .same3 .ensures, c .before .if3 .taken)
+
+slice-aggregate-same-4 : tie.Need-slice-aggregate-same-4
+slice-aggregate-same-4 c = search needs
+
+same-requires-4 : tie.Need-same-requires-4
+same-requires-4 c κs = search needs
+
+compare-requires-4 : tie.Need-compare-requires-4
+compare-requires-4 c κs = search needs
+
+returns-4 : tie.Need-returns-4
+returns-4 c = rw (c .compare4 .ensures, ← c .before .before .before .before .before .before .before .before .before .before .before .same .ensures, c .before .before .before .before .before .before .before .before .before .before .if1 .left, ← c .before .before .before .before .before .before .before .before .same2 .ensures, c .before .before .before .before .before .before .before .if2 .left, ← c .before .before .before .before .before .same3 .ensures, c .before .before .before .before .if3 .left, ← c .before .before .same4 .ensures, c .before .if4 .taken)
+
+on-one-rule-requires : tie.Need-on-one-rule-requires
+on-one-rule-requires c κs = search needs
+
+returns-5 : tie.Need-returns-5
+returns-5 c = rw (c .on-one-rule .ensures, ← c .before .before .before .before .before .before .before .before .before .before .before .same .ensures, c .before .before .before .before .before .before .before .before .before .before .if1 .left, ← c .before .before .before .before .before .before .before .before .same2 .ensures, c .before .before .before .before .before .before .before .if2 .left, ← c .before .before .before .before .before .same3 .ensures, c .before .before .before .before .if3 .left, ← c .before .before .same4 .ensures, c .before .if4 .left)
+
+pub date-word-spec : {M : Type 1} → statement M
+date-word-spec =
+    tie.close
+    (tie.spec
+    slice-aggregate-same
+    same-requires
+    compare-requires
+    returns
+    slice-aggregate-same-2
+    same-requires-2
+    compare-requires-2
+    returns-2
+    slice-aggregate-same-3
+    same-requires-3
+    compare-requires-3
+    returns-3
+    slice-aggregate-same-4
+    same-requires-4
+    compare-requires-4
+    returns-4
+    on-one-rule-requires
+    returns-5)

@@ -1,0 +1,3 @@
+-- The kind check of a rule and a sheet where they were read.
+pub mod Contract
+pub mod Inner

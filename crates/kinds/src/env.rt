@@ -1,0 +1,69 @@
+// Where a rule stands, and the types of a variable there.
+use bytes::same;
+use model::Ty;
+use sheet::listed::types_for;
+use types::set::TypeSet;
+use types::set::any_value;
+use types::set::only;
+ghost use mathlib.Core.Path.{_≡_};
+ghost use Rattle.kinds.specs.Contract.{VarTypes};
+ghost use Rattle.kinds.specs.Inner.{fragmentLength, partBy, lambdaBy};
+
+// Outside every lambda, or in one: the types of `current`, and of `accumulator`.
+pub enum Env {
+    Outside,
+    Lambda(TypeSet, TypeSet),
+}
+
+// Where the first fragment of a path ends.
+fn fragment_end(path: &[u8]) -> usize
+    ensures { λ r. ⌜ r ≡ fragmentLength (now (path .entry)) ⌝ }
+{
+    let mut end: usize = 0;
+    while end < path.len() {
+        if path[end] == b'.' {
+            return end;
+        }
+        end = end + 1;
+    }
+    end
+}
+
+// "`current` and `accumulator` have their sets"; "a longer path from either has those six and instant".
+fn part_types(whole: bool, s: TypeSet) -> TypeSet
+    ensures { λ r. ⌜ r ≡ partBy whole s ⌝ }
+{
+    if whole {
+        return s;
+    }
+    any_value()
+}
+
+// "the empty path is object"; "any other is null"
+fn lambda_types(path: &[u8], current: TypeSet, accumulator: TypeSet) -> TypeSet
+    ensures { λ r. ⌜ r ≡ lambdaBy (now (path .entry)) current accumulator ⌝ }
+{
+    let n = path.len();
+    if n == 0 {
+        return only(Ty::Object);
+    }
+    let end = fragment_end(path);
+    let first = &path[..end];
+    if same(first, b"current") {
+        return part_types(end == n, current);
+    }
+    if same(first, b"accumulator") {
+        return part_types(end == n, accumulator);
+    }
+    only(Ty::Null)
+}
+
+// The types of the variable at a path. The sheet is in its table and strings (`names`).
+pub fn var_types(sheet: &[u8], names: &[u8], path: &[u8], env: Env) -> TypeSet
+    ensures { λ r. ⌜ VarTypes (now (sheet .entry)) (now (names .entry)) (now (path .entry)) env r ⌝ }
+{
+    match env {
+        Env::Outside => types_for(sheet, names, path),
+        Env::Lambda(current, accumulator) => lambda_types(path, current, accumulator),
+    }
+}

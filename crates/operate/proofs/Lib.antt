@@ -1,0 +1,3 @@
+-- Laws for the proofs of the crate operate.
+pub mod Block
+pub mod Operations

@@ -1,0 +1,21 @@
+-- Inner: what the private functions do.
+use Prim.Native.Nat.{ℕ, _≤_}
+use Rattle.model.specs.Bytes.{Bytes}
+use Rattle.model.specs.Operations.{comparison}
+use Rattle.model.specs.Value.{Values}
+use Rattle.model.specs.declared.Comparison.{Comparison}
+use Rattle.model.specs.declared.Domain.{Domain}
+use Rattle.heap.specs.Blocks.{MeansEach}
+use Rattle.heap.specs.Unfold.{Areas}
+use Rattle.result.specs.declared.Operated.{Operated}
+use Rattle.result.specs.Gives.{Gives}
+use Rattle.operate.specs.Stack.{stacked}
+
+-- A comparison of the values of the two or three operands on the stack.
+pub record Compares (C : Bytes) (d : Domain) (c : Comparison) (bottom count : ℕ) (r : Operated) : Type 0 where
+  pub gives :
+      (a : Areas) (top : ℕ) (vs : Values)
+      → 2 ≤ count
+      → count ≤ 3
+      → MeansEach a top vs (stacked C bottom count)
+      → Gives a top (comparison d c vs) r

@@ -1,0 +1,3 @@
+-- A sheet where it was read.
+pub mod Contract
+pub mod Inner

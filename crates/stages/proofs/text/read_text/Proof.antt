@@ -1,0 +1,31 @@
+use Rattle.stages.proofs.Reading.{text-read}
+use borrow.Author.Needs.{needs}
+use Rattle.stages.proofs.text.read_text.Statement.{statement}
+use Rattle.stages.proofs.text.read_text.Tie as tie
+use Rattle.stages.proofs.text.read_text.Reads as reads
+use Rattle.stages.proofs.text.read_text.Lts as lts
+use Rattle.json.proofs.read.Reads as read-reads
+use Rattle.stages.proofs.text.told.Reads as told-reads
+
+-- src/text.rt:60:17
+read-requires : tie.Need-read-requires
+read-requires c κs = search needs
+
+-- src/text.rt:60:5
+told-requires : tie.Need-told-requires
+told-requires c κs = search needs
+
+-- src/text.rt:56:1
+same-length : tie.Need-same-length
+same-length c = search needs
+
+-- src/text.rt:56:1
+same-length-2 : tie.Need-same-length-2
+same-length-2 c = search needs
+
+-- src/text.rt:56:1
+returns : tie.Need-returns
+returns c = text-read (c .before .before .before .before .before .before .before .before .before .before .before .args .which) (c .before .before .before .before .before .before .before .before .before .before .before .pre) (c .before .before .before .before .before .read .ensures) (c .told .ensures)
+
+pub read-text-spec : {M : Type 1} → statement M
+read-text-spec = tie.close (tie.spec read-requires told-requires same-length same-length-2 returns)

@@ -1,0 +1,2 @@
+// Sets of types by value, the paper's "words".
+pub mod set;
