@@ -10,15 +10,15 @@ use Rattle.syntax.specs.Output.{writtenSize, writtenOutput}
 use Rattle.eval.specs.declared.Answer as evaluating
 use Rattle.eval.specs.Evaluate.{Ready, Evaluates}
 use Rattle.stages.specs.declared.text.Stop as stages
-use Rattle.stages.specs.Areas.{TextAreas, textAreas, holding, leftBy}
+use Rattle.stages.specs.Areas.{textAreas, holding}
 use Rattle.stages.specs.Contract.{stopOf, Reads, ReadsRule}
 use Rattle.stages.specs.Laws.{number-some, Passed, Stopped, text-held, record-held, left-holding}
 use Rattle.stages.specs.Stage.{Stage, passed, refused, ruleText, recordText, readAs}
 use Rattle.stages.specs.Texts.{TextRead, ruleStage, TextsRead, evaluateStage}
 use Rattle.jehvrukam.specs.declared.evaluate.Outcome.{Outcome}
 use Rattle.jehvrukam.specs.Contract.{areasOf, numbersOf}
-use Rattle.jehvrukam.specs.Entry.{Entry, workAreas}
-use Rattle.jehvrukam.specs.Evaluate.{Areas, Numbers, Evaluated, zeros, answered, evaluateAnswer}
+use Rattle.jehvrukam.specs.Entry.{workAreas}
+use Rattle.jehvrukam.specs.Evaluate.{Areas, Evaluated, zeros, answered, evaluateAnswer}
 use Rattle.jehvrukam.specs.Inner.{Judges, Runs, told, unrun}
 use Rattle.jehvrukam.proofs.Settling.{AsLong, same-long, long-text, long-work}
 use Rattle.jehvrukam.proofs.Stopping.{passes-stage, stops}

@@ -1,5 +1,4 @@
 -- Running: evaluation on a rule and a record that were read.
-use mathlib.Core.Bool.{false}
 use mathlib.Core.Path.{_≡_, ap}
 use Prim.Native.Nat.{ℕ, _*_, _/_, _≤_}
 use native.Mathlib.Omega.{arith}

@@ -1,5 +1,5 @@
 -- TwoTexts: the whole answers of `jehvrukam_check` and `jehvrukam_fits`.
-use mathlib.Core.Bool.{Bool, true, false, _||_}
+use mathlib.Core.Bool.{Bool, true, false}
 use mathlib.Core.Path.{_≡_, refl, sym, ap, _∙_}
 use Prim.Native.Nat.{ℕ}
 use lib.Dec.{eqb}
@@ -9,15 +9,15 @@ use Rattle.syntax.specs.Entry.{tooShort}
 use Rattle.stages.specs.declared.check.Checked.{Checked}
 use Rattle.stages.specs.declared.fit.Fitted.{Fitted}
 use Rattle.stages.specs.declared.text.Stop as stages
-use Rattle.stages.specs.Areas.{TextAreas, textAreas, zeroed, holding, leftBy}
-use Rattle.stages.specs.Contract.{Long, stopOf, leftAfter, wordsOf, ChecksTexts, fitOf, FitsTexts}
+use Rattle.stages.specs.Areas.{TextAreas, textAreas, zeroed, holding}
+use Rattle.stages.specs.Contract.{stopOf, leftAfter, wordsOf, ChecksTexts, fitOf, FitsTexts}
 use Rattle.stages.specs.Laws.{number-some, text-held, record-held, left-holding, check-held, fits-held}
 use Rattle.stages.specs.Stage.{Stage, passed, refused, ruleText, sheetText}
 use Rattle.stages.specs.Texts.{TextsChecked, checkStage, TextsFitted, fitsStage}
 use Rattle.jehvrukam.specs.Check.{CheckAreas, CheckNumbers, isCheckInvalid, checkZeros, checkAnswer, checkEntry}
 use Rattle.jehvrukam.specs.Contract.{entry, checkAreasOf, checkNumbersOf, fitsAreasOf, fitsNumbersOf}
 use Rattle.jehvrukam.specs.Fits.{FitsAreas, FitsNumbers, yesOrNo, isFitsInvalid, fitsZeros, fitsAnswer, fitsEntry}
-use Rattle.jehvrukam.specs.Inner.{settledBy, Settled, Judges}
+use Rattle.jehvrukam.specs.Inner.{Settled, Judges}
 use Rattle.jehvrukam.proofs.Settling.{AsLong, long-text, settled-text, finish, first-true, second-true, both-false}
 
 -- ---- `jehvrukam_check`

@@ -3,7 +3,7 @@ use mathlib.Core.Bool.{Bool, true, false, _||_}
 use Prim.Native.Nat.{ℕ}
 use lib.ListN.{length, replicate}
 use Rattle.model.specs.Bytes.{Bytes}
-use Rattle.model.specs.Judgement.{Judged, done, refuses, Answer, answerOf}
+use Rattle.model.specs.Judgement.{Judged, done, refuses, answerOf}
 use Rattle.model.specs.Refusal.{number}
 use Rattle.syntax.specs.Layout.{padded}
 use Rattle.stages.specs.Areas.{TextAreas, isShort, zeroed, holding}

@@ -1,11 +1,10 @@
 -- Inner: what the private functions do.
 use mathlib.Core.Bool.{true, false}
 use mathlib.Core.Path.{_≡_}
-use Prim.Native.Nat.{ℕ, _≤_}
+use Prim.Native.Nat.{ℕ}
 use lib.Dec.{eqb}
 use lib.ListN.{length, replicate}
 use Rattle.model.specs.Bytes.{Bytes}
-use Rattle.stages.specs.Areas.{isShort, textAreas}
 use Rattle.stages.specs.declared.text.Stop as stages
 use Rattle.jehvrukam.specs.declared.evaluate.Outcome.{Outcome}
 use Rattle.jehvrukam.specs.declared.evaluate_checked.CheckedOutcome.{CheckedOutcome}

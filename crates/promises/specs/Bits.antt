@@ -1,6 +1,6 @@
 -- Bits: the types that an entry's number of words names, a bit for each.
 use mathlib.Core.Bool.{Bool, true, false, cond}
-use mathlib.Core.Path.{_≡_, refl, ap, _∙_}
+use mathlib.Core.Path.{_≡_}
 use Prim.Native.Nat.{ℕ, _+_, _*_, _/_, _%_, _^_, _≤_}
 use native.Mathlib.Omega.{arith}
 use Rattle.model.specs.Types.{Types, tyNumber, isIn, typeBits}

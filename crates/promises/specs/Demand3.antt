@@ -11,8 +11,7 @@ use lib.Dec.{T, ltb}
 use lib.ListN.{length}
 use Rattle.model.specs.Bytes.{Bytes}
 use Rattle.model.specs.Eval.{run, Outcome, value, refusal, outcome}
-use Rattle.model.specs.Judgement.{Judged, done, refuses, ruleIn, sheetIn, writtenWithin, written, Answer, answerOf, answer, judgeEvaluate}
-use Rattle.model.specs.Laws.Logic.{clash}
+use Rattle.model.specs.Judgement.{Judged, done, refuses, ruleIn, sheetIn, writtenWithin, written}
 use Rattle.model.specs.Laws.Types.{sameTy-refl}
 use Rattle.model.specs.Limits.{maxSteps}
 use Rattle.model.specs.Main.{EndsWell}
@@ -29,14 +28,14 @@ use Rattle.model.specs.Writing.{valueText}
 use Rattle.model.specs.declared.Ty.{Ty}
 use Rattle.syntax.specs.Demand3 as Texts
 use Rattle.syntax.specs.Locate.{StandsAt, positionsOf}
-use Rattle.syntax.specs.Read as readings
 use Rattle.syntax.specs.Read.{read}
-use Rattle.stages.specs.Laws.{TextHeld, text-held, record-held, not-refused, zero-passed, number-some, CheckHeld, check-held, FitsHeld, fits-held, EvaluateHeld, evaluate-held}
+use Rattle.stages.specs.Laws.{TextHeld, text-held, record-held, not-refused, number-some, check-held, fits-held, EvaluateHeld, evaluate-held, bound}
 use Rattle.stages.specs.Stage.{Stage, passed, refused, ruleText, sheetText, recordText, readAs}
-use Rattle.stages.specs.Texts.{TextRead, ruleStage, sheetStage, TextsChecked, checkStage, TextsFitted, fitsStage, TextsRead, evaluateStage}
+use Rattle.stages.specs.Texts.{TextRead, ruleStage, TextsChecked, checkStage, TextsFitted, fitsStage, TextsRead, evaluateStage, CheckedTextsRead, evaluateCheckedStage}
 use Rattle.jehvrukam.specs.Check.{CheckAreas, CheckNumbers, isCheckInvalid, checkAnswer, checkEntry}
 use Rattle.jehvrukam.specs.Entry.{untouched}
 use Rattle.jehvrukam.specs.Evaluate.{Areas, Numbers, Evaluated, isInvalid, answered, evaluateAnswer, evaluateEntry}
+use Rattle.jehvrukam.specs.EvaluateChecked.{CheckedAreas, CheckedNumbers, isCheckedInvalid, checkedAnswered, evaluateCheckedAnswer, evaluateCheckedEntry}
 use Rattle.jehvrukam.specs.Fits.{FitsAreas, FitsNumbers, yesOrNo, isFitsInvalid, fitsAnswer, fitsEntry}
 use Rattle.promises.specs.Bits.{bitOf, bit-tells}
 
@@ -312,3 +311,70 @@ module _ (text record′ before old after new : Bytes) (limit : ℕ) (h : NeverB
         where
           entry-is : (s : Bytes) → evaluateEntry s record′ limit a n ≡ evaluateAnswer a limit (evaluateStage s record′)
           entry-is s = rw (e, evaluateEntry)
+
+-- ---- with the sheet at hand
+record EvaluateCheckedHeld (rule sheet record′ : Bytes) (t : CheckedTextsRead) : Type 0 where
+  check-passes : checkStage rule sheet ≡ passed (t .checked)
+  record-passes : readAs recordText record′ ≡ passed (t .«record»)
+
+evaluate-checked-held : (rule sheet record′ : Bytes) (t : CheckedTextsRead) → evaluateCheckedStage rule sheet record′ ≡ passed t → EvaluateCheckedHeld rule sheet record′ t
+evaluate-checked-held rule sheet record′ t e =
+    let c = bound (checkStage rule sheet) _ t e in
+    let v = bound (readAs recordText record′) _ t (c .rest) in
+    let same : record { checked = c .first; «record» = v .first } ≡ t = same-passed (v .rest) in
+    record { check-passes = c .is ∙ ap (λ (x : CheckedTextsRead). passed (x .checked)) same; record-passes = v .is ∙ ap (λ (x : CheckedTextsRead). passed (x .«record»)) same }
+
+-- `jehvrukam_evaluate_checked` checks, fits and evaluates in one call: where it tells that the record fits, it ends so too.
+pub checked-never-7-or-8 :
+    (rule sheet record′ : Bytes) (limit : ℕ) (a : CheckedAreas) (n : CheckedNumbers)
+    → isCheckedInvalid limit a ≡ false
+    → evaluateCheckedEntry rule sheet record′ limit a n .numbers .fit ≡ 1
+    → limit ≤ maxSteps
+    → EndsSo (evaluateCheckedEntry rule sheet record′ limit a n .refusal)
+checked-never-7-or-8 rule sheet record′ limit a n valid fit within = rw whole (ofStage (evaluateCheckedStage rule sheet record′) refl (ap (λ y. y .numbers .fit) (sym whole) ∙ fit))
+  where
+    whole : evaluateCheckedEntry rule sheet record′ limit a n ≡ evaluateCheckedAnswer a limit (evaluateCheckedStage rule sheet record′)
+    whole = rw (valid, evaluateCheckedEntry)
+
+    yes : (b : Bool) → yesOrNo b ≡ 1 → T b
+    yes true e = tt
+    yes false e = absurd (omega arith)
+
+    told-fit : (t : CheckedTextsRead) (j : Judged Bytes) (k : ℕ) → checkedAnswered a t j k .numbers .fit ≡ yesOrNo (fits (t .checked .sheet .content) (t .«record»))
+    told-fit t (done x) k = refl
+    told-fit t (refuses x) k = refl
+
+    ofWritten : (t : CheckedTextsRead) (k : ℕ) (v : Value) → EndsSo (checkedAnswered a t (writtenWithin (length (a .work .output)) v) k .refusal)
+    ofWritten t k v = large (isTooLarge v)
+      where
+        short : (b : Bool) (x : Bytes) → EndsSo (checkedAnswered a t (cond b (refuses outputTooShort) (done x)) k .refusal)
+        short true x = in-output
+        short false x = in-value
+
+        large : (b : Bool) → EndsSo (checkedAnswered a t (cond b (refuses answerTooLarge) (cond (ltb (length (a .work .output)) (length (valueText v))) (refuses outputTooShort) (done (valueText v)))) k .refusal)
+        large true = in-size
+        large false = short (ltb (length (a .work .output)) (length (valueText v))) (valueText v)
+
+    ofOutcome : (t : CheckedTextsRead) (ts : Types) (k : ℕ) (o : Outcome) → EndsWell ts o → EndsSo (checkedAnswered a t (written (length (a .work .output)) o) k .refusal)
+    ofOutcome t ts k (value v) h = ofWritten t k v
+    ofOutcome t ts k (refusal e) (inl h) = rw h in-range
+    ofOutcome t ts k (refusal e) (inr h) = rw h in-steps
+
+    ofStage : (x : Stage CheckedTextsRead) → evaluateCheckedStage rule sheet record′ ≡ x → evaluateCheckedAnswer a limit x .numbers .fit ≡ 1 → EndsSo (evaluateCheckedAnswer a limit x .refusal)
+    ofStage (refused e w p) f g = absurd (omega arith)
+    ofStage (passed t) f g =
+        let h = evaluate-checked-held rule sheet record′ t f in
+        let c = check-held rule sheet (t .checked) (h .check-passes) in
+        let r = text-held ruleText ruleIn rule (t .checked .rule) (c .rule-passes) in
+        let s = text-held sheetText sheetIn sheet (t .checked .sheet) (c .sheet-passes) in
+        let well =
+        Texts.demand-3a-bytes rule sheet record′ (t .checked .rule .value) (t .checked .sheet .value) (t .«record») (t .checked .rule .content) (t .checked .sheet .content) (t .checked .types) limit
+        (r .reads)
+        (not-refused notRule (shape (t .checked .rule .value)) (t .checked .rule .content) (r .judged))
+        (s .reads)
+        (not-refused notSheet (sheetOf (t .checked .sheet .value)) (t .checked .sheet .content) (s .judged))
+        (c .checks)
+        (record-held record′ (t .«record») (h .record-passes))
+        (yes (fits (t .checked .sheet .content) (t .«record»)) (sym (told-fit t (written (length (a .work .output)) (outcome (run (t .checked .rule .content) (t .«record») limit))) (steps (run (t .checked .rule .content) (t .«record») limit))) ∙ g))
+        within in
+        ofOutcome t (t .checked .types) (steps (run (t .checked .rule .content) (t .«record») limit)) (outcome (run (t .checked .rule .content) (t .«record») limit)) well

@@ -1,7 +1,7 @@
 -- Rows: document 01's table "Both sides of the line", its rows marked *, each as one theorem from bytes about the entry's definition.
 use mathlib.Core.Bool.{false}
 use mathlib.Core.List.{[], _∷_}
-use mathlib.Core.Path.{_≡_, refl, ap, _∙_}
+use mathlib.Core.Path.{_≡_, refl}
 use Prim.Native.Nat.{ℕ}
 use Prim.Native.String.{String}
 use lib.ListN.{length}
@@ -17,7 +17,7 @@ use Rattle.model.specs.Size.{valueCount}
 use Rattle.model.specs.Value.{Value}
 use Rattle.syntax.specs.Layout.{padded}
 use Rattle.syntax.specs.Read as readings
-use Rattle.syntax.specs.Read.{Read, then, _>>=_, give, fail, if, peek, eat, white, expect, literal, signed, isPart, endNumber, digits, afterZero, firstDigit, int as integers, tails, onHex, hexes, onEscape, escape, onLead, char, onPiece, onUnit, orLone, lone, grow, chars, quoted, among, name, onStart, onSeparator, value, ended, text, answer, read}
+use Rattle.syntax.specs.Read.{then, _>>=_, give, fail, if, peek, eat, white, expect, literal, signed, isPart, endNumber, digits, afterZero, firstDigit, int as integers, tails, onHex, hexes, onEscape, escape, onLead, char, onPiece, onUnit, orLone, lone, grow, chars, quoted, among, name, onStart, onSeparator, value, ended, text, answer, read}
 use Rattle.syntax.specs.Tokens.{within, isWhite, isDigit, isPoint, isE, counted, nested, startOf, separatorOf, escapeOf, hexOf}
 use Rattle.syntax.specs.Utf8.{utf8, leadOf, unitOf, pairOf}
 use Rattle.syntax.specs.Output.{writtenOutput}

@@ -15,12 +15,11 @@ use Rattle.model.specs.Types.{Types}
 use Rattle.model.specs.Value.{Value}
 use Rattle.sheet.specs.Contract.{Fits}
 use Rattle.stages.specs.declared.check.Checked.{Checked}
-use Rattle.stages.specs.declared.fit.Fitted.{Fitted}
 use Rattle.stages.specs.declared.text.Stop.{Stop}
 use Rattle.stages.specs.Areas.{TextAreas, textAreas}
 use Rattle.stages.specs.Contract.{stopOf, Reads, ReadsRule, ReadsSheet, leftAfter, wordsOf, ChecksTexts, fitOf, FitsTexts}
 use Rattle.stages.specs.Inner.{foundAs}
-use Rattle.stages.specs.Laws.{Passed, Stopped, zero-passed, some-stopped, TextHeld, text-held, record-held, left-rule, left-sheet, left-means}
+use Rattle.stages.specs.Laws.{Passed, Stopped, zero-passed, some-stopped, text-held, record-held, left-rule, left-sheet, left-means}
 use Rattle.stages.specs.Stage.{Stage, passed, _>>=_, ruleText, sheetText, recordText, readAs, asJudged}
 use Rattle.stages.specs.Texts.{TextRead, ruleStage, sheetStage, TextsChecked, checkStage, fitsStage}
 use Rattle.types.specs.Laws.{bits-set}

@@ -4,9 +4,7 @@ use mathlib.Core.List.{[]}
 use mathlib.Core.Option.{Option, none, some}
 use mathlib.Core.Path.{_≡_, refl, sym, ap, _∙_}
 use Prim.Native.Nat.{ℕ}
-use borrow.Author.Tests.{ne-eqb, eqb-true}
-use lib.Dec.{eqb}
-use lib.ListN.{length}
+use borrow.Author.Tests.{ne-eqb}
 use Rattle.json.specs.Contract.{AllRead, answerOf}
 use Rattle.json.specs.declared.Answer as reading
 use Rattle.model.specs.Bytes.{Bytes}
@@ -22,7 +20,7 @@ use Rattle.syntax.specs.Read.{Read, read}
 use Rattle.shape.specs.Check.{Readable, Checks}
 use Rattle.sheet.specs.Contract.{ChecksSheet}
 use Rattle.stages.specs.declared.text.Stop.{Stop}
-use Rattle.stages.specs.Areas.{TextAreas, textAreas, isShort, leftBy}
+use Rattle.stages.specs.Areas.{TextAreas, textAreas, leftBy}
 use Rattle.stages.specs.Contract.{Long, stopOf, Reads, ReadsRule, ReadsSheet}
 use Rattle.stages.specs.Inner.{stopped, toldOf}
 use Rattle.stages.specs.Laws.{number-some, left-means, left-readable}

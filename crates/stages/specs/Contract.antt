@@ -1,5 +1,5 @@
 -- Contract: what the functions promise of texts and of the areas lent for them, which are long enough.
-use mathlib.Core.Bool.{Bool, true, false, cond}
+use mathlib.Core.Bool.{Bool, false}
 use mathlib.Core.Path.{_≡_}
 use Prim.Native.Nat.{ℕ}
 use Rattle.model.specs.Bytes.{Bytes}

@@ -16,14 +16,13 @@ use Rattle.model.specs.Sheet.{Sheet, sheetOf}
 use Rattle.model.specs.TypeCheck.{check}
 use Rattle.model.specs.Value.{Value}
 use Rattle.syntax.specs.Entry.{readInto}
-use Rattle.syntax.specs.Layout.{tableOf, stringsAreaOf}
 use Rattle.syntax.specs.Laws.Sound.{sound}
 use Rattle.syntax.specs.Read as readings
 use Rattle.syntax.specs.Read.{Read, read}
 use Rattle.heap.specs.Handles.{rowHandle}
 use Rattle.heap.specs.Main.{what-was-read}
 use Rattle.heap.specs.Means.{Means}
-use Rattle.heap.specs.Unfold.{Areas, areas, readAreas}
+use Rattle.heap.specs.Unfold.{areas}
 use Rattle.rule.specs.Holds.{Holds}
 use Rattle.shape.specs.Check.{Readable}
 use Rattle.sheet.specs.Contract.{HoldsSheet}

@@ -3,11 +3,6 @@ use Rattle.jehvrukam.proofs.TwoTexts.{check-rule-short, check-sheet-sho
 use borrow.Author.Needs.{needs}
 use Rattle.jehvrukam.proofs.jehvrukam_check.Statement.{statement}
 use Rattle.jehvrukam.proofs.jehvrukam_check.Tie as tie
-use Rattle.jehvrukam.proofs.jehvrukam_check.Reads as reads
-use Rattle.jehvrukam.proofs.jehvrukam_check.Lts as lts
-use Rattle.jehvrukam.proofs.settle.settle.Reads as settle-reads
-use Rattle.stages.proofs.check.check_texts.Reads as check-texts-reads
-use Rattle.stages.proofs.text.is_short.Reads as is-short-reads
 
 -- src/lib.rt:55:8
 is-short-requires : tie.Need-is-short-requires

@@ -3,12 +3,6 @@ use Rattle.jehvrukam.proofs.Entries.{cannot, rule-short, record-short, 
 use borrow.Author.Needs.{needs}
 use Rattle.jehvrukam.proofs.jehvrukam_evaluate.Statement.{statement}
 use Rattle.jehvrukam.proofs.jehvrukam_evaluate.Tie as tie
-use Rattle.jehvrukam.proofs.jehvrukam_evaluate.Reads as reads
-use Rattle.jehvrukam.proofs.jehvrukam_evaluate.Lts as lts
-use Rattle.jehvrukam.proofs.evaluate.cannot_run.Reads as cannot-run-reads
-use Rattle.jehvrukam.proofs.evaluate.judge.Reads as judge-reads
-use Rattle.jehvrukam.proofs.settle.settle.Reads as settle-reads
-use Rattle.stages.proofs.text.is_short.Reads as is-short-reads
 
 -- src/lib.rt:56:8
 cannot-run-requires : tie.Need-cannot-run-requires

@@ -3,13 +3,6 @@ use Rattle.jehvrukam.proofs.Entries.{checked-cannot, checked-rule-short
 use borrow.Author.Needs.{needs}
 use Rattle.jehvrukam.proofs.jehvrukam_evaluate_checked.Statement.{statement}
 use Rattle.jehvrukam.proofs.jehvrukam_evaluate_checked.Tie as tie
-use Rattle.jehvrukam.proofs.jehvrukam_evaluate_checked.Reads as reads
-use Rattle.jehvrukam.proofs.jehvrukam_evaluate_checked.Lts as lts
-use Rattle.jehvrukam.proofs.evaluate.cannot_run.Reads as cannot-run-reads
-use Rattle.jehvrukam.proofs.evaluate_checked.judge.Reads as judge-reads
-use Rattle.jehvrukam.proofs.settle.settle.Reads as settle-reads
-use Rattle.jehvrukam.proofs.told.yes_or_no.Reads as yes-or-no-reads
-use Rattle.stages.proofs.text.is_short.Reads as is-short-reads
 
 -- src/lib.rt:191:8
 cannot-run-requires : tie.Need-cannot-run-requires

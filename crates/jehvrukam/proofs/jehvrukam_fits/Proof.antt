@@ -3,12 +3,6 @@ use Rattle.jehvrukam.proofs.TwoTexts.{fits-sheet-short, fits-record-sho
 use borrow.Author.Needs.{needs}
 use Rattle.jehvrukam.proofs.jehvrukam_fits.Statement.{statement}
 use Rattle.jehvrukam.proofs.jehvrukam_fits.Tie as tie
-use Rattle.jehvrukam.proofs.jehvrukam_fits.Reads as reads
-use Rattle.jehvrukam.proofs.jehvrukam_fits.Lts as lts
-use Rattle.jehvrukam.proofs.settle.settle.Reads as settle-reads
-use Rattle.jehvrukam.proofs.told.yes_or_no.Reads as yes-or-no-reads
-use Rattle.stages.proofs.fit.fit_texts.Reads as fit-texts-reads
-use Rattle.stages.proofs.text.is_short.Reads as is-short-reads
 
 -- src/lib.rt:95:8
 is-short-requires : tie.Need-is-short-requires

@@ -4,8 +4,6 @@ use Rattle.heap.specs.Cells.{cellBytes}
 use borrow.Author.Needs.{needs}
 use Rattle.jehvrukam.proofs.evaluate.cannot_run.Statement.{statement}
 use Rattle.jehvrukam.proofs.evaluate.cannot_run.Tie as tie
-use Rattle.jehvrukam.proofs.evaluate.cannot_run.Reads as reads
-use Rattle.jehvrukam.proofs.evaluate.cannot_run.Lts as lts
 
 -- src/evaluate.rt:32:9
 returns : tie.Need-returns

@@ -2,12 +2,6 @@ use Rattle.jehvrukam.proofs.Judging.{rule-stops, record-stops, run-read
 use borrow.Author.Needs.{needs}
 use Rattle.jehvrukam.proofs.evaluate.judge.Statement.{statement}
 use Rattle.jehvrukam.proofs.evaluate.judge.Tie as tie
-use Rattle.jehvrukam.proofs.evaluate.judge.Reads as reads
-use Rattle.jehvrukam.proofs.evaluate.judge.Lts as lts
-use Rattle.eval.proofs.evaluate.Reads as evaluate-reads
-use Rattle.jehvrukam.proofs.evaluate.not_run.Reads as not-run-reads
-use Rattle.stages.proofs.text.read_rule.Reads as read-rule-reads
-use Rattle.stages.proofs.text.read_text.Reads as read-text-reads
 
 -- src/evaluate.rt:65:9
 read-rule-requires : tie.Need-read-rule-requires

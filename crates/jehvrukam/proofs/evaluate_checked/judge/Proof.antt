@@ -2,13 +2,6 @@ use Rattle.jehvrukam.proofs.CheckedJudging.{check-stops, record-stops, 
 use borrow.Author.Needs.{needs}
 use Rattle.jehvrukam.proofs.evaluate_checked.judge.Statement.{statement}
 use Rattle.jehvrukam.proofs.evaluate_checked.judge.Tie as tie
-use Rattle.jehvrukam.proofs.evaluate_checked.judge.Reads as reads
-use Rattle.jehvrukam.proofs.evaluate_checked.judge.Lts as lts
-use Rattle.eval.proofs.evaluate.Reads as evaluate-reads
-use Rattle.jehvrukam.proofs.evaluate_checked.not_run.Reads as not-run-reads
-use Rattle.sheet.proofs.fit.fits.Reads as fits-reads
-use Rattle.stages.proofs.check.check_texts.Reads as check-texts-reads
-use Rattle.stages.proofs.text.read_text.Reads as read-text-reads
 
 -- src/evaluate_checked.rt:59:9
 check-texts-requires : tie.Need-check-texts-requires

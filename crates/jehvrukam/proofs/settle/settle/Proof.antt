@@ -2,9 +2,6 @@ use Rattle.jehvrukam.proofs.Settling.{kept-area, cleared-area}
 use borrow.Author.Needs.{needs}
 use Rattle.jehvrukam.proofs.settle.settle.Statement.{statement}
 use Rattle.jehvrukam.proofs.settle.settle.Tie as tie
-use Rattle.jehvrukam.proofs.settle.settle.Reads as reads
-use Rattle.jehvrukam.proofs.settle.settle.Lts as lts
-use Rattle.area.proofs.clear_from.Reads as clear-from-reads
 
 -- src/settle.rt:11:9
 returns : tie.Need-returns

@@ -2,12 +2,6 @@ use Rattle.stages.proofs.Checking.{rule-stops, sheet-stops, both-checke
 use borrow.Author.Needs.{needs}
 use Rattle.stages.proofs.check.check_texts.Statement.{statement}
 use Rattle.stages.proofs.check.check_texts.Tie as tie
-use Rattle.stages.proofs.check.check_texts.Reads as reads
-use Rattle.stages.proofs.check.check_texts.Lts as lts
-use Rattle.kinds.proofs.check.check.Reads as check-reads
-use Rattle.stages.proofs.check.found.Reads as found-reads
-use Rattle.stages.proofs.text.read_rule.Reads as read-rule-reads
-use Rattle.stages.proofs.sheet_text.read_sheet.Reads as read-sheet-reads
 
 -- src/check.rt:47:9
 read-rule-requires : tie.Need-read-rule-requires

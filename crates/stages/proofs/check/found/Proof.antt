@@ -3,10 +3,6 @@ use Rattle.stages.specs.Inner.{foundAs}
 use borrow.Author.Needs.{needs}
 use Rattle.stages.proofs.check.found.Statement.{statement}
 use Rattle.stages.proofs.check.found.Tie as tie
-use Rattle.stages.proofs.check.found.Reads as reads
-use Rattle.stages.proofs.check.found.Lts as lts
-use Rattle.stages.proofs.number.numbered.Reads as numbered-reads
-use Rattle.types.proofs.set.bits.Reads as bits-reads
 
 -- src/check.rt:26:19
 enum-told : tie.Need-enum-told

@@ -2,11 +2,6 @@ use Rattle.stages.proofs.Checking.{fit-sheet-stops, record-stops, both-
 use borrow.Author.Needs.{needs}
 use Rattle.stages.proofs.fit.fit_texts.Statement.{statement}
 use Rattle.stages.proofs.fit.fit_texts.Tie as tie
-use Rattle.stages.proofs.fit.fit_texts.Reads as reads
-use Rattle.stages.proofs.fit.fit_texts.Lts as lts
-use Rattle.sheet.proofs.fit.fits.Reads as fits-reads
-use Rattle.stages.proofs.sheet_text.read_sheet.Reads as read-sheet-reads
-use Rattle.stages.proofs.text.read_text.Reads as read-text-reads
 
 -- src/fit.rt:27:9
 read-sheet-requires : tie.Need-read-sheet-requires

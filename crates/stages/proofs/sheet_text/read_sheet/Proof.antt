@@ -3,11 +3,6 @@ use Rattle.stages.proofs.Reading.{sheet-unread, no-sheet, a-sheet}
 use borrow.Author.Needs.{needs}
 use Rattle.stages.proofs.sheet_text.read_sheet.Statement.{statement}
 use Rattle.stages.proofs.sheet_text.read_sheet.Tie as tie
-use Rattle.stages.proofs.sheet_text.read_sheet.Reads as reads
-use Rattle.stages.proofs.sheet_text.read_sheet.Lts as lts
-use Rattle.sheet.proofs.check.is_sheet.Reads as is-sheet-reads
-use Rattle.stages.proofs.number.numbered.Reads as numbered-reads
-use Rattle.stages.proofs.text.read_text.Reads as read-text-reads
 
 -- src/text.rt:84:9
 read-text-requires : tie.Need-read-text-requires

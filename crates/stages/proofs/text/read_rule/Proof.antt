@@ -3,11 +3,6 @@ use Rattle.stages.proofs.Reading.{rule-unread, rule-readable, no-rule, 
 use borrow.Author.Needs.{needs}
 use Rattle.stages.proofs.text.read_rule.Statement.{statement}
 use Rattle.stages.proofs.text.read_rule.Tie as tie
-use Rattle.stages.proofs.text.read_rule.Reads as reads
-use Rattle.stages.proofs.text.read_rule.Lts as lts
-use Rattle.shape.proofs.is_rule.Reads as is-rule-reads
-use Rattle.stages.proofs.number.numbered.Reads as numbered-reads
-use Rattle.stages.proofs.text.read_text.Reads as read-text-reads
 
 -- src/text.rt:68:9
 read-text-requires : tie.Need-read-text-requires

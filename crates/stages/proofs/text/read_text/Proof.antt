@@ -2,10 +2,6 @@ use Rattle.stages.proofs.Reading.{text-read}
 use borrow.Author.Needs.{needs}
 use Rattle.stages.proofs.text.read_text.Statement.{statement}
 use Rattle.stages.proofs.text.read_text.Tie as tie
-use Rattle.stages.proofs.text.read_text.Reads as reads
-use Rattle.stages.proofs.text.read_text.Lts as lts
-use Rattle.json.proofs.read.Reads as read-reads
-use Rattle.stages.proofs.text.told.Reads as told-reads
 
 -- src/text.rt:60:17
 read-requires : tie.Need-read-requires

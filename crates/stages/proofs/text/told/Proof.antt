@@ -3,9 +3,6 @@ use mathlib.Core.Path.{_∙_}
 use borrow.Author.Needs.{needs}
 use Rattle.stages.proofs.text.told.Statement.{statement}
 use Rattle.stages.proofs.text.told.Tie as tie
-use Rattle.stages.proofs.text.told.Reads as reads
-use Rattle.stages.proofs.text.told.Lts as lts
-use Rattle.stages.proofs.number.numbered.Reads as numbered-reads
 
 -- src/text.rt:46:9
 numbered-requires : tie.Need-numbered-requires
