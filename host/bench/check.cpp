@@ -241,6 +241,16 @@ uint64_t check_by_hand(const std::string &rule, const std::string &sheet)
     return words;
 }
 
+bool parse_both(const std::string &one, const std::string &other)
+{
+    cJSON *one_tree = cJSON_ParseWithLength(one.data(), one.size());
+    cJSON *other_tree = cJSON_ParseWithLength(other.data(), other.size());
+    bool parsed = one_tree != nullptr && other_tree != nullptr;
+    cJSON_Delete(one_tree);
+    cJSON_Delete(other_tree);
+    return parsed;
+}
+
 // The words that a value belongs to.
 uint64_t words_of(const cJSON *value)
 {
@@ -339,12 +349,14 @@ std::string sheet_of(const std::string &before, const std::string &words, const 
     return text + "}";
 }
 
-// A sheet of the last 256 of 1,023 members alike.
-std::string last_alike(const std::string &words)
+// A sheet of 256 names that are alike: of the last of 1,023 members, or of none of them.
+std::string sheet_alike(bool members, const std::string &words)
 {
     std::string text = "{";
-    for (unsigned i = 767; i < 1023; i++)
-        text += (i > 767 ? "," : "") + quoted(alike(i)) + ":[" + words + "]";
+    for (unsigned i = 0; i < 256; i++) {
+        const std::string other = std::string("name-name") + char('A' + i / 16) + char('A' + i % 16);
+        text += (i ? "," : "") + quoted(members ? alike(767 + i) : other) + ":[" + words + "]";
+    }
     return text + "}";
 }
 
@@ -378,12 +390,13 @@ void add_dear_inputs()
     add("check: 511 paths, listed last of 256, ten words", check, list_of(var(name + "255"), 511),
         sheet_of(name, day, others), ARRAY);
     add("check: 511 paths, not among 256", check, list_of(var(name + "999"), 511), sheet_of(name, day), ARRAY);
-    const std::string longer(35, 'n');
-    add("check: 320 longer paths, not among 256", check, list_of(var(longer + "999"), 320), sheet_of(longer, day),
+    const std::string longer(47, 'n');
+    add("check: 262 longer paths, not among 256", check, list_of(var(longer + "999"), 262), sheet_of(longer, day),
         ARRAY);
 
     add("fits: an empty sheet, a literal", fits, none, "1", 1);
-    add("fits: 256 of 1,023 members", fits, last_alike(quoted("integer")), members_alike(1023), 1);
+    add("fits: 256 of 1,023 members", fits, sheet_alike(true, quoted("integer")), members_alike(1023), 1);
+    add("fits: 256 paths, not among 1,023 members", fits, sheet_alike(false, quoted("null")), members_alike(1023), 1);
     add("fits: 256 date texts", fits, sheet_of("n", "\"day\",\"date\""),
         record_of("n", quoted("2020-01-31T10:20:30.123456789+05:30")), 1);
     add("fits: an array of 900 integers, 31 deep", fits,
@@ -402,12 +415,16 @@ int main(int argc, char **argv)
     const std::string other_record = with(record, "\"rank\":17", "\"rank\":\"17\"");
     add_way("jehvrukam_check", check, rule, sheet, BOOLEAN, rule, other_sheet);
     add_way("check by hand over cJSON", check_by_hand, rule, sheet, BOOLEAN, rule, other_sheet);
-    lines.push_back({"reading rule and sheet alone", rule.size(), sheet.size(),
+    lines.push_back({"reading rule and sheet alone (jehvrukam_read)", rule.size(), sheet.size(),
                      Measurement([rule, sheet] { return read_both(rule, sheet); })});
+    lines.push_back({"parsing rule and sheet alone (cJSON)", rule.size(), sheet.size(),
+                     Measurement([rule, sheet] { return parse_both(rule, sheet); })});
     add_way("jehvrukam_fits", fits, sheet, record, 1, sheet, other_record);
     add_way("fits by hand over cJSON", fits_by_hand, sheet, record, 1, sheet, other_record);
-    lines.push_back({"reading sheet and record alone", sheet.size(), record.size(),
+    lines.push_back({"reading sheet and record alone (jehvrukam_read)", sheet.size(), record.size(),
                      Measurement([sheet, record] { return read_both(sheet, record); })});
+    lines.push_back({"parsing sheet and record alone (cJSON)", sheet.size(), record.size(),
+                     Measurement([sheet, record] { return parse_both(sheet, record); })});
     lines.push_back({"clearing the same areas by memset", 0, 0, Measurement(clear_all)});
     add_dear_inputs();
 

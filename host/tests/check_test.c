@@ -382,9 +382,9 @@ static void test_same_as_evaluate(void)
                 struct call call = lend(&given, 0);
                 run(&call, limits[k]);
                 const struct area *t = call.texts, *output = &call.areas[OUTPUT];
-                struct area areas[5], text = unset_area(output->length);
+                struct area areas[5], text = area_at(output->length, 0);
                 for (int a = 0; a < 5; a++)
-                    areas[a] = unset_area(stated_of(&evaluating, a == 4 ? CELLS : a));
+                    areas[a] = area_at(stated_of(&evaluating, a == 4 ? CELLS : a), 0);
                 uint64_t which, place, steps, length;
                 uint32_t refusal = jehvrukam_evaluate(
                     t[0].bytes, t[0].length, t[2].bytes, t[2].length, limits[k], areas[0].bytes, areas[0].length,
@@ -394,8 +394,8 @@ static void test_same_as_evaluate(void)
                 CHECK(*number_at(&call, LENGTH) == length && *number_at(&call, WORDS) != 0);
                 CHECK(memcmp(output->bytes, text.bytes, text.length) == 0);
                 for (int a = 0; a < 5; a++)
-                    free(areas[a].bytes);
-                free(text.bytes);
+                    release(&areas[a]);
+                release(&text);
                 end(&call, &given, __LINE__);
                 counted();
             }
