@@ -3,7 +3,7 @@
 
 An edit crates/CRATE/must-fail/LABEL.edit has a line `refused-by: NAME ..` with what is false under the edit: a law by
 its name, a need of a function's proof as FUNCTION:NEED, where FUNCTION is the folder of its Proof.antt under proofs/.
-Each must be refused by an error of its own in the log, and no error may be about names, layout or parsing: such an
+Each must be refused by an error of its own in the log, and no error may be about names, paths, layout or parsing: such an
 edit would only make the proofs unfit, and show nothing. The last line is 'N passed, M failed'.
 """
 import re
@@ -16,7 +16,7 @@ ANY_ERROR = re.compile(r'^\S+: error.*$', re.M)
 OWN_ERROR = re.compile(r'^(\S+): error: `([^`]+)`: (.*)$')
 OF_FUNCTION = re.compile(r'/proofs/(\S+)/Proof\.antt(?::\d+)*$')
 AFTER_ANOTHER = 'was not admitted'
-NO_FACT = ('not in scope', 'can be named from here', 'parse', 'layout', 'already a name', '`mod` line')
+NO_FACT = ('not in scope', 'can be named from here', 'has no field', 'parse', 'layout', 'already a name', '`mod` line')
 
 
 def fault(stated, printed):
@@ -55,6 +55,7 @@ SAMPLES = [
     (['law'], 'a.antt:1:2: error: `law`: `x` was not admitted, so this cannot be checked\n', False),
     (['law'], 'a.antt:1:2: error: `law`: the two types differ\na.antt:2:2: error: `other`: `y` is not in scope\n', False),
     (['law'], 'a.antt:1:2: error: `law`: the two types differ\na.antt:2:2: error: `other`: `parsed` was not admitted\n', True),
+    (['law'], 'a.antt:1:2: error: `law`: record `lts.Start` has no field `before`\n', False),
     (['m/f:returns'], '/c/proofs/m/f/Proof.antt:1:2: error: `returns`: the two types differ\n', True),
     (['m/f:returns'], '/c/proofs/m/g/Proof.antt:1:2: error: `returns`: the two types differ\n', False),
     (['returns'], '/c/proofs/m/f/Proof.antt:1:2: error: `returns`: the two types differ\n', False),
