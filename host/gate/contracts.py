@@ -10,43 +10,10 @@ import re
 import sys
 
 sys.dont_write_bytecode = True
+from sources import functions_of, skip
 from tally import ROOT, report
 
-HEAD = re.compile(r'^[ \t]*(?:#\[[^\]]*\]\s*)*pub\s+(?:const\s+)?(?:unsafe\s+)?(?P<extern>extern\s*(?:"[^"]*"\s*)?)?\bfn\s+(?P<name>\w+)', re.M)
 BINDERS = re.compile(r'\s*λ\s*([^.]*)\.')
-CLAUSE = re.compile(r'\b(requires|ensures|ghost)(\s+\w+)?\s*$')
-
-
-def without_comments(text):
-    return re.sub(r'//[^\n]*', '', text)
-
-
-def skip(text, at, opening, closing):
-    """The position after the brackets that open at `at`."""
-    level = 0
-    for i in range(at, len(text)):
-        level += {opening: 1, closing: -1}.get(text[i], 0)
-        if level == 0:
-            return i + 1
-    return len(text)
-
-
-def header(text, start):
-    """The signature and clauses of the function that starts there, up to its body."""
-    depth, i = 0, start
-    while i < len(text):
-        c = text[i]
-        if c in '([':
-            depth += 1
-        elif c in ')]':
-            depth -= 1
-        elif c == '{' and depth == 0:
-            if not CLAUSE.search(text[start:i]):
-                return text[start:i]
-            i = skip(text, i, '{', '}')
-            continue
-        i += 1
-    return text[start:]
 
 
 def clauses(head, word):
@@ -82,21 +49,21 @@ def promises(head):
 
 def faults(text):
     """(function, fault or None) for each public function of a source text."""
-    text = without_comments(text)
-    for m in HEAD.finditer(text):
-        head = header(text, m.start('name'))
-        promised = ' '.join(promises(head))
+    for function in functions_of(text, ''):
+        if not function.public:
+            continue
+        promised = ' '.join(promises(function.head))
         fault = None
         if not promised:
             fault = 'no promise'
-        elif m.group('extern') and clauses(head, 'requires'):
+        elif function.extern and clauses(function.head, 'requires'):
             fault = 'a C entry with a requires'
         else:
-            for name in re.findall(r"(\w+)\s*:\s*&(?:'\w+\s+)?mut\b", head):
+            for name in re.findall(r"(\w+)\s*:\s*&(?:'\w+\s+)?mut\b", function.head):
                 if not names(promised, name):
                     fault = 'nothing promised of `%s`' % name
                     break
-        yield m.group('name'), fault
+        yield function.path, fault
 
 
 SAMPLES = [

@@ -1,17 +1,23 @@
 #!/usr/bin/env python3
-"""Checks why each must-fail edit was refused. Runs after `rt ci`, which leaves target/must-fail/CRATE/LABEL/.log.
+"""Checks why each wrong program was refused. Runs after `rt ci`, which leaves target/must-fail/CRATE/FILE/.log.
 
-An edit crates/CRATE/must-fail/LABEL.edit has a line `refused-by: NAME ..` with what is false under the edit: a law by
-its name, a need of a function's proof as FUNCTION:NEED, where FUNCTION is the folder of its Proof.antt under proofs/.
-Each must be refused by an error of its own in the log, and no error may be about names, paths, layout or parsing: such an
-edit would only make the proofs unfit, and show nothing. The last line is 'N passed, M failed'.
+edits.py has the form of an edit. Each wrong program says what is false then, what refuses it, and argues it or has a
+witness. All that it names in `refused-by` must be refused by an error of its own in the log, and no error may be about
+names, paths, layout or parsing: such an edit would only make the proofs unfit, and show nothing. Several may share a
+file, and so a check, if each changes one function's body only, that of its `refused-by`, and no two the same; an edit of a
+constant, a type, a contract or a definition stands alone. Every public function has two wrong programs that are refused
+by its own needs. The last line is 'N passed, M failed': tests of this script on samples, and one for each wrong program
+and each public function.
 """
 import re
 import sys
 
 sys.dont_write_bytecode = True
+from edits import Program, edits, function_of, programs_of
+from sources import functions, functions_of
 from tally import ROOT, report
 
+WANTED = 2  # wrong programs of each public function
 ANY_ERROR = re.compile(r'^\S+: error.*$', re.M)
 OWN_ERROR = re.compile(r'^(\S+): error: `([^`]+)`: (.*)$')
 OF_FUNCTION = re.compile(r'/proofs/(\S+)/Proof\.antt(?::\d+)*$')
@@ -19,37 +25,95 @@ AFTER_ANOTHER = 'was not admitted'
 NO_FACT = ('not in scope', 'can be named from here', 'has no field', 'parse', 'layout', 'already a name', '`mod` line')
 
 
-def fault(stated, printed):
-    """None if the printed log refuses each stated declaration for a fact, else what is wrong."""
+# ---- what the log says
+
+def refused_in(printed):
+    """The declarations that a log refuses for a fact, and None; or what is wrong with one of its errors."""
     refused = set()
     for line in ANY_ERROR.findall(printed):
         own = OWN_ERROR.match(line)
         if not own:
-            return 'an error that names no declaration: %s' % line[:200]
+            return refused, 'an error that names no declaration: %s' % line[:200]
         place, name, message = own.groups()
         if AFTER_ANOTHER in message:
             continue
         if any(word in message for word in NO_FACT):
-            return 'an error about names or layout: %s' % line[:200]
+            return refused, 'an error about names or layout: %s' % line[:200]
         function = OF_FUNCTION.search(place)
         refused.add('%s:%s' % (function.group(1), name) if function else name)
+    return refused, None
+
+
+def unmet(stated, printed):
+    """None if the printed log refuses each stated declaration for a fact, else what is wrong."""
+    refused, wrong = refused_in(printed)
+    if wrong:
+        return wrong
     missing = [name for name in stated if name not in refused]
-    if missing:
-        return 'not refused by %s, but by %s' % (', '.join(missing), ', '.join(sorted(refused)) or 'nothing')
+    return 'not refused by %s, but by %s' % (', '.join(missing), ', '.join(sorted(refused)) or 'nothing') if missing else None
+
+
+# ---- what an edit says
+
+def unsaid(program):
+    """None if a wrong program says all that it should, else what is missing."""
+    if not program.label:
+        return 'it has no heading `== LABEL`'
+    if not re.search(r'^-- False then: *\S', program.text, re.M):
+        return 'it has no `-- False then:`'
+    if not program.refusers():
+        return 'it states no `refused-by:`'
+    return None if program.stated('argued') or program.stated('witness') else 'it has neither `argued:` nor `witness:`'
+
+
+def changed(program, listed, texts):
+    """The functions of a crate, listed, whose bodies a wrong program changes; None for a change elsewhere."""
+    found = set()
+    for file, old, _ in program.changes():
+        at = texts.get(file, '').find(old)
+        inside = [f.path for f in listed if f.file == file and at >= 0 and f.body[0] < at and at + len(old) < f.body[1]]
+        found.add(inside[0] if inside else None)
+    return found
+
+
+def unfit_together(program, others, listed, texts):
+    """None if a wrong program may stand in one file with the others, else why not."""
+    own = {function_of(name) for name in program.refusers()}
+    bodies = changed(program, listed, texts)
+    if len(own) != 1 or bodies != own:
+        return 'it shares a file, and changes more or other than the body of the function that refuses it'
+    if any(own & {function_of(name) for name in other.refusers()} for other in others):
+        return 'another wrong program of %s is in its file' % own.pop()
     return None
 
 
-def reason(edit):
-    stated = re.search(r'^refused-by: (.+)$', edit.read_text(encoding='utf-8'), re.M)
-    if not stated:
-        return 'it states no `refused-by:`'
-    log = ROOT / 'target' / 'must-fail' / edit.parent.parent.name / edit.stem / '.log'
-    if not log.exists():
-        return 'it has no log: run `rt ci` first'
-    return fault(stated.group(1).split(), log.read_text(encoding='utf-8'))
+# ---- the results
+
+def verdict(program, programs, log, listed, texts):
+    wrong = unsaid(program)
+    if not wrong and len(programs) > 1:
+        wrong = unfit_together(program, [p for p in programs if p is not program], listed, texts)
+    if not wrong and not log.exists():
+        wrong = 'it has no log: run `rt ci` first'
+    return wrong or unmet(program.refusers(), log.read_text(encoding='utf-8'))
 
 
-SAMPLES = [
+def of_crate(crate):
+    """The results of one crate."""
+    listed = list(functions(crate))
+    texts = {f.file: (crate / f.file).read_text(encoding='utf-8') for f in listed}
+    counts = {f.path: 0 for f in listed if f.public}
+    for file, programs in edits(crate):
+        log = ROOT / 'target' / 'must-fail' / crate.name / file.stem / '.log'
+        for program in programs:
+            yield '%s: %s' % (file.relative_to(ROOT), program.label), verdict(program, programs, log, listed, texts)
+            for path in {function_of(name) for name in program.refusers()} & set(counts):
+                counts[path] += 1
+    for path, count in counts.items():
+        yield '%s: %s' % (crate.name, path), None if count >= WANTED else 'it has %d wrong programs, not %d' % (count, WANTED)
+
+
+LOGS = [
     (['law'], 'a.antt:1:2: error: `law`: the two types differ\n', True),
     (['law'], 'a.antt:1:2: error: `other`: the two types differ\n', False),
     (['law'], 'a.antt:1:2: error: `law`: `x` was not admitted, so this cannot be checked\n', False),
@@ -60,13 +124,53 @@ SAMPLES = [
     (['m/f:returns'], '/c/proofs/m/g/Proof.antt:1:2: error: `returns`: the two types differ\n', False),
     (['returns'], '/c/proofs/m/f/Proof.antt:1:2: error: `returns`: the two types differ\n', False),
 ]
+OWNERS = [('law', None), ('f:returns', 'f'), ('m/f:returns-2', 'm/f'), ('m/+a+a_b:a-b-returns', 'm/a_b'), ('+a+a_b:a-returns', 'a')]
+SOURCE = '''const LIMIT: u8 = 1;
+fn f(x: u8) -> u8
+    ensures { λ r. ⌜ r ≡ x ⌝ }
+{
+    if x == LIMIT { return 1; }
+    x
+}
+pub fn g(x: u8) -> u8
+    ensures { λ r. ⌜ r ≡ x ⌝ }
+{
+    f(x)
+}
+'''
+F, G = 'refused-by: f:returns\nfile: src/lib.rt\nold: return 1\n', 'refused-by: g:returns\nfile: src/lib.rt\nold: f(x)\n'
+SAID = '-- False then: 1.\nargued: so.\n'
+TOGETHER = [  # the texts of the wrong programs of one file, and whether each may stand there
+    (F + 'new: return 2\n', G.replace('f(x)', '    f(x)') + 'new: x\n', True),
+    (F + 'new: return 2\n', F.replace('return 1', 'x == LIMIT') + 'new: true\n', False),
+    (F.replace('return 1', 'LIMIT: u8 = 1') + 'new: LIMIT: u8 = 2\n', G.replace('f(x)', '    f(x)') + 'new: x\n', False),
+    (F.replace('f:returns', 'g:returns') + 'new: return 2\n', F + 'new: return 2\n', False),
+    (F.replace('return 1', 'r ≡ x') + 'new: r ≡ r\n', G.replace('f(x)', '    f(x)') + 'new: x\n', False),
+    (F.replace('f:returns', 'law') + 'new: return 2\n', G.replace('f(x)', '    f(x)') + 'new: x\n', False),
+]
+
+
+def samples():
+    """The results of the tests of this script."""
+    for stated, printed, good in LOGS:
+        yield None if (unmet(stated, printed) is None) == good else '%r is judged wrongly' % printed
+    for refuser, owner in OWNERS:
+        yield None if function_of(refuser) == owner else '%s is of %r' % (refuser, function_of(refuser))
+    listed, texts = list(functions_of(SOURCE, 'src/lib.rt')), {'src/lib.rt': SOURCE}
+    yield None if [(f.path, f.public) for f in listed] == [('f', False), ('g', True)] else 'the functions are %r' % listed
+    for first, second, good in TOGETHER:
+        programs = programs_of('== a\n%s== b\n%s' % (first, second))
+        yield None if (unfit_together(programs[0], programs[1:], listed, texts) is None) == good else '%r is judged wrongly' % first
+    for line in (SAID + F).splitlines()[:3]:
+        yield None if unsaid(Program('a', (SAID + F).replace(line, ''))) else 'nothing is missed without %r' % line
+    yield None if unsaid(Program('', SAID + F)) and not unsaid(Program('a', SAID + F)) else 'what is said is judged wrongly'
 
 
 def results():
-    for stated, printed, good in SAMPLES:
-        yield 'sample', None if (fault(stated, printed) is None) == good else '%r is judged wrongly' % printed
-    for edit in sorted(ROOT.glob('crates/*/must-fail/*.edit')):
-        yield edit.relative_to(ROOT), reason(edit)
+    for fault in samples():
+        yield 'sample', fault
+    for crate in sorted(ROOT.glob('crates/*')):
+        yield from of_crate(crate)
 
 
 report(results())

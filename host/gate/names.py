@@ -5,12 +5,13 @@ In every document but the papers as given, a code span such as `specs/Laws/Limit
 declarations of a file under crates/model, and one such as `syntax/specs/Read.antt: read` those of a file under another
 crate (`specs/` may be left out); a link names a file or a folder, beside the document or from the root, and
 so does a code span that looks like a path of the repository; a word such as (*step_not_taken*) in brackets names a
-must-fail edit. The last line is 'N passed, M failed': a test of this script on a sample, and one for each name.
+wrong program by its heading in a must-fail edit. The last line is 'N passed, M failed': a test of this script on a sample, and one for each name.
 """
 import re
 import sys
 
 sys.dont_write_bytecode = True
+from edits import edits
 from tally import ROOT, report
 
 CRATES = ROOT / 'crates'
@@ -19,7 +20,8 @@ FOLDERS = '|'.join(sorted(p.name for p in ROOT.iterdir() if p.is_dir() and p.nam
 PATH = re.compile(r'`((?:%s)/[\w./-]+)`' % FOLDERS.replace('.', r'\.'))
 LINK = re.compile(r'\]\((?!https?:)([^)#]+)(?:#[^)]*)?\)')
 GIVEN = [p for p in (ROOT / 'docs' / 'papers').glob('0*.md')]  # papers that stand as given
-EDIT = re.compile(r'\(\*(\w+)\*\)')
+PROGRAM = re.compile(r'\(\*(\w+)\*\)')
+PROGRAMS = {program.label for crate in CRATES.iterdir() for _, programs in edits(crate) for program in programs}
 
 TEXT_OR_COMMENT = re.compile(r'"(?:\\.|[^"\\])*"|(?<![^\s(){}.;,@"«»])--[^\n]*|\{-.*?-\}', re.S)
 MARKS = r'\s*(?:(?:unfoldable|abbrev|pub)\s+)*'
@@ -75,13 +77,13 @@ def declared(text):
 
 
 def files(document, text):
-    """The same for each file, folder and must-fail edit."""
+    """The same for each file, folder and wrong program."""
     for m in PATH.finditer(text):
         yield m.group(1), (ROOT / m.group(1)).exists()
     for m in LINK.finditer(text):
         yield m.group(1), (document.parent / m.group(1)).exists()
-    for m in EDIT.finditer(text):
-        yield m.group(1), bool(list(ROOT.glob('crates/*/must-fail/%s.edit' % m.group(1))))
+    for m in PROGRAM.finditer(text):
+        yield m.group(1), m.group(1) in PROGRAMS
 
 
 SAMPLE = '''

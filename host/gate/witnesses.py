@@ -6,8 +6,8 @@ vectors/, but with JSON values for the hex of rule, sheet, record and answer, an
 null where these are left out. They say what the edited definitions give: antt accepts `refl` for each over a copy of
 the definitions with the edit. At least one of an edit's cases is one where the reference gives something else; and
 over the definitions as they are, exactly the cases where it does are refused. (The reference does not read texts: a
-case of the entry `read` is always to be refused there.) An edit that no answer shows has a line `argued: ..` instead,
-which is not counted. Scratch repositories are in target/witnesses. The last line is 'N passed, M failed'.
+case of the entry `read` is always to be refused there.) A wrong program that no answer shows has a line `argued: ..`
+instead, which must_fail_reasons.py checks. Scratch repositories are in target/witnesses. The last line is 'N passed, M failed'.
 """
 import json
 import multiprocessing
@@ -16,6 +16,7 @@ import shutil
 import sys
 
 sys.dont_write_bytecode = True
+from edits import edits
 from tally import ROOT, report
 
 sys.path[:0] = [str(ROOT / 'host' / 'definitions'), str(ROOT / 'host' / 'reference')]
@@ -56,26 +57,15 @@ def check_of(name, line):
         raise Fault('%r is no witness: %s %s' % (line, type(error).__name__, error)) from None
 
 
-def checks_of(label, text):
-    """The checks of an edit's witnesses; none if it is argued."""
-    lines = re.findall(r'^witness: *(.*)$', text, re.M)
-    if not lines and not re.search(r'^argued: *\S', text, re.M):
-        raise Fault('it has neither a `witness:` nor an `argued:`')
+def checks_of(program):
+    """The checks of a wrong program's witnesses; none if it is argued."""
     # In antt a `_` in a name is the place of an operand.
-    return [check_of('%s-%d' % (label.replace('_', '·'), number), line) for number, line in enumerate(lines, 1)]
+    return [check_of('%s-%d' % (program.label.replace('_', '·'), number), line) for number, line in enumerate(program.stated('witness'), 1)]
 
 
-def changes_of(text):
-    """The replacements of an edit outside the laws: a file, the old text and the new. A `file:` holds for all pairs after it."""
-    changes, file, old = [], '', ''
-    for key, value in re.findall(r'^(file|old|new): ?(.*)$', text, re.M):
-        if key == 'file':
-            file = value
-        elif key == 'old':
-            old = value
-        elif not file.startswith('specs/Laws'):
-            changes.append((file, old, value))
-    return changes
+def changes_of(program):
+    """The replacements of a wrong program outside the laws."""
+    return [change for change in program.changes() if not change[0].startswith('specs/Laws')]
 
 
 # ---- the runs
@@ -140,17 +130,17 @@ def differs(check):
 def results():
     shutil.rmtree(SCRATCH, ignore_errors=True)
     names, tasks = [], []
-    edits = [edit for crate in (try_definitions.MODEL, try_definitions.SYNTAX) for edit in sorted((crate / 'must-fail').glob('*.edit'))]
-    for edit in edits:
-        text = edit.read_text(encoding='utf-8')
+    for crate, program in [(crate, program) for crate in (try_definitions.MODEL, try_definitions.SYNTAX)
+                           for _, programs in edits(crate) for program in programs]:
+        name = '%s: %s' % (crate.name, program.label)
         try:
-            checks = checks_of(edit.stem, text)
+            checks = checks_of(program)
         except Fault as fault:
-            yield edit.relative_to(ROOT), fault
+            yield name, fault
             continue
         if checks:
-            names.append(edit.relative_to(ROOT))
-            tasks.append((edit.parent.parent.name, edit.stem, changes_of(text), checks))
+            names.append(name)
+            tasks.append((crate.name, program.label, changes_of(program), checks))
     every = [check for *_, checks in tasks for check in checks]
     differing = {check.case['id'] for check in every if differs(check)}
 
