@@ -143,7 +143,7 @@ pub extern "C" fn jehvrukam_evaluate(
     if is_short(record_table, record_strings) {
         return 1;
     }
-    let o = judge(
+    let e = judge(
         rule_text,
         record_text,
         limit as usize,
@@ -154,14 +154,14 @@ pub extern "C" fn jehvrukam_evaluate(
         cells,
         output,
     );
-    settle(o.refusal, rule_table, rule_strings);
-    settle(o.refusal, record_table, record_strings);
-    settle(o.refusal, cells, output);
-    *which = o.which as u64;
-    *place = o.place as u64;
-    *steps = o.steps as u64;
-    *length = o.size as u64;
-    o.refusal
+    settle(e.refusal, rule_table, rule_strings);
+    settle(e.refusal, record_table, record_strings);
+    settle(e.refusal, cells, output);
+    *which = e.which as u64;
+    *place = e.place as u64;
+    *steps = e.steps as u64;
+    *length = e.size as u64;
+    e.refusal
 }
 
 // The same under a sheet's text: the rule has to pass the kind check first. It also tells the types found, and whether the record fits.
