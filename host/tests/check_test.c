@@ -430,9 +430,13 @@ static void test_layout(void)
     expect_fronts(given_three(rule, sheet, record), ended(0, BOOLEAN, 1, 2, "false"), fronts, __LINE__);
 }
 
+/* Each end of each entry, and the operations of one operand, in areas that nothing has written. */
 static void test_unset_areas(void)
 {
-    static const char rule[] = "{\"in\":[{\"var\":\"a\"},[1,2]]}";
+    static const char rule[] = "{\"in\":[{\"var\":\"a\"},[1,2]]}", denial[] = "{\"!\":[{\"var\":\"a\"}]}";
+    static const char birth[] = "{\"dccDateOfBirth\":[{\"var\":\"d\"}]}", dated[] = "{\"d\":[\"day\"]}";
+    static const char shift[] = "{\"plusTime\":[{\"var\":\"d\"},1,\"month\"]}", record[] = "{\"d\":\"2020-01-31\"}";
+    static const char part[] = "{\"extractFromUVCI\":[{\"var\":\"d\"},1]}";
     const struct {
         struct given given;
         struct answer answer;
@@ -452,6 +456,16 @@ static void test_unset_areas(void)
         {given_three(rule, "{}", RECORD_A), refused(13)},
         {given_three(rule, "1", RECORD_A), refused(14)},
         {given_three(rule, SHEET_A, "{\"a\":"), unread(2, JEHVRUKAM_RECORD, 5)},
+        {given_three(denial, SHEET_A, RECORD_A), ended(0, BOOLEAN, 1, 2, "false")},
+        {given_three(denial, SHEET_A, "{}"), ended(0, BOOLEAN, 0, 2, "true")},
+        {given_three(birth, dated, record), ended(0, INSTANT, 1, 2, "\"2020-01-31T00:00:00.000Z\"")},
+        {given_three(birth, dated, "{\"d\":\"x\"}"), ended(8, INSTANT, 0, 2, "")},
+        {given_three(shift, dated, record), ended(0, INSTANT, 1, 2, "\"2020-03-02T00:00:00.000Z\"")},
+        {given_three(shift, dated, "{\"d\":\"9999-12-31\"}"), ended(9, INSTANT, 1, 2, "")},
+        {given_three(shift, dated, RECORD_A), ended(7, INSTANT, 0, 2, "")},
+        {given_three(part, "{\"d\":[\"string\"]}", "{\"d\":\"URN:UVCI:01:NL\"}"),
+         ended(0, NULL_WORD | STRING, 1, 2, "\"NL\"")},
+        {given_three(part, "{\"d\":[\"string\"]}", "{\"d\":1}"), ended(7, NULL_WORD | STRING, 0, 2, "")},
     };
     for (size_t i = 0; i < sizeof calls / sizeof *calls; i++)
         expect_unset(&calls[i].given, calls[i].answer, __LINE__);

@@ -75,6 +75,8 @@ static void expect(const char *rule, const char *record, struct answer expected,
 
 #define RECORD_A "{\"a\":1}"
 #define SUM "{\"reduce\":[[1,2,3],{\"+\":[{\"var\":\"current\"},{\"var\":\"accumulator\"}]},0]}"
+#define BORN "{\"dccDateOfBirth\":[\"2000\"]}"
+#define SHIFTED "{\"plusTime\":[\"2000-01-31\",1,\"month\"]}"
 
 /* ---- the tests */
 
@@ -376,24 +378,66 @@ static void test_reuse(void)
         }
 }
 
+/* Every operation, with a value and with each refusal that it has, in areas that nothing has written: no cell is read
+ * but what this call put there. An operation of one operand stands alone too, so that no cell beside it is written. */
 static void test_unset_areas(void)
 {
-    static const struct {
+    const struct {
         const char *rule, *record;
         struct answer answer;
     } calls[] = {
+        {"[1,2", RECORD_A, unread(2, JEHVRUKAM_RULE, 4)},
+        {"{\"+\":[1,2,3]}", RECORD_A, refused(6, 0)},
+        {"{\"!\":[\"x\"]}", "{\"a\":1,\"a\":2}", unread(3, JEHVRUKAM_RECORD, 9)},
+        {"{\"var\":\"\"}", RECORD_A, answered(RECORD_A, 1)},
+        {"[]", RECORD_A, answered("[]", 1)},
+        {"[[\"a text of more than 26 bytes\"]]", RECORD_A, refused(12, 3)},
+        {"{\"if\":[{\"var\":\"b\"},1,[{\"var\":\"a\"}]]}", RECORD_A, answered("[1]", 4)},
+        {"{\"and\":[{\"var\":\"a\"},\"x\"]}", RECORD_A, answered("\"x\"", 3)},
+        {"{\"and\":[" BORN ",1]}", RECORD_A, refused(7, 3)},
         {"{\"reduce\":[{\"var\":\"l\"},[{\"var\":\"accumulator\"},{\"var\":\"current\"}],[]]}",
-         "{\"l\":[1,\"x\",[2]]}", {0, {0, 0, 12, 18}, ""}},
-        {"[1,2", RECORD_A, {2, {JEHVRUKAM_RULE, 4, 0, 0}, ""}},
-        {"{\"+\":[1,2,3]}", RECORD_A, {6, {0, 0, 0, 0}, ""}},
-        {"{\"!\":[\"x\"]}", "{\"a\":1,\"a\":2}", {3, {JEHVRUKAM_RECORD, 9, 0, 0}, ""}},
-        {"{\"+\":[{\"var\":\"a\"},\"x\"]}", RECORD_A, {7, {0, 0, 3, 0}, ""}},
-        {"[[\"a text of more than twenty bytes\"]]", RECORD_A, {12, {0, 0, 3, 0}, ""}},
+         "{\"l\":[1,\"x\",[2]]}", answered("[[[[],1],\"x\"],[2]]", 12)},
+        {"{\"reduce\":[[0,1],{\"!\":[{\"var\":\"current\"}]},2]}", RECORD_A, answered("false", 9)},
+        {"{\"reduce\":[{\"var\":\"a\"},1,2]}", RECORD_A, refused(7, 3)},
+        {"{\"===\":[{\"var\":\"a\"},1]}", RECORD_A, answered("true", 3)},
+        {"{\"===\":[1,[]]}", RECORD_A, refused(7, 3)},
+        {"{\"in\":[\"x\",[{\"var\":\"a\"},\"x\"]]}", RECORD_A, answered("true", 5)},
+        {"{\"in\":[\"x\",\"x\"]}", RECORD_A, refused(7, 3)},
+        {"{\"+\":[{\"var\":\"a\"},-2]}", RECORD_A, answered("-1", 3)},
+        {"{\"+\":[{\"var\":\"a\"},\"x\"]}", RECORD_A, refused(7, 3)},
+        {"{\"+\":[{\"var\":\"a\"},9007199254740991]}", RECORD_A, refused(9, 3)},
+        {"{\">\":[2,1]}", RECORD_A, answered("true", 3)},
+        {"{\"<\":[1,2,2]}", RECORD_A, answered("false", 4)},
+        {"{\">=\":[3,2,2]}", RECORD_A, answered("true", 4)},
+        {"{\"<=\":[2,1]}", RECORD_A, answered("false", 3)},
+        {"{\">\":[3,2,\"x\"]}", RECORD_A, refused(7, 4)},
+        {"{\"after\":[" BORN "," SHIFTED "]}", RECORD_A, answered("true", 5)},
+        {"{\"before\":[" BORN "," SHIFTED "," BORN "]}", RECORD_A, answered("false", 7)},
+        {"{\"not-after\":[" SHIFTED "," BORN "," BORN "]}", RECORD_A, answered("true", 7)},
+        {"{\"not-before\":[" SHIFTED "," BORN "]}", RECORD_A, answered("false", 5)},
+        {"{\"not-before\":[" BORN ",\"2000\"]}", RECORD_A, refused(7, 4)},
+        {"{\"!\":[{\"var\":\"a\"}]}", RECORD_A, answered("false", 2)},
+        {"{\"!\":[[]]}", RECORD_A, answered("true", 2)},
+        {"{\"!\":[" BORN "]}", RECORD_A, refused(7, 3)},
+        {BORN, RECORD_A, answered("\"2000-12-31T00:00:00.000Z\"", 2)},
+        {"{\"dccDateOfBirth\":[{\"var\":\"a\"}]}", RECORD_A, refused(7, 2)},
+        {"{\"dccDateOfBirth\":[\"x\"]}", RECORD_A, refused(8, 2)},
+        {SHIFTED, RECORD_A, answered("\"2000-03-02T00:00:00.000Z\"", 2)},
+        {"{\"plusTime\":[{\"var\":\"a\"},1,\"hour\"]}", RECORD_A, refused(7, 2)},
+        {"{\"plusTime\":[\"x\",1,\"hour\"]}", RECORD_A, refused(8, 2)},
+        {"{\"plusTime\":[\"9999-12-31\",1,\"day\"]}", RECORD_A, refused(9, 2)},
+        {"{\"extractFromUVCI\":[\"URN:UVCI:01:NL\",1]}", RECORD_A, answered("\"NL\"", 2)},
+        {"{\"extractFromUVCI\":[{\"var\":\"b\"},0]}", RECORD_A, answered("null", 2)},
+        {"{\"extractFromUVCI\":[{\"var\":\"a\"},0]}", RECORD_A, refused(7, 2)},
     };
     for (size_t i = 0; i < sizeof calls / sizeof *calls; i++) {
         struct given given = given_texts(calls[i].rule, calls[i].record);
-        given.lengths[OUTPUT] = 20;
+        given.lengths[OUTPUT] = 26; /* an instant's text */
         expect_unset(&given, calls[i].answer, __LINE__);
+        if (calls[i].answer.numbers[STEPS] > 0) {
+            given.limit = calls[i].answer.numbers[STEPS] - 1;
+            expect_unset(&given, refused(JEHVRUKAM_OUT_OF_STEPS, given.limit), __LINE__);
+        }
     }
 }
 

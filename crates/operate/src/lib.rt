@@ -59,7 +59,7 @@ fn comparison(cells: &[u8], domain: Domain, c: Comparison, bottom: usize, count:
     compare_three(domain, c, x, y, operand(cells, bottom, 2))
 }
 
-// Every operation but that of an array.
+// Every operation but that of an array. It reads the cells of its own operands only: others may never have been written.
 pub fn operate<'a>(
     literals: &'a [u8],
     strings: &'a [u8],
@@ -72,15 +72,17 @@ pub fn operate<'a>(
     ensures { λ r. ⌜ Operates (now (literals .entry)) (now (strings .entry)) (now (table .entry)) (now (cells .entry)) op bottom count r ⌝ }
 {
     let x = operand(cells, bottom, 0);
-    let y = operand(cells, bottom, 1);
     match op {
         Op::Array => Operated::WrongKind,
         Op::If => Operated::WrongKind,
         Op::And => Operated::WrongKind,
         Op::Reduce => Operated::WrongKind,
-        Op::Equal => equality(literals, strings, x, y),
-        Op::MemberOf => membership(literals, strings, table, cells, x, y),
-        Op::Plus => sum(x, y),
+        Op::Equal => equality(literals, strings, x, operand(cells, bottom, 1)),
+        Op::MemberOf => {
+            let y = operand(cells, bottom, 1);
+            membership(literals, strings, table, cells, x, y)
+        }
+        Op::Plus => sum(x, operand(cells, bottom, 1)),
         Op::Not => negated(x),
         Op::DateOfBirth => date_of_birth(literals, strings, x),
         Op::Compare {
