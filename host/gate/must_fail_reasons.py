@@ -18,10 +18,12 @@ from sources import functions, functions_of
 from tally import ROOT, report
 
 WANTED = 2  # wrong programs of each public function
-ANY_ERROR = re.compile(r'^\S+: error.*$', re.M)
-OWN_ERROR = re.compile(r'^(\S+): error: `([^`]+)`: (.*)$')
+ANY_ERROR = re.compile(r'^\S+: error.*(?:\n[ \t].*)*', re.M)  # a long message goes on in indented lines
+OWN_ERROR = re.compile(r'^(\S+): error: `([^`]+)`: (.*)$', re.S)
+CODE = re.compile(r'`(?!mod`)[^`]*`')  # but for the word `mod`
 OF_FUNCTION = re.compile(r'/proofs/(\S+)/Proof\.antt(?::\d+)*$')
 AFTER_ANOTHER = 'was not admitted'
+REMARK = 'not in scope here, so what is shown'  # of a type that is printed, and no error
 NO_FACT = ('not in scope', 'can be named from here', 'has no field', 'parse', 'layout', 'already a name', '`mod` line')
 
 
@@ -30,15 +32,16 @@ NO_FACT = ('not in scope', 'can be named from here', 'has no field', 'parse', 'l
 def refused_in(printed):
     """The declarations that a log refuses for a fact, and None; or what is wrong with one of its errors."""
     refused = set()
-    for line in ANY_ERROR.findall(printed):
-        own = OWN_ERROR.match(line)
+    for error in ANY_ERROR.findall(printed):
+        own = OWN_ERROR.match(error)
         if not own:
-            return refused, 'an error that names no declaration: %s' % line[:200]
+            return refused, 'an error that names no declaration: %s' % error[:200]
         place, name, message = own.groups()
-        if AFTER_ANOTHER in message:
+        said = ' '.join(CODE.sub('``', message).split()).replace(REMARK, '')  # the words of the message, without the code in it
+        if AFTER_ANOTHER in said:
             continue
-        if any(word in message for word in NO_FACT):
-            return refused, 'an error about names or layout: %s' % line[:200]
+        if any(words in said for words in NO_FACT):
+            return refused, 'an error about names or layout: %s' % error[:300]
         function = OF_FUNCTION.search(place)
         refused.add('%s:%s' % (function.group(1), name) if function else name)
     return refused, None
@@ -120,6 +123,12 @@ LOGS = [
     (['law'], 'a.antt:1:2: error: `law`: the two types differ\na.antt:2:2: error: `other`: `y` is not in scope\n', False),
     (['law'], 'a.antt:1:2: error: `law`: the two types differ\na.antt:2:2: error: `other`: `parsed` was not admitted\n', True),
     (['law'], 'a.antt:1:2: error: `law`: record `lts.Start` has no field `before`\n', False),
+    (['law'], 'a.antt:1:2: error: `law`: record `lts.Start`\n  has no\n  field `before`\nfn f: not proved\n', False),
+    (['law'], 'a.antt:1:2: error: `law`: the two types differ, where one has `x`\n  and `y`\n  was not admitted\n', False),
+    (['law'], 'a.antt:1:2: error: `law`: one has `is not in scope`\n  and the other `specs.layout`\nnote: layout\n', True),
+    (['law'], 'a.antt:1:2: error: `law`: a `mod` line is missing\n', False),
+    (['law'], 'a.antt:1:2: error: `law`: the two differ\n  `x` is not in scope here, so what is shown does not paste back\n', True),
+    (['law'], 'a.antt:1:2: error: `law`: the two differ: name it on an `unfold` line\n', True),
     (['m/f:returns'], '/c/proofs/m/f/Proof.antt:1:2: error: `returns`: the two types differ\n', True),
     (['m/f:returns'], '/c/proofs/m/g/Proof.antt:1:2: error: `returns`: the two types differ\n', False),
     (['returns'], '/c/proofs/m/f/Proof.antt:1:2: error: `returns`: the two types differ\n', False),
