@@ -321,8 +321,8 @@ def self_test():
 def tried(checks, traces, modules):
     """The number of checks that are accepted; those that are refused by themselves, with what was said; and whether the self-test passes."""
     tests = self_test()
-    size = try_definitions.GROUP
-    crates = try_definitions.dealt({**try_definitions.grouped(checks, size), **try_definitions.grouped(traces, size)}, "random")
+    most = try_definitions.TOGETHER
+    crates = try_definitions.dealt({**try_definitions.grouped(checks, most), **try_definitions.grouped(traces, most)}, "random")
     refused = try_definitions.run({**crates, "wrong": tests}, modules)
     wrong = set(refused.pop("wrong") or {})
     tested = wrong == {name for name in tests if "wrong" in name}
@@ -331,7 +331,7 @@ def tried(checks, traces, modules):
     accepted, others = try_definitions.judged(crates, refused)
     refuted = []
     if others:
-        crates = try_definitions.dealt(try_definitions.grouped([check for check, _ in others[: try_definitions.SINGLED]], 1), "single")
+        crates = try_definitions.dealt(try_definitions.grouped([check for check, _ in others[: try_definitions.SINGLED]], try_definitions.ALONE), "single")
         alone, refuted = try_definitions.judged(crates, try_definitions.run(crates, modules))
         accepted += alone
         refuted += [(check, "in a refused group, and not tried by itself") for check, _ in others[try_definitions.SINGLED :]]

@@ -67,7 +67,7 @@ def prove(cases):
     with contextlib.redirect_stdout(sys.stderr):
         try_definitions.clear()
         modules = try_definitions.copy_definitions()
-        crates = {CRATE: try_definitions.grouped(checks, 1)}
+        crates = {CRATE: try_definitions.grouped(checks, try_definitions.ALONE)}
         refuted = try_definitions.judged(crates, try_definitions.run(crates, modules))[1]
         for check, said in refuted:
             print("The definitions are not seen to give what the reference gives.")

@@ -22,7 +22,11 @@ READING = ["Tokens", "Utf8", "Domain", "Read"]  # the modules of syntax that def
 SCRATCH = ROOT / "target" / "definitions"
 
 JOBS = 2  # crates that are checked at once
-GROUP = 20  # cases in a declaration: antt computes a call once in a declaration, and groups take a fifth of the time
+# antt computes a call once in a declaration, so cases that share one take less time; but it gives up on a declaration
+# with too much to compute. A case weighs the bytes of the text that it reads, and at least LIGHT.
+TOGETHER = 16384  # what the cases of a declaration may weigh in all; a case that weighs more stands alone
+LIGHT = 164
+ALONE = 0
 SINGLED = 300  # cases of refused groups that are then tried in a declaration each
 SHOWN = 20  # disagreements that are printed
 
@@ -361,7 +365,7 @@ def copy_definitions():
         if module not in modules:
             modules.append(module)
             put("model", f"specs/{module}.antt", source(module))
-            found += set(re.findall(r"^use Rattle\.model\.specs\.(\w+)", source(module), re.MULTILINE)) - {"declared"}
+            found += sorted(set(re.findall(r"^use Rattle\.model\.specs\.(\w+)", source(module), re.MULTILINE)) - {"declared"})
     put("model", "specs/Lib.antt", "".join(f"pub mod {module}\n" for module in modules))
     return modules + READING
 
@@ -405,8 +409,9 @@ def refusals(output, name, groups):
 
 
 def clear():
-    """Removes the scratch repository."""
-    shutil.rmtree(SCRATCH, ignore_errors=True)
+    """Removes the sources of the scratch repository. What rt proved stays: it proves only what has changed since."""
+    shutil.rmtree(SCRATCH / "crates", ignore_errors=True)
+    (SCRATCH / "output.txt").unlink(missing_ok=True)
 
 
 def rt_check(names):
@@ -434,9 +439,20 @@ def run(crates, modules):
     return refused
 
 
-def grouped(checks, size):
-    """Groups of so many checks, by the name of the first. In antt a `_` in a name is the place of an operand."""
-    return {checks[at].case["id"].replace("_", "·"): checks[at : at + size] for at in range(0, len(checks), size)}
+def weight(check):
+    return max(LIGHT, check.call.count("∷") if check.call.startswith("seenRead") else 0)
+
+
+def grouped(checks, most):
+    """Groups of checks that weigh no more in all, by the name of the first. In antt a `_` in a name is the place of an operand."""
+    groups, room = [], 0
+    for check in checks:
+        room -= weight(check)
+        if room < 0:
+            groups.append([])
+            room = most - weight(check)
+        groups[-1].append(check)
+    return {group[0].case["id"].replace("_", "·"): group for group in groups}
 
 
 def dealt(groups, name):
@@ -492,7 +508,7 @@ def self_tested(tests, wrong):
 
 def tried_alone(others, modules):
     """Of checks in refused groups, the ones that are accepted in a declaration of their own; and the cases of the rest, with what was said."""
-    crates = dealt(grouped([check for check, _ in others[:SINGLED]], 1), "single")
+    crates = dealt(grouped([check for check, _ in others[:SINGLED]], ALONE), "single")
     alone, refuted = judged(crates, run(crates, modules)) if crates else ([], [])
     disagreeing = [(check.case, said) for check, said in refuted]
     return alone, disagreeing + [(check.case, "in a refused group, and not tried by itself") for check, _ in others[SINGLED:]]
@@ -522,7 +538,7 @@ def main():
 
     clear()
     modules = copy_definitions()
-    crates = dealt(grouped(checks, GROUP), "trial")
+    crates = dealt(grouped(checks, TOGETHER), "trial")
     refused = run({**crates, "wrong": tests}, modules)
     tested = self_tested(tests, refused.pop("wrong") or {})
     if options.self_test:
