@@ -23,7 +23,7 @@ use Rattle.model.specs.Run.{trace}
 use Rattle.model.specs.Shape.{shape}
 """
 
-CASES = 5000  # about a minute on two idle processors
+CASES = 5000  # about half a minute on two idle processors
 SHOWN = 20  # disagreements that are printed
 LONGEST_TRACE = 60  # steps of a run whose trace is compared
 
