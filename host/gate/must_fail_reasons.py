@@ -6,18 +6,19 @@ witness. All that it names in `refused-by` must be refused by an error of its ow
 names, paths, layout or parsing: such an edit would only make the proofs unfit, and show nothing. Several may share a
 file, and so a check, if each changes one function's body only, that of its `refused-by`, and no two the same; an edit of a
 constant, a type, a contract or a definition stands alone. Every public function has two wrong programs that are refused
-by its own needs. The last line is 'N passed, M failed': tests of this script on samples, and one for each wrong program
-and each public function.
+by its own needs. The last line is 'N passed, M failed': tests of this script on samples, and one for each wrong program,
+each public function, and each source, of which every function must have been seen.
 """
 import re
 import sys
 
 sys.dont_write_bytecode = True
 from edits import Program, edits, function_of, programs_of
-from sources import functions, functions_of
+from sources import functions, functions_of, without_comments
 from tally import ROOT, report
 
 WANTED = 2  # wrong programs of each public function
+FUNCTION = re.compile(r'\bfn\s+\w')
 ANY_ERROR = re.compile(r'^\S+: error.*(?:\n[ \t].*)*', re.M)  # a long message goes on in indented lines
 OWN_ERROR = re.compile(r'^(\S+): error: `([^`]+)`: (.*)$', re.S)
 CODE = re.compile(r'`(?!mod`)[^`]*`')  # but for the word `mod`
@@ -101,9 +102,18 @@ def verdict(program, programs, log, listed, texts):
     return wrong or unmet(program.refusers(), log.read_text(encoding='utf-8'))
 
 
+def unseen(file, text, listed):
+    """None if each function of a source's text is among those listed, else how many are not: its wrong programs would not be asked for."""
+    there, seen = len(FUNCTION.findall(without_comments(text))), sum(f.file == file for f in listed)
+    return None if there == seen else '%d functions, of which %d are seen' % (there, seen)
+
+
 def of_crate(crate):
     """The results of one crate."""
     listed = list(functions(crate))
+    for source in sorted((crate / 'src').rglob('*.rt')):
+        file = str(source.relative_to(crate))
+        yield '%s: %s' % (crate.name, file), unseen(file, source.read_text(encoding='utf-8'), listed)
     texts = {f.file: (crate / f.file).read_text(encoding='utf-8') for f in listed}
     counts = {f.path: 0 for f in listed if f.public}
     for file, programs in edits(crate):
@@ -167,6 +177,9 @@ def samples():
         yield None if function_of(refuser) == owner else '%s is of %r' % (refuser, function_of(refuser))
     listed, texts = list(functions_of(SOURCE, 'src/lib.rt')), {'src/lib.rt': SOURCE}
     yield None if [(f.path, f.public) for f in listed] == [('f', False), ('g', True)] else 'the functions are %r' % listed
+    for more, good in (('', True), ('// fn h()', True), ('pub(crate) fn h() {}\n', False)):
+        also = list(functions_of(SOURCE + more, 'src/lib.rt'))
+        yield None if (unseen('src/lib.rt', SOURCE + more, also) is None) == good else '%r is judged wrongly' % more
     for first, second, good in TOGETHER:
         programs = programs_of('== a\n%s== b\n%s' % (first, second))
         yield None if (unfit_together(programs[0], programs[1:], listed, texts) is None) == good else '%r is judged wrongly' % first
