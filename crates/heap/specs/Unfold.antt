@@ -3,11 +3,10 @@
 use mathlib.Core.Bool.{true, false}
 use mathlib.Core.List.{[]}
 use Prim.Native.Nat.{ℕ, zero, suc, _-_}
-use lib.Dec.{leb}
-use lib.IntN.{ℤ, pos, negsuc}
 use Rattle.model.specs.Bytes.{Bytes}
 use Rattle.model.specs.Instant.{inRange, fromYear0}
 use Rattle.model.specs.Value.{Value, scalar, instant, array, object, null, boolean, integer, string, Values, no-items, item, Members as ValueMembers, no-members, member}
+use Rattle.syntax.specs.Layout.{unbiased}
 use Rattle.heap.specs.declared.handle.Handle.{Handle}
 use Rattle.heap.specs.declared.handle.Handle.the-variants.{Null, False, True, Integer, Instant, String, Compound}
 use Rattle.heap.specs.declared.handle.Form.{Form}
@@ -33,10 +32,6 @@ readAreas T B = areas [] B T []
 -- The same areas with other cells.
 abbrev pub withCells : Areas → Bytes → Areas
 withCells a C = areas (a .rule) (a .strings) (a .table) C
-
--- 2^53 was added (syntax/Layout.antt: biased).
-unfoldable pub unbiased : ℕ → ℤ
-unbiased n = elim (leb 9007199254740992 n) [ true ↦ pos (n - 9007199254740992) | false ↦ negsuc (9007199254740991 - n) ]
 
 -- Milliseconds since 0000-01-01; a number past the latest instant is null.
 unfoldable pub instantAt : ℕ → Value

@@ -9,14 +9,15 @@ use types.Run.{OneOf, miss}
 use Rattle.model.specs.Bytes.{Bytes}
 use Rattle.model.specs.Laws.Logic.{clash}
 use Rattle.model.specs.Value.{Value, Scalar, null, boolean, integer, string, asScalar, asArray, asInteger, asInstant}
+use Rattle.syntax.specs.Layout.{unbiased}
 use Rattle.heap.proofs.handle.Handle.{the-type}
 use Rattle.heap.specs.declared.handle.Handle.{Handle}
 use Rattle.heap.specs.declared.handle.Handle.the-variants.{Null, False, True, Integer, Instant, String, Compound}
 use Rattle.heap.specs.declared.handle.Parts.{Parts}
-use Rattle.heap.specs.Laws.Numbers.{unbiased-biased}
+use Rattle.syntax.specs.Laws.Biased.{unbiased-biased}
 use Rattle.heap.specs.Means.{Means, means-null, means-false, means-true, means-integer, means-instant, means-string, means-items, means-members, means-list, means-context}
 use Rattle.heap.specs.Strings.{spanBytes}
-use Rattle.heap.specs.Unfold.{Areas, unbiased}
+use Rattle.heap.specs.Unfold.{Areas}
 use Rattle.scalars.specs.Inner.{scalarOf, isScalar, isArray}
 
 -- ---- scalars

@@ -12,8 +12,7 @@ use Rattle.model.specs.Instant.{inRange, sinceYear0}
 use Rattle.model.specs.Laws.Logic.{and-l}
 use Rattle.model.specs.Limits.{maxInteger}
 use Rattle.model.specs.Value.{sameInteger, withinLimits}
-use Rattle.syntax.specs.Layout.{biased}
-use Rattle.heap.specs.Unfold.{unbiased}
+use Rattle.syntax.specs.Layout.{biased, unbiased}
 use Rattle.scalars.specs.Inner.{Raised, raised-pos, raised-negsuc}
 
 -- ---- order

@@ -14,7 +14,7 @@ use Rattle.model.specs.Laws.Logic.{clash}
 use Rattle.model.specs.Option.{holds}
 use Rattle.model.specs.Result.{ok}
 use Rattle.model.specs.Value.{Value, array, Scalar, null, boolean, integer, string, Values, no-items, item, asScalar, asArray, sameScalar}
-use Rattle.syntax.specs.Layout.{itemCount}
+use Rattle.syntax.specs.Layout.{itemCount, unbiased}
 use Rattle.heap.proofs.handle.Handle.{the-type}
 use Rattle.heap.specs.declared.handle.Handle.{Handle}
 use Rattle.heap.specs.declared.handle.Handle.the-variants.{Null, False, True, Integer, Instant, String, Compound}
@@ -24,7 +24,7 @@ use Rattle.heap.specs.Laws.Means.{array-count, array-parts}
 use Rattle.heap.specs.Means.{Means, means-items, means-members, means-list, means-context}
 use Rattle.heap.specs.Parts.{headOf, tailOf}
 use Rattle.heap.specs.Strings.{spanBytes}
-use Rattle.heap.specs.Unfold.{Areas, unbiased}
+use Rattle.heap.specs.Unfold.{Areas}
 use Rattle.result.specs.declared.Operated.{Operated}
 use Rattle.result.specs.declared.Operated.the-variants as Operateds
 use Rattle.scalars.specs.Contract.{Equality, Membership}

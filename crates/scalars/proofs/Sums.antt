@@ -13,7 +13,7 @@ use Rattle.model.specs.Result.{Result, ok, provided}
 use Rattle.model.specs.Value.{Value, scalar, integer, asInteger, withinLimits}
 use Rattle.heap.specs.declared.handle.Handle.{Handle}
 use Rattle.heap.specs.declared.handle.Handle.the-variants.{Integer}
-use Rattle.heap.specs.Laws.Numbers.{biased-small}
+use Rattle.syntax.specs.Laws.Biased.{biased-small}
 use Rattle.heap.specs.Means.{Means, means-integer}
 use Rattle.heap.specs.Unfold.{Areas}
 use Rattle.result.specs.Gives.{Gives, gives-value, gives-out-of-range}

@@ -14,6 +14,7 @@ use Rattle.model.specs.declared.Comparison.{Comparison}
 use Rattle.model.specs.declared.Comparison.the-variants.{Greater, Less, GreaterOrEqual, LessOrEqual}
 use Rattle.model.specs.declared.Domain.{Domain}
 use Rattle.model.specs.declared.Domain.the-variants.{OnIntegers, OnInstants}
+use Rattle.syntax.specs.Layout.{unbiased}
 use Rattle.heap.specs.declared.handle.Form.{Form}
 use Rattle.heap.specs.declared.handle.Form.the-variants.{Items, Members, List, Context}
 use Rattle.heap.specs.declared.handle.Handle.{Handle}
@@ -22,7 +23,7 @@ use Rattle.heap.specs.declared.handle.Parts.{Parts}
 use Rattle.heap.specs.Means.{Means}
 use Rattle.heap.specs.Parts.{headOf, tailOf}
 use Rattle.heap.specs.Strings.{spanBytes}
-use Rattle.heap.specs.Unfold.{Areas, unbiased}
+use Rattle.heap.specs.Unfold.{Areas}
 use Rattle.scalars.specs.declared.compare.Number.{Number}
 use Rattle.scalars.specs.declared.compare.Number.the-variants.{Is, NotOne}
 use Rattle.scalars.specs.declared.truth.Truth.{Truth}

@@ -14,8 +14,8 @@ use result::Operated;
 ghost use mathlib.Core.Path.{_≡_};
 ghost use Rattle.model.specs.Bytes.{Bytes};
 ghost use Rattle.model.specs.Value as model;
+ghost use Rattle.syntax.specs.Layout.{unbiased};
 ghost use Rattle.heap.specs.Strings.{spanBytes};
-ghost use Rattle.heap.specs.Unfold.{unbiased};
 ghost use Rattle.scalars.specs.Contract.{Negated, Equality, Membership};
 ghost use Rattle.scalars.specs.Inner.{isScalar, isThe, sameHandles, amongParts, isArray};
 

@@ -8,6 +8,8 @@ pub mod SoundStrings
 pub mod Sound
 pub mod Meaning
 pub mod Layout
+pub mod Biased
+pub mod Stands
 pub mod FaultScalars
 pub mod FaultStrings
 pub mod Faults

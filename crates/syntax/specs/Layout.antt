@@ -3,6 +3,7 @@
 use mathlib.Core.Bool.{true, false}
 use mathlib.Core.List.{[], _∷_, _++_}
 use Prim.Native.Nat.{ℕ, suc, _+_, _*_, _-_, _/_, _%_}
+use lib.Dec.{leb}
 use lib.IntN.{ℤ, pos, negsuc}
 use lib.ListN.{length, replicate}
 use Rattle.area.specs.Words.{word}
@@ -62,6 +63,10 @@ row kind name a b = word (kind + 256 * name .size) ++ (word (name .start) ++ (wo
 unfoldable pub biased : ℤ → ℕ
 biased (pos n) = 9007199254740992 + n
 biased (negsuc n) = 9007199254740992 - suc n
+
+-- And back.
+unfoldable pub unbiased : ℕ → ℤ
+unbiased n = elim (leb 9007199254740992 n) [ true ↦ pos (n - 9007199254740992) | false ↦ negsuc (9007199254740991 - n) ]
 
 unfoldable pub itemCount : Values → ℕ
 itemCount no-items = 0

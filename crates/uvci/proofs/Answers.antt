@@ -18,6 +18,7 @@ use Rattle.model.specs.Refusal.{wrongKind}
 use Rattle.model.specs.Result.{ok, refuse}
 use Rattle.model.specs.Value.{Value, scalar, null, string}
 use Rattle.model.specs.Laws.Logic.{clash}
+use Rattle.syntax.specs.Layout.{unbiased}
 use Rattle.heap.proofs.handle.Handle.{the-type}
 use Rattle.heap.specs.declared.handle.Area.{Area}
 use Rattle.heap.specs.declared.handle.Area.the-variants.{Rule, Record}
@@ -27,8 +28,8 @@ use Rattle.heap.specs.declared.handle.Span.{Span}
 use Rattle.heap.specs.Handles.{span}
 use Rattle.heap.specs.Means.{Lies, Means, means-null, means-false, means-true, means-integer, means-instant, means-string, means-items, means-members, means-list, means-context}
 use Rattle.heap.specs.Strings.{part, areaBytes, spanBytes}
-use Rattle.heap.specs.Unfold.{Areas, unbiased}
-use Rattle.heap.specs.Laws.Numbers.{unbiased-biased}
+use Rattle.heap.specs.Unfold.{Areas}
+use Rattle.syntax.specs.Laws.Biased.{unbiased-biased}
 use Rattle.result.specs.declared.Operated.{Operated}
 use Rattle.result.specs.declared.Operated.the-variants as Operateds
 use Rattle.result.specs.Gives.{Gives, gives-value, gives-wrong-kind}

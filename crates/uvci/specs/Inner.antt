@@ -8,8 +8,8 @@ use lib.ListN.{length, drop}
 use Rattle.model.specs.Bytes.{Bytes, splitOn}
 use Rattle.model.specs.Operations.{dropPrefix, fragment, isUvciSeparator}
 use Rattle.model.specs.Value.{Value, scalar, null, string}
+use Rattle.syntax.specs.Layout.{unbiased}
 use Rattle.heap.specs.Strings.{part}
-use Rattle.heap.specs.Unfold.{unbiased}
 use Rattle.uvci.specs.declared.Fragment.{Fragment}
 use Rattle.uvci.specs.declared.Fragment.the-variants.{Absent, At}
 

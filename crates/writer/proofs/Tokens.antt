@@ -16,7 +16,8 @@ use Rattle.model.specs.Result.{ok, refuse, provided}
 use Rattle.model.specs.Value.{scalar, instant, null}
 use Rattle.model.specs.Writing.{decimal, integerText, stringText, valueText}
 use Rattle.model.specs.Laws.Logic.{clash}
-use Rattle.heap.specs.Unfold.{unbiased, instantAt}
+use Rattle.syntax.specs.Layout.{unbiased}
+use Rattle.heap.specs.Unfold.{instantAt}
 use Rattle.print.specs.Contract.{Put, StringPut}
 use Rattle.print.specs.Laws.{put-then, string-fits, string-passes}
 use Rattle.writer.specs.Inner.{Puts}

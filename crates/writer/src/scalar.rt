@@ -12,7 +12,8 @@ use syntax::BIAS;
 ghost use Prim.Native.Nat.{_≤_};
 ghost use Rattle.model.specs.Limits.{maxTextBytes};
 ghost use Rattle.model.specs.Writing.{integerText, valueText};
-ghost use Rattle.heap.specs.Unfold.{unbiased, instantAt};
+ghost use Rattle.syntax.specs.Layout.{unbiased};
+ghost use Rattle.heap.specs.Unfold.{instantAt};
 ghost use Rattle.print.specs.Contract.{Put};
 ghost use Rattle.writer.specs.Inner.{Puts, handleText};
 

@@ -17,7 +17,8 @@ use Rattle.model.specs.Limits.{maxNesting, maxValues, heapCells}
 use Rattle.model.specs.Size.{nesting, itemsNesting, membersNesting}
 use Rattle.model.specs.Value.{Value, scalar, array, object, null, integer, string, Values, item, Members, member, memberCount}
 use Rattle.model.specs.Laws.Logic.{clash}
-use Rattle.syntax.specs.Layout.{itemCount}
+use Rattle.syntax.specs.Layout.{itemCount, unbiased}
+use Rattle.syntax.specs.Laws.Biased.{biased-small, unbiased-biased}
 use Rattle.heap.specs.declared.handle.Handle.{Handle}
 use Rattle.heap.specs.declared.handle.Handle.the-variants as variants
 use Rattle.heap.specs.declared.handle.Form.the-variants as forms
@@ -26,9 +27,9 @@ use Rattle.heap.specs.Cells.{Packs, packedOf, cellHandle, cellBytes, sto
 use Rattle.heap.specs.Handles.{parts}
 use Rattle.heap.specs.Means.{Means, means-null, means-false, means-true, means-integer, means-instant, means-string, means-items, means-members, means-list, means-context, RowItems, no-row-items, row-item, RowMembers, no-row-members, row-member, CellItems, no-cell-items, cell-item}
 use Rattle.heap.specs.Parts.{headOf, tailOf, nextCell, labelOf, labelBytes}
-use Rattle.heap.specs.Unfold.{Areas, withCells, unbiased, instantAt, itemsBy, membersBy, valueBy, unfolded}
+use Rattle.heap.specs.Unfold.{Areas, withCells, instantAt, itemsBy, membersBy, valueBy, unfolded}
 use Rattle.heap.specs.Laws.Cells.{length-stored, stored-other}
-use Rattle.heap.specs.Laws.Numbers.{biased-small, unbiased-biased, instantAt-sinceYear0, text-small, values-small, heap-small}
+use Rattle.heap.specs.Laws.Numbers.{instantAt-sinceYear0, text-small, values-small, heap-small}
 
 -- ---- while the heap grows
 -- The cells below `top` hold the same.

@@ -1,34 +1,15 @@
--- Numbers: integers and instants as the numbers that handles hold, there and back, and how large these and other numbers in handles are.
+-- Numbers: instants as the numbers that handles hold, there and back, and how large other numbers in handles are.
 use mathlib.Core.Path.{_≡_, ap}
-use mathlib.Core.Bool.{true}
-use Prim.Native.Nat.{ℕ, suc, _+_, _-_, _≤_, _<_}
+use Prim.Native.Nat.{ℕ, _≤_, _<_}
 use native.Mathlib.Omega.{arith}
-use borrow.Author.Tests.{le-leb, lt-leb}
-use lib.Dec.{T, leb, leb→le}
-use lib.IntN.{ℤ, pos, negsuc}
+use lib.Dec.{T}
+use lib.IntN.{ℤ}
 use Rattle.model.specs.Instant.{inRange, sinceYear0}
 use Rattle.model.specs.Laws.DateText.{since-back}
-use Rattle.model.specs.Laws.Logic.{and-l, T→true}
-use Rattle.model.specs.Limits.{maxTextBytes, maxValues, heapCells, maxInteger}
-use Rattle.model.specs.Value.{instant, withinLimits}
-use Rattle.syntax.specs.Layout.{biased}
-use Rattle.heap.specs.Unfold.{unbiased, instantAt}
-
--- ---- integers
-pub biased-small : (z : ℤ) → T (withinLimits z) → biased z ≤ 18014398509481983
-unfolding biased maxInteger
-biased-small (pos n) h = omega (arith, leb→le n 9007199254740991 h)
-biased-small (negsuc n) h = omega arith
-
-pub unbiased-biased : (z : ℤ) → T (withinLimits z) → unbiased (biased z) ≡ z
-unfolding unbiased biased maxInteger
-unbiased-biased (pos n) h =
-    let e : 9007199254740992 + n - 9007199254740992 ≡ n = omega arith in
-    rw (unbiased, le-leb 9007199254740992 (9007199254740992 + n) (omega arith)) (ap pos e)
-unbiased-biased (negsuc n) h =
-    let l = leb→le n 9007199254740990 (and-l (leb n 9007199254740990) true h) in
-    let e : 9007199254740991 - (9007199254740992 - suc n) ≡ n = omega arith in
-    rw (unbiased, lt-leb 9007199254740992 (9007199254740992 - suc n) (omega arith)) (ap negsuc e)
+use Rattle.model.specs.Laws.Logic.{T→true}
+use Rattle.model.specs.Limits.{maxTextBytes, maxValues, heapCells}
+use Rattle.model.specs.Value.{instant}
+use Rattle.heap.specs.Unfold.{instantAt}
 
 -- ---- instants
 pub instantAt-sinceYear0 : (t : ℤ) → T (inRange t) → instantAt (sinceYear0 t) ≡ instant t

@@ -1,60 +1,34 @@
 -- ReadForm: what reading leaves in its areas means the value that was read.
-use mathlib.Core.Path.{_≡_, refl, sym, ap, subst, _∙_}
+use mathlib.Core.Path.{_≡_, refl, _∙_}
 use mathlib.Core.Bool.{true, false, cond}
-use mathlib.Core.List.{_++_, append-assoc}
-use Prim.Native.Nat.{ℕ, _+_, _*_, _-_, _/_, _%_, _≤_, _<_}
+use mathlib.Core.List.{_++_}
+use Prim.Native.Nat.{ℕ, _+_, _*_, _/_, _%_, _≤_, _<_}
 use native.Mathlib.Omega.{arith}
 use borrow.Author.Tests.{lt-ltb}
 use lib.Dec.{T, ltb}
-use lib.ListN.{length, take, drop, replicate, length-append}
-use lib.Seq.{drop-drop, drop-append-seam, take-append-seam}
+use lib.ListN.{length, length-append}
 use Rattle.area.specs.Words.{word, wordAt}
-use Rattle.area.specs.Laws.{wordAt-word, wordAt-drop}
 use Rattle.model.specs.Bounds.{bounded, boundedItems, boundedMembers}
 use Rattle.model.specs.Bytes.{Bytes}
 use Rattle.model.specs.Laws.Logic.{and-l, and-r}
 use Rattle.model.specs.Limits.{maxTextBytes, maxValues}
 use Rattle.model.specs.Size.{valueCount, itemsCount, membersCount}
 use Rattle.model.specs.Value.{Value, scalar, instant, array, object, Scalar, null, boolean, integer, string, Values, no-items, item, Members, no-members, member, memberCount, instantFree, instantFreeItems, instantFreeMembers}
-use Rattle.syntax.specs.Layout.{rowBytes, Label, unnamed, row, biased, itemCount, scalarRow, rowsOf, itemRows, memberRows, stringsOf, itemStrings, memberStrings, padded, tableOf, stringsAreaOf}
+use Rattle.syntax.specs.Layout.{rowBytes, Label, unnamed, row, biased, itemCount, scalarRow, rowsOf, itemRows, memberRows, stringsOf, itemStrings, memberStrings, tableOf, stringsAreaOf}
 use Rattle.syntax.specs.Laws.Layout.{length-row, length-rows, count-positive, kind-below, size-above}
 use Rattle.syntax.specs.Laws.Sound.{sound}
 use Rattle.syntax.specs.Laws.StringsFit.{strings-small}
 use Rattle.syntax.specs.Laws.WellFormed.{read-well-formed}
 use Rattle.syntax.specs.Read.{done, read}
 use Rattle.syntax.specs.WellFormed.{WellFormedValue}
+use Rattle.syntax.specs.Laws.Biased.{biased-small}
+use Rattle.syntax.specs.Laws.Stands.{Stands, front, back, part-stands, word-stands, behind, starts}
 use Rattle.heap.specs.declared.part.Label.the-variants.{Name}
 use Rattle.heap.specs.Handles.{ofRow, rowHandle, nextRow}
 use Rattle.heap.specs.Means.{Means, means-null, means-false, means-true, means-integer, means-string, means-items, means-members, RowItems, no-row-items, row-item, RowMembers, no-row-members, row-member}
 use Rattle.heap.specs.Parts.{rowLabel}
-use Rattle.heap.specs.Strings.{part}
 use Rattle.heap.specs.Unfold.{Areas}
-use Rattle.heap.specs.Laws.Numbers.{biased-small, text-small, values-small}
-
--- ---- bytes at a place of an area
-record Stands (A : Bytes) (at : ℕ) (bs : Bytes) : Type 0 where
-  rest : Bytes
-  is : drop at A ≡ bs ++ rest
-  inside : at + length bs ≤ length A
-
-module _ {A : Bytes} {at : ℕ} (xs ys : Bytes) (s : Stands A at (xs ++ ys)) where
-  front : Stands A at xs
-  front = record { rest = ys ++ s .rest; is = s .is ∙ append-assoc xs ys (s .rest); inside = (let l = length-append xs ys in omega arith) }
-
-  back : Stands A (at + length xs) ys
-  back = record {
-    rest = s .rest;
-    is = sym (drop-drop (length xs) at A) ∙ ap (drop (length xs)) (s .is ∙ append-assoc xs ys (s .rest)) ∙ drop-append-seam xs (ys ++ s .rest);
-    inside = (let l = length-append xs ys in omega arith);
-  }
-
-part-stands : {A : Bytes} {at : ℕ} (bs : Bytes) → Stands A at bs → bs ≡ part A at (length bs)
-part-stands bs s = sym (ap (take (length bs)) (s .is) ∙ take-append-seam bs (s .rest))
-
-word-stands : {A : Bytes} {at : ℕ} (x : ℕ) → Stands A at (word x) → x < 4294967296 → wordAt A at ≡ x
-word-stands {A} {at} x s l =
-    let e : at ≡ at + 0 = omega arith in
-    ap (wordAt A) e ∙ sym (wordAt-drop at A 0) ∙ ap (λ (bs : Bytes). wordAt bs 0) (s .is) ∙ wordAt-word x (s .rest) l
+use Rattle.heap.specs.Laws.Numbers.{text-small, values-small}
 
 -- ---- a row of the table
 record Row (A : Bytes) (i kind : ℕ) (name : Label) (x y : ℕ) : Type 0 where
@@ -95,13 +69,6 @@ row-stands {A} {i} kind name x y s n k p q =
       next = rw (l, w₀, kind-below kind (name .size) k, w₃);
       label = rw (l, w₀, w₁, size-above kind (name .size) k);
     }
-
--- The rows behind n rows.
-behind : {A : Bytes} (i n : ℕ) (xs ys : Bytes) → Stands A (i * rowBytes) (xs ++ ys) → length xs ≡ n * rowBytes → Stands A ((i + n) * rowBytes) ys
-unfolding rowBytes
-behind {A} i n xs ys s e =
-    let p : i * 16 + length xs ≡ (i + n) * 16 = omega arith in
-    subst (λ (at : ℕ). Stands A at ys) p (back xs ys s)
 
 -- The first of some rows is one of the table's.
 there : {A : Bytes} (i n : ℕ) (xs ys : Bytes) → Stands A (i * rowBytes) (xs ++ ys) → length xs ≡ n * rowBytes → 0 < n → i < length A / rowBytes
@@ -209,11 +176,6 @@ module _ (a : Areas) where
         (behind i (valueCount v) rows others s (length-rows v i (used + length n) name)) (back (stringsOf v) (memberStrings ms) b′)))
 
 -- ---- the areas
-starts : (A bs : Bytes) (n : ℕ) → A ≡ padded n bs → Stands A 0 bs
-unfolding padded
-starts A bs n e =
-    record { rest = replicate (n - length bs) 0; is = e; inside = omega (arith, ap length e, length-append bs (replicate (n - length bs) 0)) }
-
 read-means : (v : Value) (a : Areas) (n m : ℕ) → WellFormedValue v → valueCount v ≤ maxValues → length (stringsOf v) ≤ maxTextBytes
     → a .table ≡ tableOf v n → a .strings ≡ stringsAreaOf v m → Means a 0 v (rowHandle (a .table) 0)
 unfolding rowBytes

@@ -1,0 +1,7 @@
+-- The viewer: the definitions, in the order to read them.
+pub mod Row
+pub mod Form
+pub mod View
+pub mod Answer
+pub mod Shows
+pub mod Inner

@@ -1,0 +1,74 @@
+-- Shows: what a host sees that walks by the viewer from a place on: the value there, whole, and nothing else.
+use mathlib.Core.Bool.{true, false}
+use mathlib.Core.Option.{none, some}
+use mathlib.Core.Path.{_≡_}
+use Prim.Native.Nat.{ℕ, suc, _≤_}
+use lib.ListN.{take, drop}
+use Rattle.model.specs.Bytes.{Bytes}
+use Rattle.model.specs.Value.{Value, scalar, instant, array, object, Scalar, null, boolean, integer, string, Values, no-items, item, Members, no-members, member, memberCount}
+use Rattle.syntax.specs.Layout.{itemCount}
+use Rattle.viewer.specs.declared.row.Span.{Span}
+use Rattle.viewer.specs.Answer.{Seen, seenOf, nameOf, integerOf, stringOf, placeOf}
+use Rattle.viewer.specs.View.{rowSeen, partSeen}
+
+-- The kind of a value (docs/LAYOUT.md). No text reads as an instant.
+abbrev pub kindOf : Value → ℕ
+kindOf (scalar null) = 1
+kindOf (scalar (boolean false)) = 2
+kindOf (scalar (boolean true)) = 3
+kindOf (scalar (integer z)) = 4
+kindOf (scalar (string s)) = 5
+kindOf (array vs) = 6
+kindOf (object ms) = 7
+kindOf (instant t) = 0
+
+abbrev pub partCount : Value → ℕ
+partCount (scalar x) = 0
+partCount (instant t) = 0
+partCount (array vs) = itemCount vs
+partCount (object ms) = memberCount ms
+
+-- The kind and the count are told, and no part from the count on.
+pub record Tells (T : Bytes) (place : ℕ) (v : Value) : Type 0 where
+  pub kind-and-count : seenOf (rowSeen T place) ≡ some (record { kind = kindOf v; count = partCount v })
+  pub no-more : (n : ℕ) → partCount v ≤ n → placeOf (partSeen T place n) ≡ none
+
+-- A part of the strings area S is these bytes.
+pub record Spells (S : Bytes) (p : Span) (bytes : Bytes) : Type 0 where
+  pub bytes-are : take (p .size) (drop (p .start) S) ≡ bytes
+
+pub record TellsString (T S : Bytes) (place : ℕ) (s : Bytes) : Type 0 where
+  pub lies : Span
+  pub told : stringOf (rowSeen T place) ≡ some lies
+  pub spells : Spells S lies s
+
+-- An integer is told, and where a string lies.
+abbrev pub TellsScalar : Bytes → Bytes → ℕ → Scalar → Type 0
+TellsScalar T S place null = Unit
+TellsScalar T S place (boolean b) = Unit
+TellsScalar T S place (integer z) = integerOf (rowSeen T place) ≡ some z
+TellsScalar T S place (string s) = TellsString T S place s
+
+-- The name of what lies at a place; an item has none.
+pub record Named (T S : Bytes) (place : ℕ) (name : Bytes) : Type 0 where
+  pub lies : Span
+  pub told : nameOf (rowSeen T place) ≡ some lies
+  pub spells : Spells S lies name
+
+pub record Unnamed (T : Bytes) (place : ℕ) : Type 0 where
+  pub told : nameOf (rowSeen T place) ≡ some (record { start = 0; size = 0 })
+
+mutual
+  pub data Shows (T S : Bytes) : ℕ → Value → Type 0 where
+    shows-scalar : {place : ℕ} {x : Scalar} → Tells T place (scalar x) → TellsScalar T S place x → Shows T S place (scalar x)
+    shows-array : {place : ℕ} {vs : Values} → Tells T place (array vs) → ShowsItems T S place 0 vs → Shows T S place (array vs)
+    shows-object : {place : ℕ} {ms : Members} → Tells T place (object ms) → ShowsMembers T S place 0 ms → Shows T S place (object ms)
+
+  -- The parts of the container at a place, from the nth on.
+  pub data ShowsItems (T S : Bytes) (place : ℕ) : ℕ → Values → Type 0 where
+    shows-no-items : {n : ℕ} → ShowsItems T S place n no-items
+    shows-item : {n part : ℕ} {v : Value} {vs : Values} → placeOf (partSeen T place n) ≡ some part → Unnamed T part → Shows T S part v → ShowsItems T S place (suc n) vs → ShowsItems T S place n (item v vs)
+
+  pub data ShowsMembers (T S : Bytes) (place : ℕ) : ℕ → Members → Type 0 where
+    shows-no-members : {n : ℕ} → ShowsMembers T S place n no-members
+    shows-member : {n part : ℕ} {name : Bytes} {v : Value} {ms : Members} → placeOf (partSeen T place n) ≡ some part → Named T S part name → Shows T S part v → ShowsMembers T S place (suc n) ms → ShowsMembers T S place n (member name v ms)
