@@ -65,10 +65,10 @@ mutual
     shows-object : {place : ℕ} {ms : Members} → Tells T place (object ms) → ShowsMembers T S place 0 ms → Shows T S place (object ms)
 
   -- The parts of the container at a place, from the nth on.
-  pub data ShowsItems (T S : Bytes) (place : ℕ) : ℕ → Values → Type 0 where
-    shows-no-items : {n : ℕ} → ShowsItems T S place n no-items
-    shows-item : {n part : ℕ} {v : Value} {vs : Values} → placeOf (partSeen T place n) ≡ some part → Unnamed T part → Shows T S part v → ShowsItems T S place (suc n) vs → ShowsItems T S place n (item v vs)
+  pub data ShowsItems (T S : Bytes) : ℕ → ℕ → Values → Type 0 where
+    shows-no-items : {place n : ℕ} → ShowsItems T S place n no-items
+    shows-item : {place n part : ℕ} {v : Value} {vs : Values} → placeOf (partSeen T place n) ≡ some part → Unnamed T part → Shows T S part v → ShowsItems T S place (suc n) vs → ShowsItems T S place n (item v vs)
 
-  pub data ShowsMembers (T S : Bytes) (place : ℕ) : ℕ → Members → Type 0 where
-    shows-no-members : {n : ℕ} → ShowsMembers T S place n no-members
-    shows-member : {n part : ℕ} {name : Bytes} {v : Value} {ms : Members} → placeOf (partSeen T place n) ≡ some part → Named T S part name → Shows T S part v → ShowsMembers T S place (suc n) ms → ShowsMembers T S place n (member name v ms)
+  pub data ShowsMembers (T S : Bytes) : ℕ → ℕ → Members → Type 0 where
+    shows-no-members : {place n : ℕ} → ShowsMembers T S place n no-members
+    shows-member : {place n part : ℕ} {name : Bytes} {v : Value} {ms : Members} → placeOf (partSeen T place n) ≡ some part → Named T S part name → Shows T S part v → ShowsMembers T S place (suc n) ms → ShowsMembers T S place n (member name v ms)
