@@ -20,6 +20,7 @@ pub mod Unbegun
 pub mod Replace
 pub mod Runs
 pub mod Soundness
+pub mod Found
 pub mod Kept
 pub mod Bounds
 pub mod Writing

@@ -1,7 +1,7 @@
 -- Main: demand 3 and the theorems around it, restated with nothing else; the proofs are in Laws. The starred rows of 01 are in Laws.Rows.
 -- A text is taken as the value that it reads as; `shape`, `sheetOf` and `check` give some where the text is a rule, a sheet, and the rule is accepted.
 use mathlib.Core.Path.{_≡_, ap}
-use mathlib.Core.List.{List·Memᴰ, reverse}
+use mathlib.Core.List.{[], List·Memᴰ, reverse}
 use mathlib.Core.Logic.{_⊎_, inl, inr}
 use mathlib.Core.Option.{some}
 use Prim.Native.Nat.{ℕ, _≤_}
@@ -14,14 +14,14 @@ use Rattle.model.specs.DateText.{dateText, dayText}
 use Rattle.model.specs.Eval.{run, Outcome, value, refusal, outcome}
 use Rattle.model.specs.Instant.{inRange}
 use Rattle.model.specs.InstantText.{instantText}
-use Rattle.model.specs.Judgement.{judgeEvaluate}
+use Rattle.model.specs.Judgement.{answerOf}
 use Rattle.model.specs.Limits.{maxSteps}
 use Rattle.model.specs.Path.{Path, lookup}
 use Rattle.model.specs.Place.{subrule, replace, subvalue, replaceValue}
 use Rattle.model.specs.Refusal.{evalNumber, outOfSteps, outOfRange}
 use Rattle.model.specs.Result.{ok, refuse}
 use Rattle.model.specs.Rule.{Rule}
-use Rattle.model.specs.Run.{Place, Name, trace, steps}
+use Rattle.model.specs.Run.{Place, Name, trace, steps, NeverBegins}
 use Rattle.model.specs.Shape.{shape}
 use Rattle.model.specs.Sheet.{Sheet, sheetOf, fits}
 use Rattle.model.specs.TypeCheck.{check}
@@ -29,6 +29,7 @@ use Rattle.model.specs.Types.{Types, hasType}
 use Rattle.model.specs.Value.{Value, instantFree}
 use Rattle.model.specs.Laws.Bounds as BoundsLaws
 use Rattle.model.specs.Laws.DateText as DateTextLaws
+use Rattle.model.specs.Laws.Found as FoundLaws
 use Rattle.model.specs.Laws.InstantText as InstantTextLaws
 use Rattle.model.specs.Laws.Limit as LimitLaws
 use Rattle.model.specs.Laws.Lookup as LookupLaws
@@ -60,6 +61,10 @@ demand-3a rule sheet record′ r s ts limit is-rule is-sheet accepted free fit w
     numbered (refusal e) (inl h) = inl (ap evalNumber h)
     numbered (refusal e) (inr h) = inr (ap evalNumber h)
 
+-- The check finds at least one type for a rule that it accepts.
+pub found-some : (sheet : Value) (r : Rule) (s : Sheet) (ts : Types) → sheetOf sheet ≡ some s → check r s ≡ some ts → ¬ (ts ≡ [])
+found-some = FoundLaws.found-some
+
 -- ---- demand 3b
 -- For any rule of right shape, record and limit: another rule put in the place of an operand rule that the run never begins.
 -- If the whole still has right shape, both runs end alike, in value or refusal and in steps.
@@ -68,20 +73,21 @@ pub demand-3b :
     → shape rule ≡ some r
     → shape new ≡ some s
     → subrule place r ≡ some t
-    → ¬ List·Memᴰ (reverse place) (trace (run r record′ limit))
+    → NeverBegins place (run r record′ limit)
     → shape (replaceValue place new rule) ≡ some r′
     → (outcome (run r′ record′ limit) ≡ outcome (run r record′ limit)) × (steps (run r′ record′ limit) ≡ steps (run r record′ limit))
 demand-3b rule new record′ r s t r′ place limit is-rule is-new stands unbegun is-whole = ReplaceLaws.unbegun-same-value rule new record′ r s t place limit is-rule is-new stands unbegun r′ is-whole
 
 -- So the whole answer is the same: text or refusal and steps, after the tests of 11 and 12 too.
 pub demand-3b-answer :
-    (rule new record′ : Value) (r s t : Rule) (place : Place) (limit room : ℕ)
+    (rule new record′ : Value) (r s t r′ : Rule) (place : Place) (limit room : ℕ)
     → shape rule ≡ some r
     → shape new ≡ some s
     → subrule place r ≡ some t
-    → ¬ List·Memᴰ (reverse place) (trace (run r record′ limit))
-    → judgeEvaluate (replaceValue place new rule) record′ limit room ≡ judgeEvaluate rule record′ limit room
-demand-3b-answer rule new record′ r s t place limit room is-rule is-new stands unbegun = ReplaceLaws.unbegun-same-answer rule new record′ r s t place limit room is-rule is-new stands unbegun
+    → NeverBegins place (run r record′ limit)
+    → shape (replaceValue place new rule) ≡ some r′
+    → answerOf r′ record′ limit room ≡ answerOf r record′ limit room
+demand-3b-answer rule new record′ r s t r′ place limit room is-rule is-new stands unbegun is-whole = ReplaceLaws.unbegun-same-answer rule new record′ r s t place limit room is-rule is-new stands unbegun r′ is-whole
 
 -- The whole does have right shape, and the rule at a place is the shape of the value there.
 pub replaced-is-rule :

@@ -1,5 +1,5 @@
 -- Run: a computation that begins rules under a step limit and names each rule that it begins; chained by `do`.
-use mathlib.Core.List.{List, [], _∷_, _++_}
+use mathlib.Core.List.{List, [], _∷_, _++_, List·Memᴰ, reverse}
 use Prim.Native.Nat.{ℕ, zero, suc}
 use lib.ListN.{length}
 use Rattle.model.specs.Refusal.{EvalFault, fault, outOfSteps}
@@ -29,6 +29,10 @@ trace (failed e t) = t
 -- "as many names as steps"
 abbrev pub steps : {A : Type 0} → Ended A → ℕ
 steps r = length (trace r)
+
+-- "a rule that none of them names is one the run never begins": the rule at a place.
+abbrev pub NeverBegins : {A : Type 0} → Place → Ended A → Type 0
+NeverBegins place r = ¬ List·Memᴰ (reverse place) (trace r)
 
 -- The trace with what was begun before.
 abbrev pub log : {A : Type 0} → List Name → Ended A → Ended A

@@ -1,4 +1,11 @@
--- The promises from bytes, about the entries' definitions: document 01's rows, and demand 3.
-pub mod Bits
+-- The promises from bytes, about the entries' definitions. First the terms, then the pages of statements, each with its proofs under Laws.
+pub mod Words
+pub mod Calls
+pub mod Lengths
+pub mod Replacement
+pub mod Laws
+pub mod Demand1
+pub mod Demand2
 pub mod Demand3
+pub mod EvaluateChecked
 pub mod Rows

@@ -5,6 +5,7 @@ use lib.Dec.{eqb}
 use Rattle.json.specs.declared.Answer as reading
 use Rattle.kinds.specs.declared.found.Found.{Found}
 use Rattle.kinds.specs.declared.found.Found.the-variants as Founds
+use Rattle.model.specs.Refusal.{number, notAccepted}
 use Rattle.model.specs.Types.{typeBits}
 use Rattle.types.specs.Set.{typesIn}
 use Rattle.stages.specs.declared.text.Stop.{Stop}
@@ -22,7 +23,7 @@ toldBy false which a = record { refusal = a .refusal; which = which; place = a .
 abbrev pub toldOf : ℕ → reading.Answer → Stop
 toldOf which a = toldBy (eqb (a .refusal) 0) which a
 
--- What the kind check comes to: 13, or the types found as bits.
+-- What the kind check comes to: the refusal, or the types found as bits.
 abbrev pub foundAs : Found → Checked
-foundAs Founds.NotAccepted = record { stop = stopped 13; words = 0 }
+foundAs Founds.NotAccepted = record { stop = stopped (number notAccepted); words = 0 }
 foundAs (Founds.Types s) = record { stop = stopped 0; words = typeBits (typesIn s) }

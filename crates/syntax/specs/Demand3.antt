@@ -1,21 +1,21 @@
 -- Demand3: demand 3 over texts, restated with nothing else; the proofs are in Laws.
 -- A text is a rule's, a sheet's or a record's where `read` gives its value and `shape`, `sheetOf` and `check` give some.
 use mathlib.Core.Path.{_≡_, sym, subst, ap, _∙_}
-use mathlib.Core.List.{List·Memᴰ, reverse, _++_}
+use mathlib.Core.List.{_++_}
 use mathlib.Core.Option.{some}
 use Prim.Native.Nat.{ℕ, _≤_}
 use lib.Dec.{T}
 use lib.ListN.{length}
 use Rattle.model.specs.Bytes.{Bytes}
 use Rattle.model.specs.Eval.{run, outcome}
-use Rattle.model.specs.Judgement.{judgeEvaluate}
+use Rattle.model.specs.Judgement.{answerOf}
 use Rattle.model.specs.Limits.{maxTextBytes, maxValues, maxNesting, maxSteps}
 use Rattle.model.specs.Main as Model
 use Rattle.model.specs.Main.{EndsWell}
 use Rattle.model.specs.Place.{subrule, replace, replaceValue}
 use Rattle.model.specs.Refusal.{ReadFault, tooLarge}
 use Rattle.model.specs.Rule.{Rule}
-use Rattle.model.specs.Run.{Place, trace, steps}
+use Rattle.model.specs.Run.{Place, steps, NeverBegins}
 use Rattle.model.specs.Shape.{shape}
 use Rattle.model.specs.Sheet.{Sheet, sheetOf, fits}
 use Rattle.model.specs.Size.{valueCount, nesting}
@@ -59,7 +59,7 @@ pub demand-3b-bytes :
     → shape rule ≡ some r
     → read record-text ≡ done record′
     → subrule place r ≡ some t
-    → ¬ List·Memᴰ (reverse place) (trace (run r record′ limit))
+    → NeverBegins place (run r record′ limit)
     → StandsAt text (positionsOf place rule) before old after
     → read new ≡ done new-rule
     → shape new-rule ≡ some s
@@ -73,21 +73,22 @@ demand-3b-bytes text text′ record-text before old after new rule rule′ recor
 
 -- So the whole answer is the same: text or refusal and steps, after the tests of 11 and 12 too.
 pub demand-3b-bytes-answer :
-    (text text′ record-text before old after new : Bytes) (rule rule′ record′ new-rule : Value) (r s t : Rule) (place : Place) (limit room : ℕ)
+    (text text′ record-text before old after new : Bytes) (rule rule′ record′ new-rule : Value) (r r′ s t : Rule) (place : Place) (limit room : ℕ)
     → read text ≡ done rule
     → shape rule ≡ some r
     → read record-text ≡ done record′
     → subrule place r ≡ some t
-    → ¬ List·Memᴰ (reverse place) (trace (run r record′ limit))
+    → NeverBegins place (run r record′ limit)
     → StandsAt text (positionsOf place rule) before old after
     → read new ≡ done new-rule
     → shape new-rule ≡ some s
     → text′ ≡ before ++ (new ++ after)
     → read text′ ≡ done rule′
-    → judgeEvaluate rule′ record′ limit room ≡ judgeEvaluate rule record′ limit room
-demand-3b-bytes-answer text text′ record-text before old after new rule rule′ record′ new-rule r s t place limit room reads is-rule reads-record there unbegun stands reads-new is-new is reads′ =
+    → shape rule′ ≡ some r′
+    → answerOf r′ record′ limit room ≡ answerOf r record′ limit room
+demand-3b-bytes-answer text text′ record-text before old after new rule rule′ record′ new-rule r r′ s t place limit room reads is-rule reads-record there unbegun stands reads-new is-new is reads′ is-rule′ =
     let same = SubstitutionLaws.replaced-operand place rule r t stands reads is-rule there new new-rule rule′ reads-new (sym (ap read is) ∙ reads′) in
-    ap (λ v. judgeEvaluate v record′ limit room) same ∙ Model.demand-3b-answer rule new-rule record′ r s t place limit room is-rule is-new there unbegun
+    Model.demand-3b-answer rule new-rule record′ r s t r′ place limit room is-rule is-new there unbegun (sym (ap shape same) ∙ is-rule′)
 
 -- ---- where an operand stands
 -- Every operand rule of a rule text stands in the text; StandsAt says with which bytes.

@@ -10,7 +10,7 @@ use lib.ListN.{length}
 use Rattle.model.specs.Bytes.{Bytes}
 use Rattle.model.specs.Eval.{run, outcome}
 use Rattle.model.specs.Laws.Option.{none-some, bind-some, when-some}
-use Rattle.model.specs.Judgement.{written, answerOf, answer, orRefuse, judgeEvaluate}
+use Rattle.model.specs.Judgement.{written, answerOf}
 use Rattle.model.specs.Refusal.{notRule}
 use Rattle.model.specs.Laws.Unbegun.{Unbegun, unbegun-same, unbegun-same-run}
 use Rattle.model.specs.Option.{_>>=_, when}
@@ -225,8 +225,7 @@ unbegun-same-value v new c r s t q n er es et h r′ e =
 
 -- So the whole answer is the same: the text or the refusal, and the steps, whatever the output area's size.
 pub unbegun-same-answer : (v new c : Value) (r s t : Rule) (q : Place) (n room : ℕ) → shape v ≡ some r → shape new ≡ some s → subrule q r ≡ some t → Unbegun (reverse q) (run r c n)
-    → judgeEvaluate (replaceValue q new v) c n room ≡ judgeEvaluate v c n room
-unbegun-same-answer v new c r s t q n room er es et h =
-    let of : (x : Value) (y : Rule) → shape x ≡ some y → judgeEvaluate x c n room ≡ answerOf y c n room = λ x y e. ap (λ o. answer (orRefuse notRule o) c n room) e in
-    of (replaceValue q new v) (replace q s r) (replace-shape q v new r s t er es et)
-    ∙ (ap (λ e. record { result = written room (outcome e); stepsBegun = steps e }) (unbegun-same-run q s r c n h) ∙ sym (of v r er))
+    → (r′ : Rule) → shape (replaceValue q new v) ≡ some r′ → answerOf r′ c n room ≡ answerOf r c n room
+unbegun-same-answer v new c r s t q n room er es et h r′ e =
+    let same = unbegun-same-value v new c r s t q n er es et h r′ e in
+    λ i. record { result = written room (same .0 i); stepsBegun = same .1 i }

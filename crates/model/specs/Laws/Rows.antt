@@ -1,6 +1,7 @@
 -- Rows: the starred rows of 01's table "Both sides of the line", each as one theorem by computation, from the value that the rule's text reads as.
 use mathlib.Core.Path.{_≡_, refl}
 use mathlib.Core.List.{List, [], _∷_}
+use mathlib.Core.Option.{Option, some}
 use Prim.Native.Nat.{ℕ}
 use Prim.Native.String.{String}
 use lib.IntN.{pos}
@@ -9,8 +10,9 @@ use Rattle.model.specs.Calendar.{months, sumFirst, yearStart, dateOfDay}
 use Rattle.model.specs.DateText.{startsLike, dayText, dateText}
 use Rattle.model.specs.Eval.{body}
 use Rattle.model.specs.InstantText.{instantText}
-use Rattle.model.specs.Judgement.{Answer, done, refuses, judgeEvaluate}
+use Rattle.model.specs.Judgement.{Answer, done, refuses, answerOf}
 use Rattle.model.specs.Limits.{maxInteger, maxSteps, maxTextBytes, maxValues, maxNesting}
+use Rattle.model.specs.Option.{_>>=_}
 use Rattle.model.specs.Refusal.{Refusal, evaluating, fault, wrongKind, outOfRange, outOfSteps}
 use Rattle.model.specs.Shape.{shape}
 use Rattle.model.specs.Shift.{shift}
@@ -43,15 +45,17 @@ int n = scalar (integer (pos n))
 abbrev pub row-record : Value
 row-record = object (member (ascii "a") (int 1) no-members)
 
--- ---- answers: a text, or a refusal, and the steps
-abbrev pub judged : Value → ℕ → Answer
-judged rule limit = judgeEvaluate rule row-record limit maxTextBytes
+-- ---- answers of a value that is a rule: a text, or a refusal, and the steps
+abbrev pub judged : Value → ℕ → Option Answer
+judged rule limit = do
+  r ← shape rule
+  some (answerOf r row-record limit maxTextBytes)
 
-abbrev pub gives : String → ℕ → Answer
-gives s n = record { result = done (ascii s); stepsBegun = n }
+abbrev pub gives : String → ℕ → Option Answer
+gives s n = some (record { result = done (ascii s); stepsBegun = n })
 
-abbrev pub denies : Refusal → ℕ → Answer
-denies e n = record { result = refuses e; stepsBegun = n }
+abbrev pub denies : Refusal → ℕ → Option Answer
+denies e n = some (record { result = refuses e; stepsBegun = n })
 
 -- {"===":[{"var":"a"},1]}
 pub row-equal : judged (op "===" (var "a" ∷ int 1 ∷ [])) maxSteps ≡ gives "true" 3

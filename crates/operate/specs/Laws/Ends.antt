@@ -1,17 +1,20 @@
 -- Ends: what is known of a run's end once its answer is taken apart.
 use mathlib.Core.Path.{_≡_, refl, ap, _∙_}
 use Prim.Native.Nat.{ℕ}
+use native.Mathlib.Omega.{arith}
 use Rattle.model.specs.Bytes.{Bytes}
 use Rattle.model.specs.EvalPlain.{Plain, gives, denies, lift}
 use Rattle.model.specs.Laws.Logic.{clash}
-use Rattle.model.specs.Result.{Result}
+use Rattle.model.specs.Refusal as models
+use Rattle.model.specs.Result.{Result, refuse}
 use Rattle.model.specs.Value.{Value}
 use Rattle.heap.specs.declared.handle.Handle.{Handle}
 use Rattle.heap.specs.Means.{Means}
 use Rattle.heap.specs.Unfold.{Areas, areas}
 use Rattle.result.specs.declared.Operated.{Operated}
+use Rattle.result.specs.declared.Operated.the-variants as Operateds
 use Rattle.result.specs.Gives as results
-use Rattle.result.specs.Gives.{gives-value, gives-wrong-kind, gives-bad-date, gives-out-of-range}
+use Rattle.result.specs.Gives.{operatedNumber, gives-value, gives-fault}
 use Rattle.operate.specs.declared.ended.Ended.{Ended}
 use Rattle.operate.specs.declared.ended.Ended.the-variants.{Gives, Denies}
 use Rattle.operate.specs.declared.ended.Fault.{Fault}
@@ -43,6 +46,19 @@ failed {e = e} {l} (ends-fault {e = e₁} {left = l₁} f g) k =
 -- What an operation gives ends the rule.
 pub operated-ends : {A B R C : Bytes} {t : ℕ} {m : Result Value} {x : Operated} (l : ℕ) (r : Ended) → results.Gives (areas A B R C) t m x → r ≡ operatedEnd x l t → EndsAs (areas A B R C) (lift m l) r
 operated-ends {t = t} l r (gives-value {v = v} {h = h} e n) f = ends-value {v = v} {h = h} {left = l} {top = t} refl (rw e at f) n
-operated-ends l r (gives-wrong-kind e) f = ends-fault {e = WrongKind} {left = l} refl (rw e at f)
-operated-ends l r (gives-bad-date e) f = ends-fault {e = BadDate} {left = l} refl (rw e at f)
-operated-ends l r (gives-out-of-range e) f = ends-fault {e = OutOfRange} {left = l} refl (rw e at f)
+operated-ends {t = t} {x = x} l r (gives-fault {e = e} n) f = faulted e x n f
+  where
+    -- The number tells the fault.
+    faulted : (e : models.Fault) (x : Operated) → operatedNumber x ≡ models.faultNumber e → r ≡ operatedEnd x l t → EndsAs _ (lift (refuse e) l) r
+    faulted models.wrongKind Operateds.WrongKind n f = ends-fault {e = WrongKind} {left = l} refl f
+    faulted models.badDate Operateds.BadDate n f = ends-fault {e = BadDate} {left = l} refl f
+    faulted models.outOfRange Operateds.OutOfRange n f = ends-fault {e = OutOfRange} {left = l} refl f
+    faulted models.wrongKind (Operateds.Value h) n f = absurd (omega arith)
+    faulted models.wrongKind Operateds.BadDate n f = absurd (omega arith)
+    faulted models.wrongKind Operateds.OutOfRange n f = absurd (omega arith)
+    faulted models.badDate (Operateds.Value h) n f = absurd (omega arith)
+    faulted models.badDate Operateds.WrongKind n f = absurd (omega arith)
+    faulted models.badDate Operateds.OutOfRange n f = absurd (omega arith)
+    faulted models.outOfRange (Operateds.Value h) n f = absurd (omega arith)
+    faulted models.outOfRange Operateds.WrongKind n f = absurd (omega arith)
+    faulted models.outOfRange Operateds.BadDate n f = absurd (omega arith)

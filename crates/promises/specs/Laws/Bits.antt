@@ -1,15 +1,12 @@
--- Bits: the types that an entry's number of words names, a bit for each.
+-- Bits: the bits of a number of words tell the types that it names; of no type at all it is 0.
 use mathlib.Core.Bool.{Bool, true, false, cond}
 use mathlib.Core.Path.{_≡_}
 use Prim.Native.Nat.{ℕ, _+_, _*_, _/_, _%_, _^_, _≤_}
 use native.Mathlib.Omega.{arith}
-use Rattle.model.specs.Types.{Types, tyNumber, isIn, typeBits}
+use Rattle.model.specs.Types.{Types, isIn, typeBits}
 use Rattle.model.specs.declared.Ty.{Ty}
 use Rattle.model.specs.declared.Ty.the-variants as Ty
-
--- The bit of a type.
-abbrev pub bitOf : ℕ → Ty → ℕ
-bitOf words k = words / (2 ^ tyNumber k) % 2
+use Rattle.promises.specs.Words.{bitOf}
 
 abbrev digit : Bool → ℕ
 digit b = cond b 1 0
