@@ -1,7 +1,9 @@
--- The viewer: the definitions, in the order to read them.
+-- The viewer: the definitions, in the order to read them; then the theorems.
 pub mod Row
 pub mod Form
 pub mod View
 pub mod Answer
 pub mod Shows
 pub mod Inner
+pub mod Main
+pub mod Laws

@@ -1,0 +1,2 @@
+-- Laws: what is proved of the definitions. Main restates the theorems that matter most.
+pub mod ReadForm
