@@ -46,10 +46,10 @@ failed {e = e} {l} (ends-fault {e = e₁} {left = l₁} f g) k =
 -- What an operation gives ends the rule.
 pub operated-ends : {A B R C : Bytes} {t : ℕ} {m : Result Value} {x : Operated} (l : ℕ) (r : Ended) → results.Gives (areas A B R C) t m x → r ≡ operatedEnd x l t → EndsAs (areas A B R C) (lift m l) r
 operated-ends {t = t} l r (gives-value {v = v} {h = h} e n) f = ends-value {v = v} {h = h} {left = l} {top = t} refl (rw e at f) n
-operated-ends {t = t} {x = x} l r (gives-fault {e = e} n) f = faulted e x n f
+operated-ends {A = A} {B = B} {R = R} {C = C} {t = t} {x = x} l r (gives-fault {e = e} n) f = faulted e x n f
   where
     -- The number tells the fault.
-    faulted : (e : models.Fault) (x : Operated) → operatedNumber x ≡ models.faultNumber e → r ≡ operatedEnd x l t → EndsAs _ (lift (refuse e) l) r
+    faulted : (e : models.Fault) (x : Operated) → operatedNumber x ≡ models.faultNumber e → r ≡ operatedEnd x l t → EndsAs (areas A B R C) (lift (refuse e) l) r
     faulted models.wrongKind Operateds.WrongKind n f = ends-fault {e = WrongKind} {left = l} refl f
     faulted models.badDate Operateds.BadDate n f = ends-fault {e = BadDate} {left = l} refl f
     faulted models.outOfRange Operateds.OutOfRange n f = ends-fault {e = OutOfRange} {left = l} refl f

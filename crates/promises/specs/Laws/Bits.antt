@@ -1,9 +1,12 @@
 -- Bits: the bits of a number of words tell the types that it names; of no type at all it is 0.
 use mathlib.Core.Bool.{Bool, true, false, cond}
-use mathlib.Core.Path.{_≡_}
+use mathlib.Core.List.{[], _∷_}
+use mathlib.Core.Path.{_≡_, refl, sym, ap, _∙_}
 use Prim.Native.Nat.{ℕ, _+_, _*_, _/_, _%_, _^_, _≤_}
 use native.Mathlib.Omega.{arith}
-use Rattle.model.specs.Types.{Types, isIn, typeBits}
+use Rattle.model.specs.Laws.Logic.{T→true, clash}
+use Rattle.model.specs.Laws.Types.{sameTy-refl}
+use Rattle.model.specs.Types.{Types, isIn, sameTy, typeBits}
 use Rattle.model.specs.declared.Ty.{Ty}
 use Rattle.model.specs.declared.Ty.the-variants as Ty
 use Rattle.promises.specs.Words.{bitOf}
@@ -98,3 +101,25 @@ bit-tells ts Ty.Strings = digit-7 (typeBits-digits ts)
 bit-tells ts Ty.Array = digit-8 (typeBits-digits ts)
 bit-tells ts Ty.Object = digit-9 (typeBits-digits ts)
 bit-tells ts Ty.Instant = digit-10 (typeBits-digits ts)
+
+-- A set that has a type has a bit.
+zero-bit : (k : Ty) → bitOf 0 k ≡ 0
+zero-bit Ty.Null = refl
+zero-bit Ty.Boolean = refl
+zero-bit Ty.Integer = refl
+zero-bit Ty.String = refl
+zero-bit Ty.Date = refl
+zero-bit Ty.Day = refl
+zero-bit Ty.Integers = refl
+zero-bit Ty.Strings = refl
+zero-bit Ty.Array = refl
+zero-bit Ty.Object = refl
+zero-bit Ty.Instant = refl
+
+pub bits-some : (ts : Types) → ¬ (ts ≡ []) → ¬ (typeBits ts ≡ 0)
+bits-some [] h e = h refl
+bits-some (k ∷ ts) h e =
+    let there : isIn (k ∷ ts) k ≡ true = rw (T→true (sameTy k k) (sameTy-refl k)) in
+    let one : bitOf (typeBits (k ∷ ts)) k ≡ 1 = bit-tells (k ∷ ts) k ∙ ap (λ (b : Bool). cond b 1 0) there in
+    let none : bitOf (typeBits (k ∷ ts)) k ≡ 0 = ap (λ (n : ℕ). bitOf n k) e ∙ zero-bit k in
+    clash (sym none ∙ one)
