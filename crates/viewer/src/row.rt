@@ -67,7 +67,7 @@ fn numbers_at(table: &[u8], place: usize) -> Row
 
 // The number of 64 bits in a row's last two numbers.
 fn join(r: Row) -> u64
-    requires { ⌜ Halves r ⌝ }
+    requires { ⌜ joined r < 18446744073709551616 ⌝ }
     ensures { λ x. ⌜ x ≡ joined r ⌝ }
 {
     r.first as u64 + r.second as u64 * 4294967296

@@ -1,0 +1,90 @@
+-- Seen: what is told of a row, from its numbers; and what a row that is told says of its place.
+use mathlib.Core.Path.{_≡_, refl, _∙_, subst}
+use mathlib.Core.Bool.{Bool, true, false, cond, _&&_}
+use Prim.Native.Nat.{ℕ, _/_, _≤_, _<_}
+use native.Mathlib.Decide.{decLt}
+use native.Mathlib.Omega.{arith}
+use borrow.Author.Tests.{lt-ltb, le-ltb, ltb-true, ne-eqb}
+use lib.Dec.{T, ltb, leb, ltb→lt}
+use lib.ListN.{length}
+use Rattle.model.specs.Bytes.{Bytes}
+use Rattle.model.specs.Laws.Logic.{and-l, and-r}
+use Rattle.model.specs.Limits.{maxValues}
+use Rattle.syntax.specs.Layout.{rowBytes}
+use Rattle.viewer.specs.declared.row.Row.{Row}
+use Rattle.viewer.specs.declared.row.RowAnswer.{RowAnswer}
+use Rattle.viewer.specs.declared.row.RowAnswer.the-variants as rows
+use Rattle.viewer.specs.Form.{isWithin, isSpan, hasContent, hasForm}
+use Rattle.viewer.specs.Row.{rowCount, numbersAt, endOf}
+use Rattle.viewer.specs.View.{rowSeen}
+use Rattle.viewer.proofs.Tests.{held, failed}
+
+-- ---- the number of rows
+less-both : (a b : ℕ) → (cond (ltb a b) a b ≤ a) × (cond (ltb a b) a b ≤ b)
+less-both a b = go (decLt a b)
+  where
+    go : Dec (a < b) → (cond (ltb a b) a b ≤ a) × (cond (ltb a b) a b ≤ b)
+    go (yes p) = rw (lt-ltb a b p) (omega arith, omega arith)
+    go (no p) = rw (le-ltb a b (omega arith)) (omega arith, omega arith)
+
+pub rows-fit : (table : Bytes) → rowCount table ≤ length table / rowBytes
+rows-fit table = less-both (length table / rowBytes) maxValues .0
+
+rows-few : (table : Bytes) → rowCount table ≤ 1024
+unfolding maxValues
+rows-few table = less-both (length table / rowBytes) maxValues .1
+
+-- ---- a row is told
+abbrev toldOf : ℕ → ℕ → Row → RowAnswer
+toldOf n place r = cond (ltb place n && hasForm n place r) (rows.Is r) rows.NotThere
+
+seen-of : (table : Bytes) (place n : ℕ) (r : Row) → n ≡ rowCount table → r ≡ numbersAt table place → toldOf n place r ≡ rowSeen table place
+seen-of table place n r e f = λ i. toldOf (e i) place (f i)
+
+pub row-is : (table : Bytes) (place n : ℕ) (r : Row) → n ≡ rowCount table → place < n → r ≡ numbersAt table place → hasForm n place r ≡ true → rows.Is r ≡ rowSeen table place
+row-is table place n r e l f g = held (ltb place n && hasForm n place r) _ _ (rw (lt-ltb place n l) g) ∙ seen-of table place n r e f
+
+pub row-not : (table : Bytes) (place n : ℕ) (r : Row) → n ≡ rowCount table → place < n → r ≡ numbersAt table place → hasForm n place r ≡ false → rows.NotThere ≡ rowSeen table place
+row-not table place n r e l f g = failed (ltb place n && hasForm n place r) _ _ (rw (lt-ltb place n l) g) ∙ seen-of table place n r e f
+
+pub row-past : (table : Bytes) (place n : ℕ) → n ≡ rowCount table → n ≤ place → rows.NotThere ≡ rowSeen table place
+row-past table place n e l =
+    let r = numbersAt table place in
+    failed (ltb place n && hasForm n place r) _ _ (rw (le-ltb place n l)) ∙ seen-of table place n r e refl
+
+-- ---- and from what is told
+-- The value in a row of the form ends behind its place.
+form-behind : (n place : ℕ) (r : Row) → T (hasForm n place r) → place < endOf place r
+form-behind n place r h = go (decLt (r .kind) 6)
+  where
+    inner : T (hasContent n place r)
+    inner = and-r (isWithin (r .name .start) (r .name .size)) (hasContent n place r) h
+
+    span : (b : Bool) → T (cond b (isSpan n place (r .first) (r .second)) false) → place < r .second
+    span true p = ltb→lt place (r .second) (and-l (ltb place (r .second)) (leb (r .second) n) (and-l (ltb place (r .second) && leb (r .second) n) _ p))
+    span false p = absurd p
+
+    go : Dec (r .kind < 6) → place < endOf place r
+    go (yes p) = rw (lt-ltb (r .kind) 6 p) (omega arith)
+    go (no p) =
+        let l : 6 ≤ r .kind = omega arith in
+        rw (le-ltb (r .kind) 6 l)
+        (span (ltb (r .kind) 8)
+        (rw (ne-eqb (r .kind) 0 (λ e. omega arith), le-ltb (r .kind) 4 (omega arith), ne-eqb (r .kind) 4 (λ e. omega arith), ne-eqb (r .kind) 5 (λ e. omega arith)) at inner))
+
+-- A row that is told is one of a few, and its value ends behind it.
+pub record Behind (place : ℕ) (r : Row) : Type 0 where
+  pub few : place < 1024
+  pub behind : place < endOf place r
+
+pub told-behind : (table : Bytes) (place : ℕ) (r : Row) → rowSeen table place ≡ rows.Is r → Behind place r
+told-behind table place r e = choose (ltb place (rowCount table)) (hasForm (rowCount table) place (numbersAt table place)) refl refl e
+  where
+    choose : (a b : Bool) → ltb place (rowCount table) ≡ a → hasForm (rowCount table) place (numbersAt table place) ≡ b
+        → cond (a && b) (rows.Is (numbersAt table place)) rows.NotThere ≡ rows.Is r → Behind place r
+    choose true true p q f =
+        let g : numbersAt table place ≡ r = cc in
+        let l : T (hasForm (rowCount table) place r) = subst (λ (s : Row). T (hasForm (rowCount table) place s)) g (rw q tt) in
+        record { few = omega (arith, ltb-true place (rowCount table) p, rows-few table); behind = form-behind (rowCount table) place r l }
+    choose true false p q f = let z : _≡_ {A = ℕ} 0 1 = cc in absurd (omega arith)
+    choose false b p q f = let z : _≡_ {A = ℕ} 0 1 = cc in absurd (omega arith)
