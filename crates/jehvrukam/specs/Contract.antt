@@ -3,11 +3,14 @@ use Prim.Native.Nat.{ℕ}
 use Rattle.model.specs.Bytes.{Bytes}
 use Rattle.syntax.specs.Entry.{ReadAnswer}
 use Rattle.stages.specs.Areas.{textAreas}
+use Rattle.viewer.specs.declared.row.Span.{Span}
+use Rattle.viewer.specs.Answer.{Seen}
 use Rattle.jehvrukam.specs.Check.{CheckAreas, CheckNumbers}
 use Rattle.jehvrukam.specs.Entry.{Entry, workAreas}
 use Rattle.jehvrukam.specs.Evaluate.{Areas, Numbers}
 use Rattle.jehvrukam.specs.EvaluateChecked.{CheckedAreas, CheckedNumbers}
 use Rattle.jehvrukam.specs.Fits.{FitsAreas, FitsNumbers}
+use Rattle.jehvrukam.specs.View.{Told}
 
 abbrev pub answered : ℕ → ℕ → Bytes → Bytes → ReadAnswer
 answered refusal place table strings = record { refusal = refusal; place = place; table = table; strings = strings }
@@ -42,3 +45,13 @@ checkedAreasOf T A S Z R B C O = record { rule = textAreas T A; sheet = textArea
 
 abbrev pub checkedNumbersOf : ℕ → ℕ → ℕ → ℕ → ℕ → ℕ → CheckedNumbers
 checkedNumbersOf which place words fit steps size = record { which = which; place = place; words = words; fit = fit; steps = steps; size = size }
+
+-- The answers of the viewer's entries.
+abbrev pub told : {N : Type 0} → ℕ → N → Told N
+told refusal n = record { refusal = refusal; numbers = n }
+
+abbrev pub seen : ℕ → ℕ → Seen
+seen kind count = record { kind = kind; count = count }
+
+abbrev pub span : ℕ → ℕ → Span
+span start size = record { start = start; size = size }

@@ -4,5 +4,6 @@ pub mod Evaluate
 pub mod Check
 pub mod Fits
 pub mod EvaluateChecked
+pub mod View
 pub mod Contract
 pub mod Inner

@@ -21,6 +21,7 @@ mod evaluate;
 mod evaluate_checked;
 mod settle;
 mod told;
+mod view;
 
 // Reads a text into a table of rows and a strings area.
 #[no_mangle]
