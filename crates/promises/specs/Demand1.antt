@@ -1,6 +1,7 @@
 -- Demand1: of demand 1, that what an entry leaves is fixed: of what the lent areas and the numbers held before the call, nothing but the lengths of the
 -- areas plays a part. That every entry ends, with an answer or a refusal of 01's table, is said by the contracts: each is an equation with a definition,
 -- and a definition gives one answer for all bytes. Statements only; the proofs are in Laws.Lengths.
+use mathlib.Core.Option.{Option}
 use mathlib.Core.Path.{_≡_}
 use Prim.Native.Nat.{ℕ}
 use lib.ListN.{length}
@@ -10,7 +11,8 @@ use Rattle.jehvrukam.specs.Check.{CheckAreas, CheckNumbers, checkEntry}
 use Rattle.jehvrukam.specs.Evaluate.{Areas, Numbers, evaluateEntry}
 use Rattle.jehvrukam.specs.EvaluateChecked.{CheckedAreas, CheckedNumbers, evaluateCheckedEntry}
 use Rattle.jehvrukam.specs.Fits.{FitsAreas, FitsNumbers, fitsEntry}
-use Rattle.promises.specs.Lengths.{SameCheck, SameFits, SameEvaluate, SameChecked, NoOther, SameReading}
+use Rattle.jehvrukam.specs.View.{toldOr}
+use Rattle.promises.specs.Lengths.{SameCheck, SameFits, SameEvaluate, SameChecked, NoOther, SameReading, SameTold}
 use Rattle.promises.specs.Laws.Lengths as LengthsLaws
 
 -- `jehvrukam_read`: areas of the same lengths, any place before; the refusal is the same, and unless it is 1, so is all that comes back.
@@ -42,3 +44,7 @@ pub evaluate-checked-lengths :
     → SameChecked a b
     → NoOther (evaluateCheckedEntry rule sheet record′ limit a m) (evaluateCheckedEntry rule sheet record′ limit b n)
 evaluate-checked-lengths = LengthsLaws.evaluate-checked-lengths
+
+-- The entries of the viewer see nothing of the numbers (jehvrukam/View.antt: each is `toldOr` of what is told).
+pub view-numbers : {N : Type 0} (told : Option N) (m n : N) → SameTold (toldOr m told) (toldOr n told)
+view-numbers = LengthsLaws.view-numbers

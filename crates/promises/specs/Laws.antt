@@ -7,3 +7,4 @@ pub mod Checked
 pub mod Named
 pub mod Replaced
 pub mod Rows
+pub mod Viewed

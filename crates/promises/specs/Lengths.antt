@@ -8,6 +8,7 @@ use Rattle.jehvrukam.specs.Entry.{Entry, WorkAreas}
 use Rattle.jehvrukam.specs.Evaluate.{Areas}
 use Rattle.jehvrukam.specs.EvaluateChecked.{CheckedAreas}
 use Rattle.jehvrukam.specs.Fits.{FitsAreas}
+use Rattle.jehvrukam.specs.View.{Told}
 
 pub record SameText (a b : TextAreas) : Type 0 where
   pub table : length (a .table) ≡ length (b .table)
@@ -42,5 +43,10 @@ pub record NoOther {N A : Type 0} (x y : Entry N A) : Type 0 where
   pub whole : ¬ (x .refusal ≡ 1) → x ≡ y
 
 pub record SameReading (x y : ReadAnswer) : Type 0 where
+  pub refusal : x .refusal ≡ y .refusal
+  pub whole : ¬ (x .refusal ≡ 1) → x ≡ y
+
+-- Of an entry of the viewer, which is lent nothing to write but numbers.
+pub record SameTold {N : Type 0} (x y : Told N) : Type 0 where
   pub refusal : x .refusal ≡ y .refusal
   pub whole : ¬ (x .refusal ≡ 1) → x ≡ y

@@ -9,8 +9,8 @@ use native.Mathlib.Omega.{arith}
 use lib.Dec.{ltb}
 use lib.ListN.{length, replicate}
 use Rattle.model.specs.Bytes.{Bytes}
-use Rattle.model.specs.Eval.{Outcome, value, refusal}
-use Rattle.model.specs.Judgement.{Judged, done, refuses, sheetIn, orRefuse, written, writtenWithin, answerOf}
+use Rattle.model.specs.Eval.{run, Outcome, value, refusal, outcome}
+use Rattle.model.specs.Judgement.{Judged, done, refuses, sheetIn, orRefuse, written, Answer, answerOf}
 use Rattle.model.specs.Laws.Logic.{or-false-l, or-false-r}
 use Rattle.model.specs.Main.{found-some}
 use Rattle.model.specs.Refusal.{Refusal, number, ReadFault, notJson, repeatedName, loneSurrogate, badNumber, tooLarge, readNumber, notRule, notSheet, notAccepted, fault, wrongKind, badDate, outOfRange, outOfSteps, answerTooLarge, outputTooShort, EvalFault, evalNumber}
@@ -27,8 +27,8 @@ use Rattle.syntax.specs.Read.{Read}
 use Rattle.syntax.specs.Read as readings
 use Rattle.stages.specs.Areas.{isShort}
 use Rattle.stages.specs.Laws.{text-held, not-refused, check-held}
-use Rattle.stages.specs.Stage.{Stage, passed, refused, _>>=_, sheetText, asRead, asJudged}
-use Rattle.stages.specs.Texts.{TextRead, textStage, checkStage, evaluateStage, CheckedTextsRead, evaluateCheckedStage}
+use Rattle.stages.specs.Stage.{Stage, passed, refused, _>>=_, ruleText, sheetText, recordText, asRead, readAs, asJudged}
+use Rattle.stages.specs.Texts.{TextRead, textStage, ruleStage, sheetStage, TextsChecked, checkStage, evaluateStage, CheckedTextsRead, evaluateCheckedStage}
 use Rattle.jehvrukam.specs.Entry.{Entry, cannotRun}
 use Rattle.jehvrukam.specs.Evaluate.{Areas, Numbers, Evaluated, isInvalid, answered, evaluateAnswer, evaluateEntry}
 use Rattle.jehvrukam.specs.EvaluateChecked.{CheckedAreas, CheckedNumbers, isCheckedInvalid, checkedAnswered, evaluateCheckedAnswer, evaluateCheckedEntry}
@@ -63,15 +63,46 @@ judged-early e none h = h
 judged-early e (some x) h = tt
 
 text-early : {X : Type 0} (which : ℕ) (e : Refusal) (f : Value → Option X) (s : Bytes) → Early (number e) → EarlyStage (textStage which (λ v. orRefuse e (f v)) s)
-text-early which e f s h = early-bind (asRead which (readings.read s)) _ (read-early which (readings.read s)) (λ v. early-bind (asJudged (orRefuse e (f v))) _ (judged-early e (f v) h) (λ x. tt))
+text-early {X} which e f s h = early-bind (readAs which s) judged (read-early which (readings.read s)) (λ v. early-bind (asJudged (orRefuse e (f v))) (both v) (judged-early e (f v) h) (λ x. tt))
+  where
+    both : Value → X → Stage (TextRead X)
+    both v x = passed (record { value = v; content = x })
+
+    judged : Value → Stage (TextRead X)
+    judged v = asJudged (orRefuse e (f v)) >>= both v
+
+before-13 : Early (number notAccepted)
+before-13 = record { not-0 = λ e. omega arith; not-between = λ l m. omega arith }
+
+before-14 : Early (number notSheet)
+before-14 = record { not-0 = λ e. omega arith; not-between = λ l m. omega arith }
+
+before-6 : Early (number notRule)
+before-6 = record { not-0 = λ e. omega arith; not-between = λ l m. omega arith }
+
+check-early : (rule sheet : Bytes) → EarlyStage (checkStage rule sheet)
+check-early rule sheet = early-bind (ruleStage rule) with-rule (text-early ruleText notRule shape rule before-6) (λ r. early-bind (sheetStage sheet) (with-sheet r) (text-early sheetText notSheet sheetOf sheet before-14) (λ s. early-bind (accepted r s) (all-three r s) (judged-early notAccepted (check (r .content) (s .content)) before-13) (λ ts. tt)))
+  where
+    accepted : TextRead Rule → TextRead Sheet → Stage Types
+    accepted r s = asJudged (orRefuse notAccepted (check (r .content) (s .content)))
+
+    all-three : TextRead Rule → TextRead Sheet → Types → Stage TextsChecked
+    all-three r s ts = passed (record { rule = r; sheet = s; types = ts })
+
+    with-sheet : TextRead Rule → TextRead Sheet → Stage TextsChecked
+    with-sheet r s = accepted r s >>= all-three r s
+
+    with-rule : TextRead Rule → Stage TextsChecked
+    with-rule r = sheetStage sheet >>= with-sheet r
 
 stage-early : (rule sheet record′ : Bytes) → EarlyStage (evaluateCheckedStage rule sheet record′)
-stage-early rule sheet record′ =
-    early-bind (checkStage rule sheet) _
-    (early-bind (textStage 1 _ rule) _ (text-early 1 notRule shape rule (record { not-0 = λ e. omega arith; not-between = λ l m. omega arith }))
-    (λ r. early-bind (textStage 2 _ sheet) _ (text-early 2 notSheet sheetOf sheet (record { not-0 = λ e. omega arith; not-between = λ l m. omega arith }))
-    (λ s. early-bind (asJudged (orRefuse notAccepted (check (r .content) (s .content)))) _ (judged-early notAccepted (check (r .content) (s .content)) (record { not-0 = λ e. omega arith; not-between = λ l m. omega arith })) (λ ts. tt))))
-    (λ c. early-bind (asRead 3 (readings.read record′)) _ (read-early 3 (readings.read record′)) (λ v. tt))
+stage-early rule sheet record′ = early-bind (checkStage rule sheet) with-record (check-early rule sheet) (λ c. early-bind (readAs recordText record′) (both c) (read-early recordText (readings.read record′)) (λ v. tt))
+  where
+    both : TextsChecked → Value → Stage CheckedTextsRead
+    both c v = passed (record { checked = c; «record» = v })
+
+    with-record : TextsChecked → Stage CheckedTextsRead
+    with-record c = readAs recordText record′ >>= both c
 
 -- From evaluation on: 0, or 7 to 12.
 judged-after : (a : CheckedAreas) (t : CheckedTextsRead) (room : ℕ) (o : Outcome) (k : ℕ) → AfterEvaluation (checkedAnswered a t (written room o) k .refusal)
@@ -96,13 +127,16 @@ words-some rule sheet record′ t e =
     let s = text-held sheetText sheetIn sheet (t .checked .sheet) (c .sheet-passes) in
     bits-some (t .checked .types) (found-some (t .checked .sheet .value) (t .checked .rule .content) (t .checked .sheet .content) (t .checked .types) (not-refused notSheet (sheetOf (t .checked .sheet .value)) (t .checked .sheet .content) (s .judged)) (c .checks))
 
-told-words : (a : CheckedAreas) (t : CheckedTextsRead) (j : Judged Bytes) (k : ℕ) → checkedAnswered a t j k .numbers .words ≡ typeBits (t .checked .types)
+pub told-words : (a : CheckedAreas) (t : CheckedTextsRead) (j : Judged Bytes) (k : ℕ) → checkedAnswered a t j k .numbers .words ≡ typeBits (t .checked .types)
 told-words a t (done x) k = refl
 told-words a t (refuses x) k = refl
 
 module _ (rule sheet record′ : Bytes) (limit : ℕ) (a : CheckedAreas) (n : CheckedNumbers) (not-1 : ¬ (evaluateCheckedEntry rule sheet record′ limit a n .refusal ≡ 1)) where
   is : evaluateCheckedEntry rule sheet record′ limit a n ≡ evaluateCheckedAnswer a limit (evaluateCheckedStage rule sheet record′)
   is = behind (isCheckedInvalid limit a) n a (evaluateCheckedAnswer a limit (evaluateCheckedStage rule sheet record′)) not-1 .is
+
+  abbrev answer : CheckedTextsRead → Answer
+  answer t = answerOf (t .checked .rule .content) (t .«record») limit (length (a .work .output))
 
   pub words-tell-begun : ¬ (evaluateCheckedEntry rule sheet record′ limit a n .numbers .words ≡ 0) ↔ Begins rule sheet record′
   words-tell-begun = (λ h. there (evaluateCheckedStage rule sheet record′) refl (λ z. h (ap (λ (e : Entry CheckedNumbers CheckedAreas). e .numbers .words) is ∙ z)), λ b z. back b (sym (ap (λ (e : Entry CheckedNumbers CheckedAreas). e .numbers .words) is) ∙ z))
@@ -112,7 +146,7 @@ module _ (rule sheet record′ : Bytes) (limit : ℕ) (a : CheckedAreas) (n : Ch
       there (refused k w p) e h = absurd (h refl)
 
       back : (b : Begins rule sheet record′) → ¬ (evaluateCheckedAnswer a limit (evaluateCheckedStage rule sheet record′) .numbers .words ≡ 0)
-      back b z = words-some rule sheet record′ (b .texts) (b .read-so) (sym (told-words a (b .texts) _ _) ∙ (sym (ap (λ (x : Stage CheckedTextsRead). evaluateCheckedAnswer a limit x .numbers .words) (b .read-so)) ∙ z))
+      back b z = words-some rule sheet record′ (b .texts) (b .read-so) (sym (told-words a (b .texts) (answer (b .texts) .result) (answer (b .texts) .stepsBegun)) ∙ (sym (ap (λ (x : Stage CheckedTextsRead). evaluateCheckedAnswer a limit x .numbers .words) (b .read-so)) ∙ z))
 
   pub begun-by-number : AfterEvaluation (evaluateCheckedEntry rule sheet record′ limit a n .refusal) ↔ Begins rule sheet record′
   begun-by-number = (λ h. there (evaluateCheckedStage rule sheet record′) refl (stage-early rule sheet record′) (subst (λ (e : Entry CheckedNumbers CheckedAreas). AfterEvaluation (e .refusal)) is h), λ b. subst (λ (e : Entry CheckedNumbers CheckedAreas). AfterEvaluation (e .refusal)) (sym is) (back b))
@@ -123,7 +157,7 @@ module _ (rule sheet record′ : Bytes) (limit : ℕ) (a : CheckedAreas) (n : Ch
       there (refused r w p) e h (inr k) = absurd (h .not-between (k .0) (k .1))
 
       back : Begins rule sheet record′ → AfterEvaluation (evaluateCheckedAnswer a limit (evaluateCheckedStage rule sheet record′) .refusal)
-      back b = rw (b .read-so) (judged-after a (b .texts) (length (a .work .output)) _ _)
+      back b = rw (b .read-so) (judged-after a (b .texts) (length (a .work .output)) (outcome (run (b .texts .checked .rule .content) (b .texts .«record») limit)) (answer (b .texts) .stepsBegun))
 
 -- ---- the answer without the sheet
 same-answered : (a : CheckedAreas) (b : Areas) (t : CheckedTextsRead) (j : Judged Bytes) (k : ℕ) → length (a .work .output) ≡ length (b .work .output) → SameAnswer (checkedAnswered a t j k) (answered b (unsheeted t) j k)
@@ -145,10 +179,12 @@ same-valid rule sheet record′ limit a n b m after same whole =
     let t = g .texts in
     let left = is rule sheet record′ limit a n (after-not-1 after) ∙ ap (evaluateCheckedAnswer a limit) (g .read-so) in
     let right = whole ∙ ap (evaluateAnswer b limit) (unsheeted-read rule sheet record′ t (g .read-so)) in
-    let of : ℕ → Evaluated = λ room. answered b (unsheeted t) (answerOf (t .checked .rule .content) (t .«record») limit room .result) (answerOf (t .checked .rule .content) (t .«record») limit room .stepsBegun) in
+    let x : ℕ → Answer = answerOf (t .checked .rule .content) (t .«record») limit in
+    let room = length (a .work .output) in
+    let of : ℕ → Evaluated = λ k. answered b (unsheeted t) (x k .result) (x k .stepsBegun) in
     subst (λ (e : Entry CheckedNumbers CheckedAreas). SameAnswer e (evaluateEntry rule record′ limit b m)) (sym left)
     (subst (λ (e : Evaluated). SameAnswer (evaluateCheckedAnswer a limit (passed t)) e) (sym (right ∙ sym (ap of same)))
-    (same-answered a b t _ _ same))
+    (same-answered a b t (x room .result) (x room .stepsBegun) same))
 
 pub same-as-evaluate :
     (rule sheet record′ : Bytes) (limit : ℕ) (a : CheckedAreas) (n : CheckedNumbers) (b : Areas) (m : Numbers)

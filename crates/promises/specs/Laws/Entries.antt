@@ -21,7 +21,10 @@ pub record Behind {N A : Type 0} (invalid : Bool) (x e : Entry N A) : Type 0 whe
   pub valid : invalid ≡ false
   pub is : e ≡ x
 
-pub behind : {N A : Type 0} (invalid : Bool) (n : N) (a : A) (x : Entry N A) → ¬ ((elim invalid [ true ↦ untouched n a | false ↦ x ]) .refusal ≡ 1) → Behind invalid x (elim invalid [ true ↦ untouched n a | false ↦ x ])
+abbrev pub orUntouched : {N A : Type 0} → Bool → N → A → Entry N A → Entry N A
+orUntouched invalid n a x = elim invalid [ true ↦ untouched n a | false ↦ x ]
+
+pub behind : {N A : Type 0} (invalid : Bool) (n : N) (a : A) (x : Entry N A) → ¬ (orUntouched invalid n a x .refusal ≡ 1) → Behind invalid x (orUntouched invalid n a x)
 behind true n a x h = absurd (h refl)
 behind false n a x h = record { valid = refl; is = refl }
 

@@ -9,7 +9,7 @@ use lib.Dec.{T, ltb}
 use lib.ListN.{length}
 use Rattle.model.specs.Bytes.{Bytes}
 use Rattle.model.specs.Eval.{run, Outcome, value, refusal, outcome}
-use Rattle.model.specs.Judgement.{Judged, done, refuses, ruleIn, sheetIn, writtenWithin, written}
+use Rattle.model.specs.Judgement.{Judged, done, refuses, ruleIn, sheetIn, written, answerOf}
 use Rattle.model.specs.Laws.Logic.{or-e, T→true}
 use Rattle.model.specs.Laws.Types.{sameTy-refl}
 use Rattle.model.specs.Limits.{maxSteps}
@@ -24,6 +24,7 @@ use Rattle.model.specs.Value.{Value}
 use Rattle.model.specs.Writing.{valueText}
 use Rattle.model.specs.declared.Ty.{Ty}
 use Rattle.syntax.specs.Demand3.{demand-3a-bytes}
+use Rattle.stages.specs.Areas.{isShort}
 use Rattle.stages.specs.Laws.{text-held, record-held, not-refused, number-some, check-held, fits-held}
 use Rattle.stages.specs.Stage.{Stage, passed, refused, ruleText, sheetText, recordText, readAs}
 use Rattle.stages.specs.Texts.{TextsChecked, checkStage, TextsFitted, fitsStage, TextsRead, evaluateStage, CheckedTextsRead, evaluateCheckedStage}
@@ -35,8 +36,8 @@ use Rattle.jehvrukam.specs.Fits.{FitsNumbers, FitsAreas, yesOrNo, isFitsInvalid
 use Rattle.promises.specs.Calls.{Accepts, SaysFits, Runs, EndsNamed, RunsNamed, writtenBy, writtenByChecked, Answers, AnswersNamed, EndsSo, in-value, in-range, in-steps, in-size, in-output}
 use Rattle.promises.specs.Words.{bitOf, BelongsTo}
 use Rattle.promises.specs.Laws.Bits.{bit-tells}
-use Rattle.promises.specs.Laws.Checked.{begun-by-number, Without, without-sheet}
-use Rattle.promises.specs.Laws.Entries.{behind, zero-not-1, limit-within, passed-same, both-read, checked-held, unsheeted-read}
+use Rattle.promises.specs.Laws.Checked.{told-words, begun-by-number, without-sheet}
+use Rattle.promises.specs.Laws.Entries.{Behind, behind, zero-not-1, limit-within, passed-same, both-read, checked-held, unsheeted-read}
 use Rattle.promises.specs.Laws.Written.{evaluate-reads-back, checked-reads-back}
 
 -- ---- types and bits
@@ -182,10 +183,6 @@ told-fit : (a : CheckedAreas) (t : CheckedTextsRead) (j : Judged Bytes) (k : ℕ
 told-fit a t (done x) k = refl
 told-fit a t (refuses x) k = refl
 
-told-words : (a : CheckedAreas) (t : CheckedTextsRead) (j : Judged Bytes) (k : ℕ) → checkedAnswered a t j k .numbers .words ≡ typeBits (t .checked .types)
-told-words a t (done x) k = refl
-told-words a t (refuses x) k = refl
-
 -- Where the record is told to fit, evaluation has begun, and the run ends so.
 record Fits (rule sheet record′ : Bytes) (limit words : ℕ) : Type 0 where
   texts : CheckedTextsRead
@@ -196,6 +193,7 @@ module _ (rule sheet record′ : Bytes) (limit : ℕ) (a : CheckedAreas) (n : Ch
   told : Fits rule sheet record′ limit (evaluateCheckedEntry rule sheet record′ limit a n .numbers .words)
   told = ofStage (evaluateCheckedStage rule sheet record′) refl (sym (ap (λ (e : Entry CheckedNumbers CheckedAreas). e .numbers .fit) (b .is)) ∙ fit) (sym (ap (λ (e : Entry CheckedNumbers CheckedAreas). e .numbers .words) (b .is)))
     where
+      b : Behind (isCheckedInvalid limit a) (evaluateCheckedAnswer a limit (evaluateCheckedStage rule sheet record′)) (evaluateCheckedEntry rule sheet record′ limit a n)
       b = behind (isCheckedInvalid limit a) n a (evaluateCheckedAnswer a limit (evaluateCheckedStage rule sheet record′)) not-1
 
       ofStage : (x : Stage CheckedTextsRead) → evaluateCheckedStage rule sheet record′ ≡ x → evaluateCheckedAnswer a limit x .numbers .fit ≡ 1 → evaluateCheckedAnswer a limit x .numbers .words ≡ evaluateCheckedEntry rule sheet record′ limit a n .numbers .words
@@ -203,6 +201,7 @@ module _ (rule sheet record′ : Bytes) (limit : ℕ) (a : CheckedAreas) (n : Ch
       ofStage (refused e w p) f g h = absurd (omega arith)
       ofStage (passed t) f g h =
           let c = checked-held rule sheet record′ t f in
+          let x = answerOf (t .checked .rule .content) (t .«record») limit (length (a .work .output)) in
           let o = outcome (run (t .checked .rule .content) (t .«record») limit) in
           record {
             texts = t;
@@ -211,7 +210,7 @@ module _ (rule sheet record′ : Bytes) (limit : ℕ) (a : CheckedAreas) (n : Ch
               ends = o;
               begun = steps (run (t .checked .rule .content) (t .«record») limit);
               runs = record { texts = record { rule = t .checked .rule; «record» = t .«record» }; read-so = unsheeted-read rule sheet record′ t f; outcome-is = refl; steps-are = refl };
-              named = subst (λ k. EndsNamed k o) (sym (told-words a t _ _) ∙ h) (run-named rule sheet record′ limit (t .checked) (t .«record») (c .check-passes) (c .record-passes) (yes (fits (t .checked .sheet .content) (t .«record»)) (sym (told-fit a t _ _) ∙ g)) (limit-within limit (a .work .cells) _ (b .valid)));
+              named = subst (λ k. EndsNamed k o) (sym (told-words a t (x .result) (x .stepsBegun)) ∙ h) (run-named rule sheet record′ limit (t .checked) (t .«record») (c .check-passes) (c .record-passes) (yes (fits (t .checked .sheet .content) (t .«record»)) (sym (told-fit a t (x .result) (x .stepsBegun)) ∙ g)) (limit-within limit (a .work .cells) (isShort (a .rule) || (isShort (a .sheet) || isShort (a .«record»))) (b .valid)));
             };
           }
 
