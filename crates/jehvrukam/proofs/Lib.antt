@@ -7,3 +7,4 @@ pub mod Entries
 pub mod Reading
 pub mod TwoTexts
 pub mod CheckedJudging
+pub mod Viewing
