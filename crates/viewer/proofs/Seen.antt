@@ -1,22 +1,22 @@
 -- Seen: what is told of a row, from its numbers; and what a row that is told says of its place.
-use mathlib.Core.Path.{_≡_, refl, _∙_, subst}
-use mathlib.Core.Bool.{Bool, true, false, cond, _&&_}
+use mathlib.Core.Path.{_≡_, refl, _∙_}
+use mathlib.Core.Bool.{true, false, cond, _&&_}
 use Prim.Native.Nat.{ℕ, _/_, _≤_, _<_}
 use native.Mathlib.Decide.{decLt}
 use native.Mathlib.Omega.{arith}
-use borrow.Author.Tests.{lt-ltb, le-ltb, ltb-true, ne-eqb}
-use lib.Dec.{T, ltb, leb, ltb→lt}
+use borrow.Author.Tests.{lt-ltb, le-ltb}
+use lib.Dec.{ltb}
 use lib.ListN.{length}
 use Rattle.model.specs.Bytes.{Bytes}
-use Rattle.model.specs.Laws.Logic.{and-l, and-r}
 use Rattle.model.specs.Limits.{maxValues}
 use Rattle.syntax.specs.Layout.{rowBytes}
 use Rattle.viewer.specs.declared.row.Row.{Row}
 use Rattle.viewer.specs.declared.row.RowAnswer.{RowAnswer}
 use Rattle.viewer.specs.declared.row.RowAnswer.the-variants as rows
-use Rattle.viewer.specs.Form.{isWithin, isSpan, hasContent, hasForm}
+use Rattle.viewer.specs.Form.{hasForm}
 use Rattle.viewer.specs.Row.{rowCount, numbersAt, endOf}
 use Rattle.viewer.specs.View.{rowSeen}
+use Rattle.viewer.specs.Laws.Told.{told, form-behind}
 use Rattle.viewer.proofs.Tests.{held, failed}
 
 -- ---- the number of rows
@@ -53,38 +53,12 @@ row-past table place n e l =
     failed (ltb place n && hasForm n place r) _ _ (rw (le-ltb place n l)) ∙ seen-of table place n r e refl
 
 -- ---- and from what is told
--- The value in a row of the form ends behind its place.
-form-behind : (n place : ℕ) (r : Row) → T (hasForm n place r) → place < endOf place r
-form-behind n place r h = go (decLt (r .kind) 6)
-  where
-    inner : T (hasContent n place r)
-    inner = and-r (isWithin (r .name .start) (r .name .size)) (hasContent n place r) h
-
-    span : (b : Bool) → T (cond b (isSpan n place (r .first) (r .second)) false) → place < r .second
-    span true p = ltb→lt place (r .second) (and-l (ltb place (r .second)) (leb (r .second) n) (and-l (ltb place (r .second) && leb (r .second) n) _ p))
-    span false p = absurd p
-
-    go : Dec (r .kind < 6) → place < endOf place r
-    go (yes p) = rw (lt-ltb (r .kind) 6 p) (omega arith)
-    go (no p) =
-        let l : 6 ≤ r .kind = omega arith in
-        rw (le-ltb (r .kind) 6 l)
-        (span (ltb (r .kind) 8)
-        (rw (ne-eqb (r .kind) 0 (λ e. omega arith), le-ltb (r .kind) 4 (omega arith), ne-eqb (r .kind) 4 (λ e. omega arith), ne-eqb (r .kind) 5 (λ e. omega arith)) at inner))
-
 -- A row that is told is one of a few, and its value ends behind it.
 pub record Behind (place : ℕ) (r : Row) : Type 0 where
   pub few : place < 1024
   pub behind : place < endOf place r
 
 pub told-behind : (table : Bytes) (place : ℕ) (r : Row) → rowSeen table place ≡ rows.Is r → Behind place r
-told-behind table place r e = choose (ltb place (rowCount table)) (hasForm (rowCount table) place (numbersAt table place)) refl refl e
-  where
-    choose : (a b : Bool) → ltb place (rowCount table) ≡ a → hasForm (rowCount table) place (numbersAt table place) ≡ b
-        → cond (a && b) (rows.Is (numbersAt table place)) rows.NotThere ≡ rows.Is r → Behind place r
-    choose true true p q f =
-        let g : numbersAt table place ≡ r = cc in
-        let l : T (hasForm (rowCount table) place r) = subst (λ (s : Row). T (hasForm (rowCount table) place s)) g (rw q tt) in
-        record { few = omega (arith, ltb-true place (rowCount table) p, rows-few table); behind = form-behind (rowCount table) place r l }
-    choose true false p q f = let z : _≡_ {A = ℕ} 0 1 = cc in absurd (omega arith)
-    choose false b p q f = let z : _≡_ {A = ℕ} 0 1 = cc in absurd (omega arith)
+told-behind table place r e =
+    let t = told table place r e in
+    record { few = omega (arith, t .there, rows-few table); behind = form-behind (rowCount table) place r (t .form) (t .there) .0 }

@@ -1,14 +1,23 @@
 -- Main: the theorems of the viewer, restated with nothing else; the proofs are in Laws.
 -- `Shows T S place v`: on the table T, with the strings area S, walking by the viewer from a place sees the whole value v and nothing else.
+use mathlib.Core.Option.{some}
 use mathlib.Core.Path.{_≡_}
-use Prim.Native.Nat.{ℕ, _≤_}
+use Prim.Native.Nat.{ℕ, _+_, _≤_, _<_}
+use lib.Dec.{T as Holds}
+use lib.IntN.{ℤ}
 use Rattle.model.specs.Bytes.{Bytes}
-use Rattle.model.specs.Value.{Value}
-use Rattle.syntax.specs.Layout.{tableBytes, tableOf, stringsAreaOf}
+use Rattle.model.specs.Value.{Value, withinLimits}
+use Rattle.syntax.specs.Layout.{tableBytes, stringsBytes, tableOf, stringsAreaOf}
 use Rattle.syntax.specs.Read.{done, read}
+use Rattle.viewer.specs.declared.row.Span.{Span}
+use Rattle.viewer.specs.Answer.{nameOf, integerOf, stringOf, placeOf}
+use Rattle.viewer.specs.Row.{rowCount}
 use Rattle.viewer.specs.Shows.{Shows}
+use Rattle.viewer.specs.View.{rowSeen, partSeen}
 use Rattle.viewer.specs.Laws.ReadForm as ReadFormLaws
+use Rattle.viewer.specs.Laws.Told as ToldLaws
 
+-- ---- of a table that was read
 -- What reading leaves in its areas shows the value that was read, from the first row.
 pub read-shown :
     (s : Bytes) (v : Value) (T S : Bytes) (n m : ℕ)
@@ -22,3 +31,19 @@ read-shown = ReadFormLaws.text-shown
 -- The viewer shows one value at a place.
 pub one-shown : (T S : Bytes) (place : ℕ) (v w : Value) → Shows T S place v → Shows T S place w → v ≡ w
 one-shown T S place v w s t = ReadFormLaws.one T S s t
+
+-- ---- of any bytes as a table
+-- A name and a string that are told lie within the stated size of a strings area.
+pub name-within : (T : Bytes) (place : ℕ) (p : Span) → nameOf (rowSeen T place) ≡ some p → p .start + p .size ≤ stringsBytes
+name-within = ToldLaws.name-within
+
+pub string-within : (T : Bytes) (place : ℕ) (p : Span) → stringOf (rowSeen T place) ≡ some p → p .start + p .size ≤ stringsBytes
+string-within = ToldLaws.string-within
+
+-- An integer that is told is within the limits.
+pub integer-within : (T : Bytes) (place : ℕ) (z : ℤ) → integerOf (rowSeen T place) ≡ some z → Holds (withinLimits z)
+integer-within = ToldLaws.integer-within
+
+-- A part that is told lies behind its container, and is one of the rows: so a walk from part to part ends, whatever the table holds.
+pub part-behind : (T : Bytes) (place nth p : ℕ) → placeOf (partSeen T place nth) ≡ some p → (place < p) × (p < rowCount T)
+part-behind = ToldLaws.part-behind

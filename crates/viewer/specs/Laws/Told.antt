@@ -1,0 +1,166 @@
+-- Told: what the viewer tells of any bytes: a row that is told is there and has the form; what it says of strings, integers and parts lies within bounds.
+use mathlib.Core.Path.{_≡_, refl, sym, ap, subst, _∙_}
+use mathlib.Core.Bool.{Bool, true, false, _&&_, cond}
+use mathlib.Core.Option.{Option, none, some}
+use Prim.Native.Nat.{ℕ, zero, suc, _+_, _-_, _*_, _≤_, _<_}
+use native.Mathlib.Decide.{decLt}
+use native.Mathlib.Omega.{arith}
+use borrow.Author.Tests.{lt-ltb, le-ltb, ltb-true, eqb-true, ne-eqb, le-leb, lt-leb}
+use lib.Dec.{T, ltb, leb, eqb, ltb→lt, leb→le}
+use lib.IntN.{ℤ, pos, negsuc}
+use Rattle.model.specs.Bytes.{Bytes}
+use Rattle.model.specs.Laws.Logic.{and-l, and-r, clash}
+use Rattle.model.specs.Limits.{maxInteger}
+use Rattle.model.specs.Option.{_>>=_}
+use Rattle.model.specs.Value.{withinLimits}
+use Rattle.syntax.specs.Layout.{stringsBytes, unbiased}
+use Rattle.viewer.specs.declared.row.Row.{Row}
+use Rattle.viewer.specs.declared.row.Span.{Span}
+use Rattle.viewer.specs.declared.row.RowAnswer.{RowAnswer}
+use Rattle.viewer.specs.declared.row.RowAnswer.the-variants as rows
+use Rattle.viewer.specs.declared.part.PartAnswer.the-variants as parts
+use Rattle.viewer.specs.Answer.{nameOf, integerOf, stringOf, placeOf}
+use Rattle.viewer.specs.Form.{isWithin, isInteger, isSpan, hasContent, hasForm}
+use Rattle.viewer.specs.Row.{rowCount, numbersAt, joined, countOf, endOf}
+use Rattle.viewer.specs.View.{rowSeen, nextOf, nextWithin, nthWithin, partOf, partOfRow, partSeen}
+
+-- ---- a row that is told
+pub record Told (table : Bytes) (place : ℕ) (r : Row) : Type 0 where
+  pub there : place < rowCount table
+  pub numbers : numbersAt table place ≡ r
+  pub form : T (hasForm (rowCount table) place r)
+
+pub told : (table : Bytes) (place : ℕ) (r : Row) → rowSeen table place ≡ rows.Is r → Told table place r
+told table place r e = choose (ltb place (rowCount table)) (hasForm (rowCount table) place (numbersAt table place)) refl refl e
+  where
+    choose : (a b : Bool) → ltb place (rowCount table) ≡ a → hasForm (rowCount table) place (numbersAt table place) ≡ b
+        → cond (a && b) (rows.Is (numbersAt table place)) rows.NotThere ≡ rows.Is r → Told table place r
+    choose true true p q f =
+        let g : numbersAt table place ≡ r = cc in
+        record { there = ltb-true place (rowCount table) p; numbers = g; form = subst (λ (s : Row). T (hasForm (rowCount table) place s)) g (rw q tt) }
+    choose true false p q f = clash cc
+    choose false b p q f = clash cc
+
+module _ (n place : ℕ) (r : Row) (h : T (hasForm n place r)) where
+  pub form-name : r .name .start + r .name .size ≤ stringsBytes
+  form-name = leb→le _ stringsBytes (and-l (isWithin (r .name .start) (r .name .size)) (hasContent n place r) h)
+
+  pub form-content : T (hasContent n place r)
+  form-content = and-r (isWithin (r .name .start) (r .name .size)) (hasContent n place r) h
+
+  pub form-integer : r .kind ≡ 4 → T (isInteger (joined r))
+  form-integer e = rw e at form-content
+
+  pub form-string : r .kind ≡ 5 → r .first + r .second ≤ stringsBytes
+  form-string e = leb→le _ stringsBytes (rw e at form-content)
+
+  -- A container is a span of rows.
+  pub form-span : 6 ≤ r .kind → T (isSpan n place (r .first) (r .second))
+  form-span l =
+      only (ltb (r .kind) 8)
+      (rw (ne-eqb (r .kind) 0 (λ e. omega arith), le-ltb (r .kind) 4 (omega arith), ne-eqb (r .kind) 4 (λ e. omega arith), ne-eqb (r .kind) 5 (λ e. omega arith)) at form-content)
+    where
+      only : (b : Bool) → T (cond b (isSpan n place (r .first) (r .second)) false) → T (isSpan n place (r .first) (r .second))
+      only true p = p
+      only false p = absurd p
+
+  -- The value in a row of the form ends behind its place, within the rows.
+  pub form-behind : place < n → (place < endOf place r) × (endOf place r ≤ n)
+  form-behind there = go (decLt (r .kind) 6)
+    where
+      go : Dec (r .kind < 6) → (place < endOf place r) × (endOf place r ≤ n)
+      go (yes p) = rw (lt-ltb (r .kind) 6 p) (omega arith, omega arith)
+      go (no p) =
+          let l : 6 ≤ r .kind = omega arith in
+          let s = and-l (ltb place (r .second) && leb (r .second) n) (cond (eqb (r .first) 0) (eqb (r .second) (place + 1)) (leb (r .first) (r .second - (place + 1)))) (form-span l) in
+          rw (le-ltb (r .kind) 6 l) (ltb→lt place (r .second) (and-l (ltb place (r .second)) (leb (r .second) n) s), leb→le (r .second) n (and-r (ltb place (r .second)) (leb (r .second) n) s))
+
+-- ---- names, strings and integers
+some-same : {A : Type 0} {a b : A} → some a ≡ some b → a ≡ b
+some-same e = cc
+
+pub name-within : (table : Bytes) (place : ℕ) (p : Span) → nameOf (rowSeen table place) ≡ some p → p .start + p .size ≤ stringsBytes
+name-within table place p e = go (rowSeen table place) refl e
+  where
+    go : (a : RowAnswer) → rowSeen table place ≡ a → nameOf a ≡ some p → p .start + p .size ≤ stringsBytes
+    go (rows.Is r) f g = subst (λ (q : Span). q .start + q .size ≤ stringsBytes) (some-same g) (form-name (rowCount table) place r (told table place r f .form))
+    go rows.NotThere f g = clash cc
+
+pub string-within : (table : Bytes) (place : ℕ) (p : Span) → stringOf (rowSeen table place) ≡ some p → p .start + p .size ≤ stringsBytes
+string-within table place p e = go (rowSeen table place) refl e
+  where
+    kind : (r : Row) → rowSeen table place ≡ rows.Is r → (b : Bool) → eqb (r .kind) 5 ≡ b → cond b (some (record { start = r .first; size = r .second })) none ≡ some p → p .start + p .size ≤ stringsBytes
+    kind r f true k g = subst (λ (q : Span). q .start + q .size ≤ stringsBytes) (some-same g) (form-string (rowCount table) place r (told table place r f .form) (eqb-true (r .kind) 5 k))
+    kind r f false k g = clash cc
+
+    go : (a : RowAnswer) → rowSeen table place ≡ a → stringOf a ≡ some p → p .start + p .size ≤ stringsBytes
+    go (rows.Is r) f g = kind r f (eqb (r .kind) 5) refl g
+    go rows.NotThere f g = clash cc
+
+-- A number in a row is an integer's exactly if the integer is within the limits.
+pub integer-form : (n : ℕ) → T (isInteger n) → T (withinLimits (unbiased n))
+unfolding unbiased maxInteger
+integer-form n h = go (decLt n 9007199254740992)
+  where
+    low : 1 ≤ n
+    low = leb→le 1 n (and-l (leb 1 n) (leb n 18014398509481983) h)
+
+    high : n ≤ 18014398509481983
+    high = leb→le n 18014398509481983 (and-r (leb 1 n) (leb n 18014398509481983) h)
+
+    go : Dec (n < 9007199254740992) → T (withinLimits (unbiased n))
+    go (yes p) = let k : 9007199254740991 - n ≤ 9007199254740990 = omega (arith, low) in rw (unbiased, lt-leb 9007199254740992 n p, le-leb (9007199254740991 - n) 9007199254740990 k) tt
+    go (no p) = let k : n - 9007199254740992 ≤ 9007199254740991 = omega (arith, high) in rw (unbiased, le-leb 9007199254740992 n (omega arith), le-leb (n - 9007199254740992) 9007199254740991 k) tt
+
+pub integer-within : (table : Bytes) (place : ℕ) (z : ℤ) → integerOf (rowSeen table place) ≡ some z → T (withinLimits z)
+integer-within table place z e = go (rowSeen table place) refl e
+  where
+    kind : (r : Row) → rowSeen table place ≡ rows.Is r → (b : Bool) → eqb (r .kind) 4 ≡ b → cond b (some (unbiased (joined r))) none ≡ some z → T (withinLimits z)
+    kind r f true k g = subst (λ (y : ℤ). T (withinLimits y)) (some-same g) (integer-form (joined r) (form-integer (rowCount table) place r (told table place r f .form) (eqb-true (r .kind) 4 k)))
+    kind r f false k g = clash cc
+
+    go : (a : RowAnswer) → rowSeen table place ≡ a → integerOf a ≡ some z → T (withinLimits z)
+    go (rows.Is r) f g = kind r f (eqb (r .kind) 4) refl g
+    go rows.NotThere f g = clash cc
+
+-- ---- parts
+-- A part lies behind its container, and is one of the rows: so a walk down ends.
+module _ (table : Bytes) (end : ℕ) where
+  next-behind : (place next : ℕ) → nextWithin table end place ≡ some next → (place < rowCount table) × (place < next)
+  next-behind place next e = go (rowSeen table place) refl e
+    where
+      test : (r : Row) → rowSeen table place ≡ rows.Is r → (b : Bool) → cond b (some (endOf place r)) none ≡ some next → (place < rowCount table) × (place < next)
+      test r f true g = let t = told table place r f in (t .there, subst (λ (k : ℕ). place < k) (some-same g) (form-behind (rowCount table) place r (t .form) (t .there) .0))
+      test r f false g = clash cc
+
+      go : (a : RowAnswer) → rowSeen table place ≡ a → nextOf end place a ≡ some next → (place < rowCount table) × (place < next)
+      go (rows.Is r) f g = test r f (leb (endOf place r) end) g
+      go rows.NotThere f g = clash cc
+
+  nth-behind : (n place p : ℕ) → nthWithin table end n place ≡ some p → (place ≤ p) × (p < rowCount table)
+  unfolding nthWithin
+  nth-behind zero place p e = go (nextWithin table end place) refl e
+    where
+      go : (o : Option ℕ) → nextWithin table end place ≡ o → o >>= (λ _. some place) ≡ some p → (place ≤ p) × (p < rowCount table)
+      go (some next) f g = let q : place ≡ p = some-same g in (omega arith, subst (λ (k : ℕ). k < rowCount table) q (next-behind place next f .0))
+      go none f g = clash cc
+  nth-behind (suc n) place p e = go (λ next. nth-behind n next p) (nextWithin table end place) refl e
+    where
+      go : ((next : ℕ) → nthWithin table end n next ≡ some p → (next ≤ p) × (p < rowCount table)) → (o : Option ℕ) → nextWithin table end place ≡ o → o >>= nthWithin table end n ≡ some p → (place ≤ p) × (p < rowCount table)
+      go later (some next) f g = let l = later next g in (omega (arith, l .0, next-behind place next f .1), l .1)
+      go later none f g = clash cc
+
+pub part-behind : (table : Bytes) (place nth p : ℕ) → placeOf (partSeen table place nth) ≡ some p → (place < p) × (p < rowCount table)
+part-behind table place nth p e = go (rowSeen table place) e
+  where
+    found : (r : Row) (o : Option ℕ) → nthWithin table (r .second) nth (place + 1) ≡ o → placeOf (partOf o) ≡ some p → (place < p) × (p < rowCount table)
+    found r (some q) f g = let b = nth-behind table (r .second) nth (place + 1) p (f ∙ g) in (omega (arith, b .0), b .1)
+    found r none f g = clash cc
+
+    test : (r : Row) (b : Bool) → placeOf (cond b (partOf (nthWithin table (r .second) nth (place + 1))) parts.NotThere) ≡ some p → (place < p) × (p < rowCount table)
+    test r true g = found r (nthWithin table (r .second) nth (place + 1)) refl g
+    test r false g = clash cc
+
+    go : (a : RowAnswer) → placeOf (partOfRow table place nth a) ≡ some p → (place < p) × (p < rowCount table)
+    go (rows.Is r) g = test r (ltb nth (countOf r)) g
+    go rows.NotThere g = clash cc
