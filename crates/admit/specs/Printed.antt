@@ -3,16 +3,16 @@
 use mathlib.Core.List.{[], _∷_, _++_}
 use Prim.Native.Nat.{ℕ}
 use Rattle.model.specs.Bytes.{Bytes, ascii}
-use Rattle.model.specs.Judgement.{Judged, done, refuses, Answer, answerOf, refusedBefore}
+use Rattle.model.specs.Judgement.{Judged, done, refuses, Answer, answerOf}
 use Rattle.model.specs.Limits.{maxSteps, maxTextBytes}
 use Rattle.model.specs.Refusal.{number}
 use Rattle.model.specs.Writing.{decimal}
 use Rattle.stages.specs.Stage.{Stage, passed, refused}
 use Rattle.stages.specs.Texts.{TextsRead, evaluateStage}
 
--- ---- the answer to two texts: "rule read; 6; .. record read" (stages/Texts.antt: evaluateStage), then "evaluation; 11; 12"
+-- ---- the answer to two texts: "rule read; 6; .. record read" (stages/Texts.antt: evaluateStage), then "evaluation; 11; 12". "Before evaluation steps are 0."
 abbrev pub answerAfter : Stage TextsRead → ℕ → ℕ → Answer
-answerAfter (refused e which place) limit room = refusedBefore e
+answerAfter (refused e which place) limit room = record { result = refuses e; stepsBegun = 0 }
 answerAfter (passed t) limit room = answerOf (t .rule .content) (t .«record») limit room
 
 abbrev pub answerTo : Bytes → Bytes → ℕ → ℕ → Answer
