@@ -177,6 +177,9 @@ def samples():
         yield None if function_of(refuser) == owner else '%s is of %r' % (refuser, function_of(refuser))
     listed, texts = list(functions_of(SOURCE, 'src/lib.rt')), {'src/lib.rt': SOURCE}
     yield None if [(f.path, f.public) for f in listed] == [('f', False), ('g', True)] else 'the functions are %r' % listed
+    for text, shown in (('pub fn h() {}\n', False), ('pub extern "C" fn h() {}\n', True)):
+        inner = list(functions_of(text, 'src/m.rt', ('m',), False))
+        yield None if [(f.path, f.public) for f in inner] == [('m/h', shown)] else 'in a private module %r is judged wrongly' % text
     for more, good in (('', True), ('// fn h()', True), ('pub(crate) fn h() {}\n', False)):
         also = list(functions_of(SOURCE + more, 'src/lib.rt'))
         yield None if (unseen('src/lib.rt', SOURCE + more, also) is None) == good else '%r is judged wrongly' % more

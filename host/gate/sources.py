@@ -52,15 +52,16 @@ def body_of(text, start):
 
 
 def functions_of(text, file, modules=(), public=True):
-    """The functions of a source's text, which stands in these modules; public ones only if the modules are."""
+    """The functions of a source's text, which stands in these modules; public ones only if the modules are, or exported to C."""
     text = without_comments(text)
     types = [(m.group(1), m.end() - 1, skip(text, m.end() - 1, '{', '}')) for m in IMPL.finditer(text)]
     for m in HEAD.finditer(text):
         opens = body_of(text, m.start('name'))
         owner = [name for name, start, end in types if start < m.start() < end]
         path = '/'.join([*modules, *owner, m.group('name')])
-        yield Function(path, file, public and bool(m.group('pub')), bool(m.group('extern')), text[m.start('name'):opens],
-                       (opens, skip(text, opens, '{', '}')))
+        extern = bool(m.group('extern'))
+        shown = bool(m.group('pub')) and (public or extern)
+        yield Function(path, file, shown, extern, text[m.start('name'):opens], (opens, skip(text, opens, '{', '}')))
 
 
 def functions(crate):
