@@ -35,6 +35,6 @@ checkAnswer a (passed c) = record {
   areas = record { rule = holding (c .rule .value) (a .rule); sheet = holding (c .sheet .value) (a .sheet) };
 }
 
--- "Order: 1; rule read; 6; then sheet read, 14 and 13" (stages/Texts.antt: checkStage)
+-- "Order ..: 1; rule read; 6; then sheet read, 14 and 13" (stages/Texts.antt: checkStage)
 abbrev pub checkEntry : Bytes → Bytes → CheckAreas → CheckNumbers → Entry CheckNumbers CheckAreas
 checkEntry rule sheet a n = elim (isCheckInvalid a) [ true ↦ untouched n a | false ↦ checkAnswer a (checkStage rule sheet) ]

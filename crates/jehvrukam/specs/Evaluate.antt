@@ -56,6 +56,6 @@ evaluateAnswer a limit (passed t) =
     let x = answerOf (t .rule .content) (t .«record») limit (length (a .work .output)) in
     answered a t (x .result) (x .stepsBegun)
 
--- "Order: 1; rule read; 6; .. record read; evaluation; 11; 12." (stages/Texts.antt: evaluateStage)
+-- "Order ..: 1; rule read; 6; .. record read; evaluation; 11; 12." (stages/Texts.antt: evaluateStage)
 abbrev pub evaluateEntry : Bytes → Bytes → ℕ → Areas → Numbers → Evaluated
 evaluateEntry rule record′ limit a n = elim (isInvalid limit a) [ true ↦ untouched n a | false ↦ evaluateAnswer a limit (evaluateStage rule record′) ]

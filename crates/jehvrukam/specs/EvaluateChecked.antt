@@ -72,7 +72,7 @@ evaluateCheckedAnswer a limit (passed t) =
     let x = answerOf (t .checked .rule .content) (t .«record») limit (length (a .work .output)) in
     checkedAnswered a t (x .result) (x .stepsBegun)
 
--- "Order: 1; rule read; 6; then sheet read, 14 and 13 where a sheet is given; record read; evaluation; 11; 12."
+-- "Order ..: 1; rule read; 6; then sheet read, 14 and 13 where a sheet is given; record read; evaluation; 11; 12."
 abbrev pub evaluateCheckedEntry : Bytes → Bytes → Bytes → ℕ → CheckedAreas → CheckedNumbers → Entry CheckedNumbers CheckedAreas
 evaluateCheckedEntry rule sheet record′ limit a n =
     elim (isCheckedInvalid limit a) [ true ↦ untouched n a | false ↦ evaluateCheckedAnswer a limit (evaluateCheckedStage rule sheet record′) ]

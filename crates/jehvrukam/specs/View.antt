@@ -1,4 +1,4 @@
--- View: what comes back from the entries of the viewer. The table is only looked at: "The table may have any length and hold any bytes".
+-- View: what comes back from the entries of the viewer. The table is only looked at; it may have any length and hold any bytes.
 use mathlib.Core.Option.{Option, none, some}
 use Prim.Native.Nat.{ℕ}
 use lib.IntN.{ℤ}

@@ -70,7 +70,7 @@ pub extern "C" fn jehvrukam_view_string(
     0
 }
 
-// Where the name of the member whose content is at a place lies in the strings area; 0 and 0 of no member.
+// Where the name of the member whose content is at a place lies in the strings area; in a read table 0 and 0 of no member.
 #[no_mangle]
 pub extern "C" fn jehvrukam_view_name(
     table: &[u8],

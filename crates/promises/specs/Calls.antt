@@ -3,7 +3,7 @@ use mathlib.Core.Logic.{_⊎_}
 use mathlib.Core.Path.{_≡_}
 use Prim.Native.Nat.{ℕ, _≤_}
 use lib.Dec.{T}
-use lib.ListN.{take}
+use lib.ListN.{length, take}
 use Rattle.model.specs.Bytes.{Bytes}
 use Rattle.model.specs.Eval.{run, Outcome, value, refusal, outcome}
 use Rattle.model.specs.Refusal.{evalNumber}
@@ -35,7 +35,7 @@ pub record SaysFits (sheet record′ : Bytes) : Type 0 where
   pub answers : fitsEntry sheet record′ areas numbers .refusal ≡ 0
   pub says : fitsEntry sheet record′ areas numbers .numbers .fit ≡ 1
 
--- The run of a rule's bytes on a record's: both read, the first are a rule; it ends so, after so many steps.
+-- The run of a rule's text on a record's: both texts read, the first is a rule, and the run ends so, after so many steps.
 pub record Runs (rule record′ : Bytes) (limit : ℕ) (o : Outcome) (begun : ℕ) : Type 0 where
   pub texts : TextsRead
   pub read-so : evaluateStage rule record′ ≡ passed texts
@@ -61,18 +61,20 @@ writtenBy e = take (e .numbers .size) (e .areas .work .output)
 abbrev pub writtenByChecked : Entry CheckedNumbers CheckedAreas → Bytes
 writtenByChecked e = take (e .numbers .size) (e .areas .work .output)
 
--- They are the text of the value in which the run ends, after so many steps. They read as this value, with the text of each date-time in its place, and so
--- as the value itself where it holds none.
-pub record Answers (rule record′ : Bytes) (limit begun : ℕ) (text : Bytes) : Type 0 where
+-- They are the text of the value in which the run ends, after so many steps, all of it, and of one byte at least. They read as this value, with the text of
+-- each date-time in its place, and so as the value itself where it holds none.
+pub record Answers (rule record′ : Bytes) (limit begun size : ℕ) (text : Bytes) : Type 0 where
   pub answer : Value
   pub runs : Runs rule record′ limit (value answer) begun
   pub is-text : text ≡ valueText answer
+  pub length-is : length text ≡ size
+  pub not-empty : 1 ≤ size
   pub reads : read text ≡ done (textual answer)
   pub reads-back : T (instantFree answer) → read text ≡ done answer
 
 -- And this value belongs to a type whose bit is set.
-pub record AnswersNamed (rule record′ : Bytes) (limit begun words : ℕ) (text : Bytes) : Type 0 where
-  pub answers : Answers rule record′ limit begun text
+pub record AnswersNamed (rule record′ : Bytes) (limit begun words size : ℕ) (text : Bytes) : Type 0 where
+  pub answers : Answers rule record′ limit begun size text
   pub named : BelongsTo words (answers .answer)
 
 -- ---- how an entry ends
@@ -84,7 +86,7 @@ pub data EndsSo : ℕ → Type 0 where
   in-size : EndsSo 11
   in-output : EndsSo 12
 
--- With a sheet, evaluation has begun: rule, sheet and record read and are such, and the check accepts.
+-- With a sheet, evaluation has begun: the three texts read, the first is a rule, the second a sheet, and the check accepts.
 pub record Begins (rule sheet record′ : Bytes) : Type 0 where
   pub texts : CheckedTextsRead
   pub read-so : evaluateCheckedStage rule sheet record′ ≡ passed texts

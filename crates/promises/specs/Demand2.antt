@@ -13,12 +13,12 @@ use Rattle.promises.specs.Laws.Written as WrittenLaws
 pub evaluate-reads-back :
     (rule record′ : Bytes) (limit : ℕ) (a : Areas) (n : Numbers)
     → evaluateEntry rule record′ limit a n .refusal ≡ 0
-    → Answers rule record′ limit (evaluateEntry rule record′ limit a n .numbers .steps) (writtenBy (evaluateEntry rule record′ limit a n))
+    → Answers rule record′ limit (evaluateEntry rule record′ limit a n .numbers .steps) (evaluateEntry rule record′ limit a n .numbers .size) (writtenBy (evaluateEntry rule record′ limit a n))
 evaluate-reads-back = WrittenLaws.evaluate-reads-back
 
 -- So it is with `jehvrukam_evaluate_checked`.
 pub checked-reads-back :
     (rule sheet record′ : Bytes) (limit : ℕ) (a : CheckedAreas) (n : CheckedNumbers)
     → evaluateCheckedEntry rule sheet record′ limit a n .refusal ≡ 0
-    → Answers rule record′ limit (evaluateCheckedEntry rule sheet record′ limit a n .numbers .steps) (writtenByChecked (evaluateCheckedEntry rule sheet record′ limit a n))
+    → Answers rule record′ limit (evaluateCheckedEntry rule sheet record′ limit a n .numbers .steps) (evaluateCheckedEntry rule sheet record′ limit a n .numbers .size) (writtenByChecked (evaluateCheckedEntry rule sheet record′ limit a n))
 checked-reads-back = WrittenLaws.checked-reads-back

@@ -18,6 +18,10 @@ use Rattle.promises.specs.Laws.Replaced as ReplacedLaws
 pub demand-3a : (rule sheet record′ : Bytes) (words limit : ℕ) → Accepts rule sheet words → SaysFits sheet record′ → limit ≤ maxSteps → RunsNamed rule record′ limit words
 demand-3a = NamedLaws.demand-3a
 
+-- The words told are not 0: the check found at least one type.
+pub words-some : (rule sheet : Bytes) (words : ℕ) → Accepts rule sheet words → ¬ (words ≡ 0)
+words-some = NamedLaws.words-some
+
 -- So `jehvrukam_evaluate`, unless it gives 1, ends with 0, 9, 10, 11 or 12: never with 7 or 8.
 pub never-7-or-8 :
     (rule sheet record′ : Bytes) (words limit : ℕ) (a : Areas) (n : Numbers)
@@ -33,7 +37,7 @@ pub written-as-named :
     → Accepts rule sheet words
     → SaysFits sheet record′
     → evaluateEntry rule record′ limit a n .refusal ≡ 0
-    → AnswersNamed rule record′ limit (evaluateEntry rule record′ limit a n .numbers .steps) words (writtenBy (evaluateEntry rule record′ limit a n))
+    → AnswersNamed rule record′ limit (evaluateEntry rule record′ limit a n .numbers .steps) words (evaluateEntry rule record′ limit a n .numbers .size) (writtenBy (evaluateEntry rule record′ limit a n))
 written-as-named = NamedLaws.written-as-named
 
 -- The same in one call of `jehvrukam_evaluate_checked`, where it tells that the record fits.
@@ -44,11 +48,12 @@ pub checked-never-7-or-8 :
     → EndsSo (evaluateCheckedEntry rule sheet record′ limit a n .refusal)
 checked-never-7-or-8 = NamedLaws.checked-never-7-or-8
 
+-- And what it then writes is the text of a value of a type whose bit is set in the words that it tells.
 pub checked-written-as-named :
     (rule sheet record′ : Bytes) (limit : ℕ) (a : CheckedAreas) (n : CheckedNumbers)
     → evaluateCheckedEntry rule sheet record′ limit a n .refusal ≡ 0
     → evaluateCheckedEntry rule sheet record′ limit a n .numbers .fit ≡ 1
-    → AnswersNamed rule record′ limit (evaluateCheckedEntry rule sheet record′ limit a n .numbers .steps) (evaluateCheckedEntry rule sheet record′ limit a n .numbers .words) (writtenByChecked (evaluateCheckedEntry rule sheet record′ limit a n))
+    → AnswersNamed rule record′ limit (evaluateCheckedEntry rule sheet record′ limit a n .numbers .steps) (evaluateCheckedEntry rule sheet record′ limit a n .numbers .words) (evaluateCheckedEntry rule sheet record′ limit a n .numbers .size) (writtenByChecked (evaluateCheckedEntry rule sheet record′ limit a n))
 checked-written-as-named = NamedLaws.checked-written-as-named
 
 -- ---- (b)

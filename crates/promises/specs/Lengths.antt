@@ -1,4 +1,4 @@
--- Lengths: lent areas of the same lengths, whatever they hold, for each entry; and two answers that differ in nothing for it.
+-- Lengths: for each entry, lent areas of the same lengths, whatever they hold; and that two answers are the same.
 use mathlib.Core.Path.{_≡_}
 use lib.ListN.{length}
 use Rattle.syntax.specs.Entry.{ReadAnswer}

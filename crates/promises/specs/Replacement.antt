@@ -33,7 +33,7 @@ pub record RunsAlike (r r′ : Rule) (texts : TextsRead) (limit : ℕ) : Type 0 
   pub ends : outcome (run r′ (texts .«record») limit) ≡ outcome (run r (texts .«record») limit)
   pub begun : steps (run r′ (texts .«record») limit) ≡ steps (run r (texts .«record») limit)
 
--- Two answers are alike: the refusal is the same, and unless it is 1, so are all numbers, and the last bytes of every area but the rule's, which hold the other rule.
+-- Two answers are alike: the refusal is the same, and unless it is 1, so are all numbers, and the last bytes of every area but the rule's, which after success hold the other rule.
 pub record Alike (x y : Evaluated) : Type 0 where
   pub refusal : x .refusal ≡ y .refusal
   pub numbers : ¬ (x .refusal ≡ 1) → x .numbers ≡ y .numbers

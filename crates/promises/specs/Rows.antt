@@ -10,7 +10,7 @@ use Rattle.model.specs.Limits.{maxSteps, maxTextBytes}
 use Rattle.syntax.specs.Layout.{padded}
 use Rattle.jehvrukam.specs.Evaluate.{Areas, Numbers, Evaluated, isInvalid, evaluateEntry}
 
--- The areas are as long as stated, the limit is a valid one, and the output has 16,384 bytes. What they hold, and the numbers, may be anything.
+-- The areas are at least as long as stated, the limit is a valid one, and the output has 16,384 bytes. What they hold, and the numbers, may be anything.
 pub record Lent (limit : ℕ) (a : Areas) : Type 0 where
   pub valid : isInvalid limit a ≡ false
   pub output : length (a .work .output) ≡ maxTextBytes

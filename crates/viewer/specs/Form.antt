@@ -1,5 +1,5 @@
 -- Form: when a row has the form described in docs/LAYOUT.md, decided from its numbers, its place and the number of rows.
-use mathlib.Core.Bool.{Bool, true, false, _&&_, _||_, cond}
+use mathlib.Core.Bool.{Bool, false, _&&_, cond}
 use Prim.Native.Nat.{ℕ, _+_, _*_, _-_}
 use lib.Dec.{eqb, ltb, leb}
 use Rattle.model.specs.Limits.{maxInteger}

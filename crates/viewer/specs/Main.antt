@@ -11,8 +11,8 @@ use Rattle.syntax.specs.Layout.{tableBytes, stringsBytes, tableOf, stringsAreaO
 use Rattle.syntax.specs.Read.{done, read}
 use Rattle.viewer.specs.declared.row.Span.{Span}
 use Rattle.viewer.specs.Answer.{nameOf, integerOf, stringOf, placeOf}
-use Rattle.viewer.specs.Row.{rowCount}
-use Rattle.viewer.specs.Shows.{Shows}
+use Rattle.viewer.specs.Row.{numbersAt, endOf}
+use Rattle.viewer.specs.Shows.{Shows, ShowsText, Inside}
 use Rattle.viewer.specs.View.{rowSeen, partSeen}
 use Rattle.viewer.specs.Laws.ReadForm as ReadFormLaws
 use Rattle.viewer.specs.Laws.Told as ToldLaws
@@ -25,7 +25,7 @@ pub read-shown :
     → tableBytes ≤ n
     → T ≡ tableOf v n
     → S ≡ stringsAreaOf v m
-    → Shows T S 0 v
+    → ShowsText T S v
 read-shown = ReadFormLaws.text-shown
 
 -- The viewer shows one value at a place.
@@ -44,6 +44,6 @@ string-within = ToldLaws.string-within
 pub integer-within : (T : Bytes) (place : ℕ) (z : ℤ) → integerOf (rowSeen T place) ≡ some z → Holds (withinLimits z)
 integer-within = ToldLaws.integer-within
 
--- A part that is told lies behind its container, and is one of the rows: so a walk from part to part ends, whatever the table holds.
-pub part-behind : (T : Bytes) (place nth p : ℕ) → placeOf (partSeen T place nth) ≡ some p → (place < p) × (p < rowCount T)
-part-behind = ToldLaws.part-behind
+-- A part that is told lies behind its container and ends within it: so a walk down from part to part ends.
+pub part-inside : (T : Bytes) (place nth p : ℕ) → placeOf (partSeen T place nth) ≡ some p → (place < p) × Inside T p (endOf place (numbersAt T place))
+part-inside = ToldLaws.part-inside

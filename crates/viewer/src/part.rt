@@ -26,7 +26,7 @@ fn end_of(place: usize, r: Row) -> usize
     r.second
 }
 
-// The place after the value at a place, if its row is there and has the form, and it ends within a container's end; else 0, as from 0.
+// The place after the value at a place, if its row is there and has the form, and it ends within a container's end; else 0. Also 0 where the place is 0.
 fn next(table: &[u8], end: usize, place: usize) -> usize
     ensures { λ r. ⌜ r ≡ after (now (table .entry)) end place ⌝ }
 {

@@ -19,7 +19,7 @@ pub struct Span {
     pub size: usize,
 }
 
-// The kind; where the member's name lies, 0 and 0 of no member; and two numbers by the kind.
+// The kind; where the member's name lies, in a read table 0 and 0 of no member; and two numbers by the kind.
 pub struct Row {
     pub kind: usize,
     pub name: Span,

@@ -11,8 +11,7 @@ use Rattle.model.specs.Bytes.{Bytes}
 use Rattle.model.specs.Eval.{run, outcome}
 use Rattle.model.specs.Laws.Option.{none-some, bind-some, when-some}
 use Rattle.model.specs.Judgement.{written, answerOf}
-use Rattle.model.specs.Refusal.{notRule}
-use Rattle.model.specs.Laws.Unbegun.{Unbegun, unbegun-same, unbegun-same-run}
+use Rattle.model.specs.Laws.Unbegun.{Unbegun, unbegun-same}
 use Rattle.model.specs.Option.{_>>=_, when}
 use Rattle.model.specs.Path.{pathOf, itemAt}
 use Rattle.model.specs.Place.{operandsIn, ruleAt, subrule, mapRule, mapOperand, replace, operandValuesIn, subvalue, mapItem, mapOperandValue, replaceValue}

@@ -1,10 +1,9 @@
 -- Checked: with a sheet, when evaluation has begun, and that its answer is the one without a sheet.
 use mathlib.Core.Bool.{Bool, true, false, _||_, cond}
-use mathlib.Core.List.{[], _∷_}
-use mathlib.Core.Logic.{_⊎_, inl, inr, _↔_}
+use mathlib.Core.Logic.{inl, inr, _↔_}
 use mathlib.Core.Option.{Option, none, some}
 use mathlib.Core.Path.{_≡_, refl, sym, ap, subst, _∙_}
-use Prim.Native.Nat.{ℕ, _≤_, _/_, _%_, _^_}
+use Prim.Native.Nat.{ℕ, _≤_}
 use native.Mathlib.Omega.{arith}
 use lib.Dec.{ltb}
 use lib.ListN.{length, replicate}
@@ -13,7 +12,7 @@ use Rattle.model.specs.Eval.{run, Outcome, value, refusal, outcome}
 use Rattle.model.specs.Judgement.{Judged, done, refuses, sheetIn, orRefuse, written, Answer, answerOf}
 use Rattle.model.specs.Laws.Logic.{or-false-l, or-false-r}
 use Rattle.model.specs.Main.{found-some}
-use Rattle.model.specs.Refusal.{Refusal, number, ReadFault, notJson, repeatedName, loneSurrogate, badNumber, tooLarge, readNumber, notRule, notSheet, notAccepted, fault, wrongKind, badDate, outOfRange, outOfSteps, answerTooLarge, outputTooShort, EvalFault, evalNumber}
+use Rattle.model.specs.Refusal.{Refusal, number, notJson, repeatedName, loneSurrogate, badNumber, tooLarge, notRule, notSheet, notAccepted, fault, wrongKind, badDate, outOfRange, outOfSteps, answerTooLarge, outputTooShort}
 use Rattle.model.specs.Rule.{Rule}
 use Rattle.model.specs.Shape.{shape}
 use Rattle.model.specs.Sheet.{Sheet, sheetOf}
@@ -121,11 +120,11 @@ judged-after a t room (value v) k = large (isTooLarge v)
     large false = short (ltb room (length (valueText v))) (valueText v)
 
 -- ---- when evaluation has begun
-words-some : (rule sheet record′ : Bytes) (t : CheckedTextsRead) → evaluateCheckedStage rule sheet record′ ≡ passed t → ¬ (typeBits (t .checked .types) ≡ 0)
-words-some rule sheet record′ t e =
-    let c = check-held rule sheet (t .checked) (checked-held rule sheet record′ t e .check-passes) in
-    let s = text-held sheetText sheetIn sheet (t .checked .sheet) (c .sheet-passes) in
-    bits-some (t .checked .types) (found-some (t .checked .sheet .value) (t .checked .rule .content) (t .checked .sheet .content) (t .checked .types) (not-refused notSheet (sheetOf (t .checked .sheet .value)) (t .checked .sheet .content) (s .judged)) (c .checks))
+pub types-some : (rule sheet : Bytes) (t : TextsChecked) → checkStage rule sheet ≡ passed t → ¬ (typeBits (t .types) ≡ 0)
+types-some rule sheet t e =
+    let c = check-held rule sheet t e in
+    let s = text-held sheetText sheetIn sheet (t .sheet) (c .sheet-passes) in
+    bits-some (t .types) (found-some (t .sheet .value) (t .rule .content) (t .sheet .content) (t .types) (not-refused notSheet (sheetOf (t .sheet .value)) (t .sheet .content) (s .judged)) (c .checks))
 
 pub told-words : (a : CheckedAreas) (t : CheckedTextsRead) (j : Judged Bytes) (k : ℕ) → checkedAnswered a t j k .numbers .words ≡ typeBits (t .checked .types)
 told-words a t (done x) k = refl
@@ -146,7 +145,7 @@ module _ (rule sheet record′ : Bytes) (limit : ℕ) (a : CheckedAreas) (n : Ch
       there (refused k w p) e h = absurd (h refl)
 
       back : (b : Begins rule sheet record′) → ¬ (evaluateCheckedAnswer a limit (evaluateCheckedStage rule sheet record′) .numbers .words ≡ 0)
-      back b z = words-some rule sheet record′ (b .texts) (b .read-so) (sym (told-words a (b .texts) (answer (b .texts) .result) (answer (b .texts) .stepsBegun)) ∙ (sym (ap (λ (x : Stage CheckedTextsRead). evaluateCheckedAnswer a limit x .numbers .words) (b .read-so)) ∙ z))
+      back b z = types-some rule sheet (b .texts .checked) (checked-held rule sheet record′ (b .texts) (b .read-so) .check-passes) (sym (told-words a (b .texts) (answer (b .texts) .result) (answer (b .texts) .stepsBegun)) ∙ (sym (ap (λ (x : Stage CheckedTextsRead). evaluateCheckedAnswer a limit x .numbers .words) (b .read-so)) ∙ z))
 
   pub begun-by-number : AfterEvaluation (evaluateCheckedEntry rule sheet record′ limit a n .refusal) ↔ Begins rule sheet record′
   begun-by-number = (λ h. there (evaluateCheckedStage rule sheet record′) refl (stage-early rule sheet record′) (subst (λ (e : Entry CheckedNumbers CheckedAreas). AfterEvaluation (e .refusal)) is h), λ b. subst (λ (e : Entry CheckedNumbers CheckedAreas). AfterEvaluation (e .refusal)) (sym is) (back b))

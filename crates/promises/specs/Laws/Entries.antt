@@ -1,6 +1,6 @@
 -- Entries: what an answer of an entry tells of its stages.
 use mathlib.Core.Bool.{Bool, true, false, _||_}
-use mathlib.Core.Path.{_≡_, refl, sym, ap, _∙_}
+use mathlib.Core.Path.{_≡_, refl, ap, _∙_}
 use Prim.Native.Nat.{ℕ, _≤_}
 use native.Mathlib.Omega.{arith}
 use borrow.Author.Tests.{ltb-false}
@@ -10,9 +10,9 @@ use Rattle.model.specs.Laws.Logic.{or-false-l}
 use Rattle.model.specs.Limits.{maxSteps}
 use Rattle.model.specs.Rule.{Rule}
 use Rattle.model.specs.Value.{Value}
-use Rattle.stages.specs.Laws.{bound, CheckHeld, check-held}
-use Rattle.stages.specs.Stage.{Stage, passed, recordText, readAs}
-use Rattle.stages.specs.Texts.{TextRead, ruleStage, TextsChecked, checkStage, TextsRead, evaluateStage, CheckedTextsRead, evaluateCheckedStage}
+use Rattle.stages.specs.Laws.{bound, check-held}
+use Rattle.stages.specs.Stage.{passed, recordText, readAs}
+use Rattle.stages.specs.Texts.{TextRead, ruleStage, checkStage, TextsRead, evaluateStage, CheckedTextsRead, evaluateCheckedStage}
 use Rattle.jehvrukam.specs.Entry.{Entry, untouched, cannotRun}
 
 -- ---- an answer but 1

@@ -128,6 +128,6 @@ evaluate-checked-lengths rule sheet record′ limit a b m n h =
         (λ i. checkedAnswered a t (x (h .work .output i) .result) (x (h .work .output i) .stepsBegun)) ∙ ofAnswer t (x (length (b .work .output)) .result) (x (length (b .work .output)) .stepsBegun)
 
 -- ---- the viewer
-pub view-numbers : {N : Type 0} (told : Option N) (m n : N) → SameTold (toldOr m told) (toldOr n told)
-view-numbers none m n = record { refusal = refl; whole = λ k. absurd (k refl) }
-view-numbers (some x) m n = record { refusal = refl; whole = λ k. refl }
+pub told-numbers : {N : Type 0} (told : Option N) (m n : N) → SameTold (toldOr m told) (toldOr n told)
+told-numbers none m n = record { refusal = refl; whole = λ k. absurd (k refl) }
+told-numbers (some x) m n = record { refusal = refl; whole = λ k. refl }

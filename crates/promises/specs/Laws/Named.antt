@@ -1,7 +1,7 @@
 -- Named: demand 3a at the entries: an accepted rule on a record that fits ends in a value of a type whose bit is set, or in 9 or 10.
 use mathlib.Core.Bool.{Bool, true, false, _||_, cond}
 use mathlib.Core.List.{[], _∷_}
-use mathlib.Core.Logic.{_⊎_, inl, inr}
+use mathlib.Core.Logic.{inl, inr}
 use mathlib.Core.Path.{_≡_, refl, sym, ap, subst, _∙_}
 use Prim.Native.Nat.{ℕ, _≤_}
 use native.Mathlib.Omega.{arith}
@@ -36,7 +36,7 @@ use Rattle.jehvrukam.specs.Fits.{FitsNumbers, FitsAreas, yesOrNo, isFitsInvalid
 use Rattle.promises.specs.Calls.{Accepts, SaysFits, Runs, EndsNamed, RunsNamed, writtenBy, writtenByChecked, Answers, AnswersNamed, EndsSo, in-value, in-range, in-steps, in-size, in-output}
 use Rattle.promises.specs.Words.{bitOf, BelongsTo}
 use Rattle.promises.specs.Laws.Bits.{bit-tells}
-use Rattle.promises.specs.Laws.Checked.{told-words, begun-by-number, without-sheet}
+use Rattle.promises.specs.Laws.Checked.{types-some, told-words, begun-by-number, without-sheet}
 use Rattle.promises.specs.Laws.Entries.{Behind, behind, zero-not-1, limit-within, passed-same, both-read, checked-held, unsheeted-read}
 use Rattle.promises.specs.Laws.Written.{evaluate-reads-back, checked-reads-back}
 
@@ -92,6 +92,11 @@ accepted {rule} {sheet} {words} h = ofStage (checkStage rule sheet) refl (sym (a
     ofStage : (x : Stage TextsChecked) → checkStage rule sheet ≡ x → checkAnswer (h .areas) x .refusal ≡ 0 → checkAnswer (h .areas) x .numbers .words ≡ words → Accepted rule sheet words
     ofStage (passed t) e z w = record { texts = t; passes = e; words-are = w }
     ofStage (refused k a b) e z w = absurd (number-some k z)
+
+pub words-some : (rule sheet : Bytes) (words : ℕ) → Accepts rule sheet words → ¬ (words ≡ 0)
+words-some rule sheet words accepts z =
+    let a = accepted accepts in
+    types-some rule sheet (a .texts) (a .passes) (a .words-are ∙ z)
 
 yes : (b : Bool) → yesOrNo b ≡ 1 → T b
 yes true e = tt
@@ -165,7 +170,7 @@ one-run {limit = limit} x y =
     let same = passed-same (sym (x .read-so) ∙ y .read-so) in
     sym (x .outcome-is) ∙ (ap (λ (t : TextsRead). outcome (run (t .rule .content) (t .«record») limit)) same ∙ y .outcome-is)
 
-answers-named : {rule record′ : Bytes} {limit begun words : ℕ} {text : Bytes} → Answers rule record′ limit begun text → RunsNamed rule record′ limit words → AnswersNamed rule record′ limit begun words text
+answers-named : {rule record′ : Bytes} {limit begun words size : ℕ} {text : Bytes} → Answers rule record′ limit begun size text → RunsNamed rule record′ limit words → AnswersNamed rule record′ limit begun words size text
 answers-named {words = words} x h = record { answers = x; named = subst (EndsNamed words) (one-run (h .runs) (x .runs)) (h .named) }
 
 pub written-as-named :
@@ -173,7 +178,7 @@ pub written-as-named :
     → Accepts rule sheet words
     → SaysFits sheet record′
     → evaluateEntry rule record′ limit a n .refusal ≡ 0
-    → AnswersNamed rule record′ limit (evaluateEntry rule record′ limit a n .numbers .steps) words (writtenBy (evaluateEntry rule record′ limit a n))
+    → AnswersNamed rule record′ limit (evaluateEntry rule record′ limit a n .numbers .steps) words (evaluateEntry rule record′ limit a n .numbers .size) (writtenBy (evaluateEntry rule record′ limit a n))
 written-as-named rule sheet record′ words limit a n accepts says z =
     let b = behind (isInvalid limit a) n a (evaluateAnswer a limit (evaluateStage rule record′)) (zero-not-1 z) in
     answers-named (evaluate-reads-back rule record′ limit a n z) (demand-3a rule sheet record′ words limit accepts says (limit-within limit (a .work .cells) _ (b .valid)))
@@ -224,5 +229,5 @@ pub checked-written-as-named :
     (rule sheet record′ : Bytes) (limit : ℕ) (a : CheckedAreas) (n : CheckedNumbers)
     → evaluateCheckedEntry rule sheet record′ limit a n .refusal ≡ 0
     → evaluateCheckedEntry rule sheet record′ limit a n .numbers .fit ≡ 1
-    → AnswersNamed rule record′ limit (evaluateCheckedEntry rule sheet record′ limit a n .numbers .steps) (evaluateCheckedEntry rule sheet record′ limit a n .numbers .words) (writtenByChecked (evaluateCheckedEntry rule sheet record′ limit a n))
+    → AnswersNamed rule record′ limit (evaluateCheckedEntry rule sheet record′ limit a n .numbers .steps) (evaluateCheckedEntry rule sheet record′ limit a n .numbers .words) (evaluateCheckedEntry rule sheet record′ limit a n .numbers .size) (writtenByChecked (evaluateCheckedEntry rule sheet record′ limit a n))
 checked-written-as-named rule sheet record′ limit a n z fit = answers-named (checked-reads-back rule sheet record′ limit a n z) (told rule sheet record′ limit a n (zero-not-1 z) fit .named)

@@ -1,13 +1,12 @@
 -- Rows: the starred rows, from the bytes of the texts: what they read as, and what the model says of that (model/Laws/Rows.antt).
 use mathlib.Core.List.{[], _∷_}
-use mathlib.Core.Option.{Option, none, some}
+use mathlib.Core.Option.{some}
 use mathlib.Core.Path.{_≡_, refl, sym, ap, subst, _∙_}
 use Prim.Native.Nat.{ℕ}
 use Prim.Native.String.{String}
 use lib.ListN.{length, replicate}
 use Rattle.model.specs.Bytes.{Bytes, ascii}
 use Rattle.model.specs.Judgement.{Judged, done, refuses, judgedNumber, Answer, answerOf}
-use Rattle.model.specs.Laws.Logic.{clash}
 use Rattle.model.specs.Laws.Option.{bind-some}
 use Rattle.model.specs.Laws.Rows as rows
 use Rattle.model.specs.Laws.Rows.{arr, op, str, var, int, row-record, reduce-rule}

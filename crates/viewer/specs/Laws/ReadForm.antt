@@ -1,5 +1,5 @@
 -- ReadForm: what a table that reading left shows is the value that was read; and the viewer shows one value at a place.
-use mathlib.Core.Path.{_≡_, refl, sym, ap, ap₂, _∙_}
+use mathlib.Core.Path.{_≡_, refl, sym, ap, ap₂, subst, _∙_}
 use mathlib.Core.Bool.{Bool, true, false, _&&_, cond}
 use mathlib.Core.List.{[], _++_}
 use mathlib.Core.Option.{Option, none, some}
@@ -32,7 +32,7 @@ use Rattle.viewer.specs.declared.row.RowAnswer.the-variants as rows
 use Rattle.viewer.specs.Answer.{Seen, nameOf, integerOf, stringOf, placeOf}
 use Rattle.viewer.specs.Form.{isInteger, isSpan, hasContent, hasForm}
 use Rattle.viewer.specs.Row.{rowCount, numbersAt, countOf, endOf}
-use Rattle.viewer.specs.Shows.{kindOf, partCount, Tells, TellsScalar, Named, Shows, shows-scalar, shows-array, shows-object, ShowsItems, shows-no-items, shows-item, ShowsMembers, shows-no-members, shows-member}
+use Rattle.viewer.specs.Shows.{kindOf, partCount, Tells, TellsScalar, Named, Shows, ShowsText, shows-scalar, shows-array, shows-object, ShowsItems, shows-no-items, shows-item, ShowsMembers, shows-no-members, shows-member}
 use Rattle.viewer.specs.View.{rowSeen, nextWithin, nthWithin, partOf, partSeen}
 
 -- ---- a row of the table
@@ -206,7 +206,7 @@ module _ {A S : Bytes} (full : Full A) where
   scalar-read (string t) i used name w k f n s b =
       let l = text-small f in
       let r = row-seen i 5 name used (length t) full s k n (omega arith) (omega arith) (omega arith) (rw (le-leb (used + length t) maxTextBytes f)) in
-      stored r refl (shows-scalar (tells r (scalar (string t)) refl refl) (record { lies = record { start = used; size = length t }; told = rw (r .seen); spells = record { bytes-are = sym (part-stands t b) } }))
+      stored r refl (shows-scalar (tells r (scalar (string t)) refl refl) (record { lies = record { start = used; size = length t }; told = rw (r .seen); spells = record { length-is = refl; bytes-are = sym (part-stands t b) } }))
 
   mutual
     unfolding bounded instantFree valueCount itemCount stringsOf rowsOf
@@ -234,7 +234,7 @@ module _ {A S : Bytes} (full : Full A) where
 
     items-read : (vs : Values) (place end count n i used : ℕ) → Reaches A place end count n i → n + itemCount vs ≤ count → i + itemsCount vs ≤ end
         → T (boundedItems vs) → T (instantFreeItems vs) → end ≤ maxValues → used + length (itemStrings vs) ≤ maxTextBytes
-        → Stands A (i * rowBytes) (itemRows vs i used) → Stands S used (itemStrings vs) → ShowsItems A S place n vs
+        → Stands A (i * rowBytes) (itemRows vs i used) → Stands S used (itemStrings vs) → ShowsItems A S place n i vs
     items-read no-items place end count n i used p x y w c k f s b = shows-no-items
     items-read (item v vs) place end count n i used p x y w c k f s b =
         let first = rowsOf v i used unnamed in
@@ -248,7 +248,7 @@ module _ {A S : Bytes} (full : Full A) where
 
     members-read : (ms : Members) (place end count n i used : ℕ) → Reaches A place end count n i → n + memberCount ms ≤ count → i + membersCount ms ≤ end
         → T (boundedMembers ms) → T (instantFreeMembers ms) → end ≤ maxValues → used + length (memberStrings ms) ≤ maxTextBytes
-        → Stands A (i * rowBytes) (memberRows ms i used) → Stands S used (memberStrings ms) → ShowsMembers A S place n ms
+        → Stands A (i * rowBytes) (memberRows ms i used) → Stands S used (memberStrings ms) → ShowsMembers A S place n i ms
     members-read no-members place end count n i used p x y w c k f s b = shows-no-members
     members-read (member t v ms) place end count n i used p x y w c k f s b =
         let name : Label = record { start = used; size = length t } in
@@ -259,7 +259,7 @@ module _ {A S : Bytes} (full : Full A) where
         let b′ = back t (stringsOf v ++ memberStrings ms) b in
         let r = value-read v i (used + length t) name (and-l (bounded v) _ w) (and-l (instantFree v) _ c) (omega arith) (omega arith) (omega arith) (front first rest s) (front (stringsOf v) (memberStrings ms) b′) in
         shows-member (this-part p r (omega arith) (omega arith))
-        (record { lies = record { start = used; size = length t }; told = r .named; spells = record { bytes-are = sym (part-stands t (front t (stringsOf v ++ memberStrings ms) b)) } }) (r .shows)
+        (record { lies = record { start = used; size = length t }; told = r .named; spells = record { length-is = refl; bytes-are = sym (part-stands t (front t (stringsOf v ++ memberStrings ms) b)) } }) (r .shows)
         (members-read ms place end count (suc n) (i + valueCount v) (used + length t + length (stringsOf v)) (other-parts p r (omega arith)) (omega arith) (omega arith)
         (and-r (bounded v) _ w) (and-r (instantFree v) _ c) k (omega arith)
         (behind i (valueCount v) first rest s (length-rows v i (used + length t) name)) (back (stringsOf v) (memberStrings ms) b′))
@@ -273,14 +273,15 @@ full-table A v n l e =
     let zeros : Bytes = replicate (n - length bytes) 0 in
     record { enough = omega (arith, ap length e, length-append bytes zeros, length-replicate {A = ℕ} (n - length bytes) 0) }
 
-pub text-shown : (s : Bytes) (v : Value) (T S : Bytes) (n m : ℕ) → read s ≡ done v → tableBytes ≤ n → T ≡ tableOf v n → S ≡ stringsAreaOf v m → Shows T S 0 v
+pub text-shown : (s : Bytes) (v : Value) (T S : Bytes) (n m : ℕ) → read s ≡ done v → tableBytes ≤ n → T ≡ tableOf v n → S ≡ stringsAreaOf v m → ShowsText T S v
 unfolding rowBytes
 text-shown s v T S n m e l t b =
     let w = read-well-formed s v e in
     let k = sound s v e .0 .few in
     let f = strings-small s v e in
-    value-read (full-table T v n l t) v 0 0 unnamed (w .formed .within-limits) (w .no-instants) (omega arith) (omega arith) (omega arith)
-    (starts T (rowsOf v 0 0 unnamed) n t) (starts S (stringsOf v) m b) .shows
+    let r = value-read (full-table T v n l t) v 0 0 unnamed (w .formed .within-limits) (w .no-instants) (omega arith) (omega arith) (omega arith)
+    (starts T (rowsOf v 0 0 unnamed) n t) (starts S (stringsOf v) m b) in
+    record { shows = r .shows; no-member = record { told = r .named } }
 
 -- ---- one value at a place
 kindIn : Option Seen → ℕ
@@ -343,21 +344,20 @@ module _ (T S : Bytes) where
     one (shows-object s a) (shows-array t b) = absurd (omega (arith, same-kind s t))
     one (shows-object s a) (shows-object t b) = ap object (one-members a b (same-count s t))
 
-    one-items : {place n : ℕ} {vs ws : Values} → ShowsItems T S place n vs → ShowsItems T S place n ws → itemCount vs ≡ itemCount ws → vs ≡ ws
+    one-items : {place n at : ℕ} {vs ws : Values} → ShowsItems T S place n at vs → ShowsItems T S place n at ws → itemCount vs ≡ itemCount ws → vs ≡ ws
     one-items shows-no-items shows-no-items e = refl
     one-items shows-no-items (shows-item q u y ys) e = absurd (omega arith)
     one-items (shows-item p t x xs) shows-no-items e = absurd (omega arith)
-    one-items (shows-item {part = i} p t x xs) (shows-item {part = j} q u y ys) e =
-        let f : j ≡ i = cc in
-        ap₂ item (one x (rw f at y)) (one-items xs ys (omega arith))
+    one-items {place} {n} {at} (shows-item p t x xs) (shows-item {v = w} {vs = ws} q u y ys) e =
+        let same = one x y in
+        ap₂ item same (one-items xs (subst (λ (z : Value). ShowsItems T S place (suc n) (at + valueCount z) ws) (sym same) ys) (omega arith))
 
-    one-members : {place n : ℕ} {vs ws : Members} → ShowsMembers T S place n vs → ShowsMembers T S place n ws → memberCount vs ≡ memberCount ws → vs ≡ ws
+    one-members : {place n at : ℕ} {vs ws : Members} → ShowsMembers T S place n at vs → ShowsMembers T S place n at ws → memberCount vs ≡ memberCount ws → vs ≡ ws
     one-members shows-no-members shows-no-members e = refl
     one-members shows-no-members (shows-member q u y ys) e = absurd (omega arith)
     one-members (shows-member p t x xs) shows-no-members e = absurd (omega arith)
-    one-members (shows-member {part = i} p t x xs) (shows-member {part = j} q u y ys) e =
-        let f : j ≡ i = cc in
-        let a = one-name t (rw f at u) in
-        let b = one x (rw f at y) in
-        let c = one-members xs ys (omega arith) in
-        λ k. member (a k) (b k) (c k)
+    one-members {place} {n} {at} (shows-member p t x xs) (shows-member {v = w} {ms = ws} q u y ys) e =
+        let a = one-name t u in
+        let same = one x y in
+        let c = one-members xs (subst (λ (z : Value). ShowsMembers T S place (suc n) (at + valueCount z) ws) (sym same) ys) (omega arith) in
+        λ k. member (a k) (same k) (c k)

@@ -2,12 +2,12 @@
 use mathlib.Core.Path.{_≡_, refl, sym, ap, subst, _∙_}
 use mathlib.Core.Bool.{Bool, true, false, _&&_, cond}
 use mathlib.Core.Option.{Option, none, some}
-use Prim.Native.Nat.{ℕ, zero, suc, _+_, _-_, _*_, _≤_, _<_}
+use Prim.Native.Nat.{ℕ, zero, suc, _+_, _-_, _≤_, _<_}
 use native.Mathlib.Decide.{decLt}
 use native.Mathlib.Omega.{arith}
 use borrow.Author.Tests.{lt-ltb, le-ltb, ltb-true, eqb-true, ne-eqb, le-leb, lt-leb}
 use lib.Dec.{T, ltb, leb, eqb, ltb→lt, leb→le}
-use lib.IntN.{ℤ, pos, negsuc}
+use lib.IntN.{ℤ}
 use Rattle.model.specs.Bytes.{Bytes}
 use Rattle.model.specs.Laws.Logic.{and-l, and-r, clash}
 use Rattle.model.specs.Limits.{maxInteger}
@@ -22,6 +22,7 @@ use Rattle.viewer.specs.declared.part.PartAnswer.the-variants as parts
 use Rattle.viewer.specs.Answer.{nameOf, integerOf, stringOf, placeOf}
 use Rattle.viewer.specs.Form.{isWithin, isInteger, isSpan, hasContent, hasForm}
 use Rattle.viewer.specs.Row.{rowCount, numbersAt, joined, countOf, endOf}
+use Rattle.viewer.specs.Shows.{Inside}
 use Rattle.viewer.specs.View.{rowSeen, nextOf, nextWithin, nthWithin, partOf, partOfRow, partSeen}
 
 -- ---- a row that is told
@@ -97,7 +98,7 @@ string-within table place p e = go (rowSeen table place) refl e
     go (rows.Is r) f g = kind r f (eqb (r .kind) 5) refl g
     go rows.NotThere f g = clash cc
 
--- A number in a row is an integer's exactly if the integer is within the limits.
+-- A number in a row of an integer that has the form is that of an integer within the limits.
 pub integer-form : (n : ℕ) → T (isInteger n) → T (withinLimits (unbiased n))
 unfolding unbiased maxInteger
 integer-form n h = go (decLt n 9007199254740992)
@@ -124,43 +125,58 @@ integer-within table place z e = go (rowSeen table place) refl e
     go rows.NotThere f g = clash cc
 
 -- ---- parts
--- A part lies behind its container, and is one of the rows: so a walk down ends.
+-- A part lies behind its container, and it ends within it.
 module _ (table : Bytes) (end : ℕ) where
-  next-behind : (place next : ℕ) → nextWithin table end place ≡ some next → (place < rowCount table) × (place < next)
-  next-behind place next e = go (rowSeen table place) refl e
+  next-inside : (place next : ℕ) → nextWithin table end place ≡ some next → Inside table place end × (next ≡ endOf place (numbersAt table place)) × (place < next)
+  next-inside place next e = go (rowSeen table place) refl e
     where
-      test : (r : Row) → rowSeen table place ≡ rows.Is r → (b : Bool) → cond b (some (endOf place r)) none ≡ some next → (place < rowCount table) × (place < next)
-      test r f true g = let t = told table place r f in (t .there, subst (λ (k : ℕ). place < k) (some-same g) (form-behind (rowCount table) place r (t .form) (t .there) .0))
-      test r f false g = clash cc
+      test : (r : Row) → rowSeen table place ≡ rows.Is r → (b : Bool) → leb (endOf place r) end ≡ b → cond b (some (endOf place r)) none ≡ some next → Inside table place end × (next ≡ endOf place (numbersAt table place)) × (place < next)
+      test r f true k g =
+          let t = told table place r f in
+          let n : next ≡ endOf place (numbersAt table place) = sym (some-same g) ∙ ap (endOf place) (sym (t .numbers)) in
+          let l = form-behind (rowCount table) place r (t .form) (t .there) in
+          (record { there = t .there; ends = subst (λ (q : Row). endOf place q ≤ end) (sym (t .numbers)) (leb→le (endOf place r) end (rw k tt)) }, n, subst (λ (m : ℕ). place < m) (some-same g) (l .0))
+      test r f false k g = clash cc
 
-      go : (a : RowAnswer) → rowSeen table place ≡ a → nextOf end place a ≡ some next → (place < rowCount table) × (place < next)
-      go (rows.Is r) f g = test r f (leb (endOf place r) end) g
+      go : (a : RowAnswer) → rowSeen table place ≡ a → nextOf end place a ≡ some next → Inside table place end × (next ≡ endOf place (numbersAt table place)) × (place < next)
+      go (rows.Is r) f g = test r f (leb (endOf place r) end) refl g
       go rows.NotThere f g = clash cc
 
-  nth-behind : (n place p : ℕ) → nthWithin table end n place ≡ some p → (place ≤ p) × (p < rowCount table)
+  nth-inside : (n place p : ℕ) → nthWithin table end n place ≡ some p → (place ≤ p) × Inside table p end
   unfolding nthWithin
-  nth-behind zero place p e = go (nextWithin table end place) refl e
+  nth-inside zero place p e = go (nextWithin table end place) refl e
     where
-      go : (o : Option ℕ) → nextWithin table end place ≡ o → o >>= (λ _. some place) ≡ some p → (place ≤ p) × (p < rowCount table)
-      go (some next) f g = let q : place ≡ p = some-same g in (omega arith, subst (λ (k : ℕ). k < rowCount table) q (next-behind place next f .0))
+      go : (o : Option ℕ) → nextWithin table end place ≡ o → o >>= (λ _. some place) ≡ some p → (place ≤ p) × Inside table p end
+      go (some next) f g = let q : place ≡ p = some-same g in (omega arith, subst (λ (k : ℕ). Inside table k end) q (next-inside place next f .0))
       go none f g = clash cc
-  nth-behind (suc n) place p e = go (λ next. nth-behind n next p) (nextWithin table end place) refl e
+  nth-inside (suc n) place p e = go (λ next. nth-inside n next p) (nextWithin table end place) refl e
     where
-      go : ((next : ℕ) → nthWithin table end n next ≡ some p → (next ≤ p) × (p < rowCount table)) → (o : Option ℕ) → nextWithin table end place ≡ o → o >>= nthWithin table end n ≡ some p → (place ≤ p) × (p < rowCount table)
-      go later (some next) f g = let l = later next g in (omega (arith, l .0, next-behind place next f .1), l .1)
+      go : ((next : ℕ) → nthWithin table end n next ≡ some p → (next ≤ p) × Inside table p end) → (o : Option ℕ) → nextWithin table end place ≡ o → o >>= nthWithin table end n ≡ some p → (place ≤ p) × Inside table p end
+      go later (some next) f g = let l = later next g in (omega (arith, l .0, next-inside place next f .2), l .1)
       go later none f g = clash cc
 
-pub part-behind : (table : Bytes) (place nth p : ℕ) → placeOf (partSeen table place nth) ≡ some p → (place < p) × (p < rowCount table)
-part-behind table place nth p e = go (rowSeen table place) e
+pub part-inside : (table : Bytes) (place nth p : ℕ) → placeOf (partSeen table place nth) ≡ some p → (place < p) × Inside table p (endOf place (numbersAt table place))
+part-inside table place nth p e = go (rowSeen table place) refl e
   where
-    found : (r : Row) (o : Option ℕ) → nthWithin table (r .second) nth (place + 1) ≡ o → placeOf (partOf o) ≡ some p → (place < p) × (p < rowCount table)
-    found r (some q) f g = let b = nth-behind table (r .second) nth (place + 1) p (f ∙ g) in (omega (arith, b .0), b .1)
+    found : (r : Row) (o : Option ℕ) → nthWithin table (r .second) nth (place + 1) ≡ o → placeOf (partOf o) ≡ some p → (place < p) × Inside table p (r .second)
+    found r (some q) f g = let b = nth-inside table (r .second) nth (place + 1) p (f ∙ g) in (omega (arith, b .0), b .1)
     found r none f g = clash cc
 
-    test : (r : Row) (b : Bool) → placeOf (cond b (partOf (nthWithin table (r .second) nth (place + 1))) parts.NotThere) ≡ some p → (place < p) × (p < rowCount table)
-    test r true g = found r (nthWithin table (r .second) nth (place + 1)) refl g
-    test r false g = clash cc
+    -- It has a part, so it is a container.
+    container : (r : Row) → nth < countOf r → endOf place r ≡ r .second
+    container r l = kind (ltb (r .kind) 6) l
+      where
+        kind : (b : Bool) → nth < cond b 0 (r .first) → cond b (place + 1) (r .second) ≡ r .second
+        kind true l = absurd (omega arith)
+        kind false l = refl
 
-    go : (a : RowAnswer) → placeOf (partOfRow table place nth a) ≡ some p → (place < p) × (p < rowCount table)
-    go (rows.Is r) g = test r (ltb nth (countOf r)) g
-    go rows.NotThere g = clash cc
+    test : (r : Row) → rowSeen table place ≡ rows.Is r → (b : Bool) → ltb nth (countOf r) ≡ b → placeOf (cond b (partOf (nthWithin table (r .second) nth (place + 1))) parts.NotThere) ≡ some p → (place < p) × Inside table p (endOf place (numbersAt table place))
+    test r f true k g =
+        let end : r .second ≡ endOf place (numbersAt table place) = sym (container r (ltb-true nth (countOf r) k)) ∙ ap (endOf place) (sym (told table place r f .numbers)) in
+        let q = found r (nthWithin table (r .second) nth (place + 1)) refl g in
+        (q .0, subst (Inside table p) end (q .1))
+    test r f false k g = clash cc
+
+    go : (a : RowAnswer) → rowSeen table place ≡ a → placeOf (partOfRow table place nth a) ≡ some p → (place < p) × Inside table p (endOf place (numbersAt table place))
+    go (rows.Is r) f g = test r f (ltb nth (countOf r)) refl g
+    go rows.NotThere f g = clash cc
