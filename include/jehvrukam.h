@@ -4,7 +4,8 @@
  * Only numbers and byte areas cross it. The library allocates nothing and keeps nothing between calls, so calls on
  * different areas may run at the same time. A call uses less than 16 KiB of stack to read and less than 32 KiB to check,
  * to tell whether a record fits, and to evaluate (some 13, 17, 13 and 23 KB at the deepest nesting, measured:
- * host/tests/stack.c). Link target/staticlib/libjehvrukam.a, which `rt staticlib jehvrukam` writes, for x86-64.
+ * host/tests/stack.c); a call of the viewer uses less than 1 KiB (some 100 bytes, measured there too). Link
+ * target/staticlib/libjehvrukam.a, which `rt staticlib jehvrukam` writes, for x86-64.
  */
 #ifndef JEHVRUKAM_H
 #define JEHVRUKAM_H
@@ -37,7 +38,8 @@ extern "C" {
 /* Refusals. What an entry answers. */
 enum {
     JEHVRUKAM_DONE = 0,
-    JEHVRUKAM_BAD_SIZE = 1,         /* a work area below its stated size, or a step limit above the largest */
+    JEHVRUKAM_BAD_ARGUMENT = 1,     /* a work area below its stated size, or a step limit above the largest; from the
+                                       viewer: a place or number that is not there, or a row that has not the form */
     JEHVRUKAM_NOT_JSON = 2,         /* not an RFC 8259 text in UTF-8 */
     JEHVRUKAM_NAME_OR_SURROGATE = 3, /* a name twice in one object, or a lone surrogate escape */
     JEHVRUKAM_BAD_NUMBER = 4,       /* a fraction or exponent, or an integer beyond the limit */
@@ -310,64 +312,98 @@ uint32_t jehvrukam_evaluate_checked(const uint8_t *rule, size_t rule_len,
                                     uint64_t *steps, uint64_t *length);
 
 /*
- * What a row of a table says. The table is one that jehvrukam_read or another entry filled, and the row one of its used
- * rows; what is asked of a kind that does not have it is some number.
+ * The viewer. A walk over a table by these five entries, from place 0, sees the whole value of the text that was read,
+ * and nothing else; that it does is proved of every table that one of the entries above filled with answer 0. A place
+ * is the number of a row: the root's is 0, and jehvrukam_view_part tells those of an array's items, and of the contents
+ * of an object's members.
+ *
+ *     uint64_t kind, count, part, start, length;
+ *     if (jehvrukam_view(table, sizeof table, 0, &kind, &count) == JEHVRUKAM_DONE && kind == JEHVRUKAM_OBJECT)
+ *         for (uint64_t nth = 0; nth < count; nth++)
+ *             if (jehvrukam_view_part(table, sizeof table, 0, nth, &part) == JEHVRUKAM_DONE &&
+ *                 jehvrukam_view_name(table, sizeof table, part, &start, &length) == JEHVRUKAM_DONE)
+ *                 printf("a member named %.*s\n", (int)length, (const char *)strings + start);
+ *
+ * The five share this. Given: a table of any length, 0 included, whatever it holds; a place, which may be any number;
+ * and one or two numbers to write to, whatever they hold. table_len is the length of the table as it was lent to the
+ * entry that filled it. No pointer is null, not even that of a table of 0 bytes. The numbers lie apart from the table
+ * and from each other: no byte belongs to two of them. No alignment is needed but that of the numbers. The table is
+ * only looked at.
+ *
+ * Each answers 1 (JEHVRUKAM_BAD_ARGUMENT) or 0. After 1 nothing is written: the numbers are what they were. After 0 all
+ * its numbers are written.
+ *
+ * A table has table_len / JEHVRUKAM_ROW_BYTES rows, rounded down, but never more than JEHVRUKAM_MAX_VALUES. A row is
+ * there if its place is below their number. Whether it has the form depends on its bytes, its place and the number of
+ * rows: docs/LAYOUT.md, "When a row has the form". Every value of a table that an entry filled has it; the rows behind
+ * the last value are zero, and have it not. Of any other table the viewer tells what the rows that have the form say.
+ *
+ * Starts and lengths are in bytes, in a strings area: the one that was lent together with the table. The table does not
+ * say which that is, so with several texts the caller has to know it. A start and its length together are at most
+ * JEHVRUKAM_STRINGS_BYTES, whatever the table holds. Names and strings may hold zero bytes, and none follows them.
  */
 
-static inline uint32_t jehvrukam_row_field(const uint8_t *table, size_t row, unsigned field)
-{
-    const uint8_t *bytes = table + row * JEHVRUKAM_ROW_BYTES + 4u * field;
-    return (uint32_t)bytes[0] | (uint32_t)bytes[1] << 8 | (uint32_t)bytes[2] << 16 | (uint32_t)bytes[3] << 24;
-}
+/*
+ * Tells the kind of the value at a place, and how many items or members it has.
+ *
+ * Answers:
+ *
+ *   1  the row is not there, or has not the form.
+ *   0  done: *kind is one of the kinds above, JEHVRUKAM_NULL to JEHVRUKAM_OBJECT; *count is the number of items of an
+ *      array, of members of an object, and 0 of any other value. It is below JEHVRUKAM_MAX_VALUES.
+ */
+uint32_t jehvrukam_view(const uint8_t *table, size_t table_len, uint64_t place, uint64_t *kind, uint64_t *count);
 
-/* One of the kinds above; 0 for an unused row. */
-static inline uint32_t jehvrukam_row_kind(const uint8_t *table, size_t row)
-{
-    return jehvrukam_row_field(table, row, 0) & 255u;
-}
+/*
+ * Tells the place of the nth item of the array at a place, or of the content of the nth member of the object there, in
+ * the order of the text. The first has the number 0. nth may be any number.
+ *
+ * Answers:
+ *
+ *   1  the row is not there, or has not the form; or nth is not below the count that jehvrukam_view tells, which is 0
+ *      of a value that is no array or object; or the nth item or member, or one before it, has not the form, or ends
+ *      behind the end of the array or object.
+ *   0  done: *part is its place, greater than `place` and below the number of rows. The row there has the form.
+ *
+ * It goes over all items or members before the nth, so it takes the longer the greater nth is.
+ */
+uint32_t jehvrukam_view_part(const uint8_t *table, size_t table_len, uint64_t place, uint64_t nth, uint64_t *part);
 
-/* Of a member's content: where its name starts in the strings area, and its length. A name may be empty, so whether a
- * value is a member is known from the value that holds it: whether that is an object. */
-static inline uint32_t jehvrukam_row_name_start(const uint8_t *table, size_t row)
-{
-    return jehvrukam_row_field(table, row, 1);
-}
+/*
+ * Tells the integer at a place.
+ *
+ * Answers:
+ *
+ *   1  the row is not there, or has not the form, or its kind is not JEHVRUKAM_INTEGER.
+ *   0  done: *value is the integer, from -JEHVRUKAM_MAX_INTEGER to JEHVRUKAM_MAX_INTEGER, whatever the table holds.
+ */
+uint32_t jehvrukam_view_integer(const uint8_t *table, size_t table_len, uint64_t place, int64_t *value);
 
-static inline uint32_t jehvrukam_row_name_length(const uint8_t *table, size_t row)
-{
-    return jehvrukam_row_field(table, row, 0) >> 8;
-}
+/*
+ * Tells where the string at a place lies.
+ *
+ * Answers:
+ *
+ *   1  the row is not there, or has not the form, or its kind is not JEHVRUKAM_STRING.
+ *   0  done: *start is where it begins in the strings area, *length its length.
+ */
+uint32_t jehvrukam_view_string(const uint8_t *table, size_t table_len, uint64_t place, uint64_t *start,
+                               uint64_t *length);
 
-/* Of an integer. */
-static inline int64_t jehvrukam_row_integer(const uint8_t *table, size_t row)
-{
-    const uint64_t zero = UINT64_C(1) << 53;
-    uint64_t shifted = (uint64_t)jehvrukam_row_field(table, row, 3) << 32 | jehvrukam_row_field(table, row, 2);
-    return shifted >= zero ? (int64_t)(shifted - zero) : -(int64_t)(zero - shifted);
-}
-
-/* Of a string: where it starts in the strings area, and its length. It may hold zero bytes. */
-static inline uint32_t jehvrukam_row_string_start(const uint8_t *table, size_t row)
-{
-    return jehvrukam_row_field(table, row, 2);
-}
-
-static inline uint32_t jehvrukam_row_string_length(const uint8_t *table, size_t row)
-{
-    return jehvrukam_row_field(table, row, 3);
-}
-
-/* The number of items or members; 0 for a scalar. */
-static inline uint32_t jehvrukam_row_count(const uint8_t *table, size_t row)
-{
-    return jehvrukam_row_kind(table, row) >= JEHVRUKAM_ARRAY ? jehvrukam_row_field(table, row, 2) : 0;
-}
-
-/* The row after the value and all that it holds: that of its next sibling, if it has one. */
-static inline size_t jehvrukam_row_end(const uint8_t *table, size_t row)
-{
-    return jehvrukam_row_kind(table, row) >= JEHVRUKAM_ARRAY ? jehvrukam_row_field(table, row, 3) : row + 1;
-}
+/*
+ * Tells where the name of the member whose content is at a place lies.
+ *
+ * Answers:
+ *
+ *   1  the row is not there, or has not the form.
+ *   0  done: *start is where the name begins in the strings area, *length its length. In a table that an entry filled
+ *      both are 0 for a value that is no member: the root, and the items of arrays.
+ *
+ * A name may be empty, and *start 0 with it. So whether a value is a member is known from what holds it: whether the
+ * kind of that is JEHVRUKAM_OBJECT.
+ */
+uint32_t jehvrukam_view_name(const uint8_t *table, size_t table_len, uint64_t place, uint64_t *start,
+                             uint64_t *length);
 
 #ifdef __cplusplus
 }

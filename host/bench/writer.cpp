@@ -56,16 +56,13 @@ std::shared_ptr<Value> value_of(const std::string &text)
         std::exit(1);
     }
     const uint8_t *table = value->table.data();
-    switch (jehvrukam_row_kind(table, 0)) {
-    case JEHVRUKAM_STRING:
-        value->add_cell(RECORD_STRING, jehvrukam_row_string_start(table, 0), jehvrukam_row_string_length(table, 0));
-        break;
-    case JEHVRUKAM_ARRAY:
-        value->add_cell(ITEMS, 1, jehvrukam_row_count(table, 0));
-        break;
-    default:
-        value->add_cell(MEMBERS, 1, jehvrukam_row_count(table, 0));
-    }
+    const size_t table_len = value->table.size();
+    uint64_t kind = 0, count = 0, start = 0, length = 0;
+    jehvrukam_view(table, table_len, 0, &kind, &count);
+    if (jehvrukam_view_string(table, table_len, 0, &start, &length) == JEHVRUKAM_DONE)
+        value->add_cell(RECORD_STRING, start, length);
+    else
+        value->add_cell(kind == JEHVRUKAM_ARRAY ? ITEMS : MEMBERS, 1, count);
     return value;
 }
 

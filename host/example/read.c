@@ -1,5 +1,5 @@
 /*
- * Reads a JSON text and prints what Jehvrukam answers: the value, walked row by row, or the refusal with its place.
+ * Reads a JSON text and prints what Jehvrukam answers: the value, walked by the viewer, or the refusal with its place.
  *
  *     read FILE
  *
@@ -7,54 +7,83 @@
  */
 #include "texts.h"
 
-static void print_quoted(const uint8_t *bytes, size_t length)
+#include <stdlib.h>
+
+static uint8_t table[JEHVRUKAM_TABLE_BYTES];
+static uint8_t strings[JEHVRUKAM_STRINGS_BYTES];
+
+/* Ends the program if the viewer refuses. It never does here: the table is one that was read, and is asked for nothing
+ * that it does not hold. */
+static void demand(uint32_t refusal)
+{
+    if (refusal != JEHVRUKAM_DONE)
+        abort();
+}
+
+static void print_quoted(uint64_t start, uint64_t length)
 {
     putchar('"');
-    for (size_t i = 0; i < length; i++) {
-        if (bytes[i] == '"' || bytes[i] == '\\')
-            printf("\\%c", bytes[i]);
-        else if (bytes[i] < 0x20 || bytes[i] == 0x7f)
-            printf("\\u%04x", (unsigned)bytes[i]);
+    for (uint64_t i = start; i < start + length; i++) {
+        if (strings[i] == '"' || strings[i] == '\\')
+            printf("\\%c", strings[i]);
+        else if (strings[i] < 0x20 || strings[i] == 0x7f)
+            printf("\\u%04x", (unsigned)strings[i]);
         else
-            putchar(bytes[i]);
+            putchar(strings[i]);
     }
     putchar('"');
 }
 
-/* Prints the value at a row, a line for each value. Goes as deep as the text nests, at most 32. */
-static void print_value(const uint8_t *table, const uint8_t *strings, size_t row, int is_member, int depth)
+static void print_name(uint64_t place)
 {
+    uint64_t start, length;
+    demand(jehvrukam_view_name(table, sizeof table, place, &start, &length));
+    print_quoted(start, length);
+    printf(": ");
+}
+
+static void print_integer(uint64_t place)
+{
+    int64_t value;
+    demand(jehvrukam_view_integer(table, sizeof table, place, &value));
+    printf("integer %" PRId64 "\n", value);
+}
+
+static void print_string(uint64_t place)
+{
+    uint64_t start, length;
+    demand(jehvrukam_view_string(table, sizeof table, place, &start, &length));
+    printf("string ");
+    print_quoted(start, length);
+    putchar('\n');
+}
+
+/* Prints the value at a place, a line for each value. Goes as deep as the text nests, at most 32. */
+static void print_value(uint64_t place, int is_member, int depth)
+{
+    uint64_t kind, count, part;
     printf("%*s", 2 * depth, "");
-    if (is_member) {
-        print_quoted(strings + jehvrukam_row_name_start(table, row), jehvrukam_row_name_length(table, row));
-        printf(": ");
-    }
-    uint32_t kind = jehvrukam_row_kind(table, row);
-    uint32_t count = jehvrukam_row_count(table, row);
+    if (is_member)
+        print_name(place);
+    demand(jehvrukam_view(table, sizeof table, place, &kind, &count));
     switch (kind) {
     case JEHVRUKAM_NULL: puts("null"); break;
     case JEHVRUKAM_FALSE: puts("false"); break;
     case JEHVRUKAM_TRUE: puts("true"); break;
-    case JEHVRUKAM_INTEGER: printf("integer %" PRId64 "\n", jehvrukam_row_integer(table, row)); break;
-    case JEHVRUKAM_STRING:
-        printf("string ");
-        print_quoted(strings + jehvrukam_row_string_start(table, row), jehvrukam_row_string_length(table, row));
-        putchar('\n');
-        break;
-    case JEHVRUKAM_ARRAY: printf("array of %" PRIu32 "\n", count); break;
-    case JEHVRUKAM_OBJECT: printf("object of %" PRIu32 "\n", count); break;
+    case JEHVRUKAM_INTEGER: print_integer(place); break;
+    case JEHVRUKAM_STRING: print_string(place); break;
+    case JEHVRUKAM_ARRAY: printf("array of %" PRIu64 "\n", count); break;
+    case JEHVRUKAM_OBJECT: printf("object of %" PRIu64 "\n", count); break;
     }
-    if (kind < JEHVRUKAM_ARRAY)
-        return;
-    for (size_t item = row + 1; item < jehvrukam_row_end(table, row); item = jehvrukam_row_end(table, item))
-        print_value(table, strings, item, kind == JEHVRUKAM_OBJECT, depth + 1);
+    for (uint64_t nth = 0; nth < count; nth++) {
+        demand(jehvrukam_view_part(table, sizeof table, place, nth, &part));
+        print_value(part, kind == JEHVRUKAM_OBJECT, depth + 1);
+    }
 }
 
 int main(int argc, char **argv)
 {
     static struct text text;
-    static uint8_t table[JEHVRUKAM_TABLE_BYTES];
-    static uint8_t strings[JEHVRUKAM_STRINGS_BYTES];
 
     if (argc != 2) {
         fprintf(stderr, "usage: %s FILE\n", argc > 0 ? argv[0] : "read");
@@ -69,6 +98,6 @@ int main(int argc, char **argv)
         printf("refused %" PRIu32 " at place %" PRIu64 ": %s\n", refusal, place, explanation(refusal));
         return 1;
     }
-    print_value(table, strings, 0, 0, 0);
+    print_value(0, 0, 0);
     return 0;
 }

@@ -32,7 +32,7 @@ static inline int get(const char *path, struct text *text)
 static inline const char *explanation(uint32_t refusal)
 {
     switch (refusal) {
-    case JEHVRUKAM_BAD_SIZE: return "a work area is below its stated size, or the step limit above 1,000";
+    case JEHVRUKAM_BAD_ARGUMENT: return "a work area is below its stated size, or the step limit above 1,000";
     case JEHVRUKAM_NOT_JSON: return "not an RFC 8259 text in UTF-8, from here on";
     case JEHVRUKAM_NAME_OR_SURROGATE: return "a name twice in one object, or a lone surrogate escape";
     case JEHVRUKAM_BAD_NUMBER: return "a fraction or exponent, or an integer beyond 9007199254740991 either way";

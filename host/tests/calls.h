@@ -175,7 +175,7 @@ static inline void check_call(struct call *call, const struct answer *expected, 
     const struct entry *entry = call->entry;
     const struct area *areas = call->areas;
     uint32_t refusal = expected->refusal;
-    if (refusal == JEHVRUKAM_BAD_SIZE) {
+    if (refusal == JEHVRUKAM_BAD_ARGUMENT) {
         check(call->refusal == refusal, line, "refused with 1");
         for (size_t i = 0; i < sizeof call->numbers / sizeof *call->numbers; i++)
             check(call->numbers[i] == NO_NUMBER, line, "numbers untouched");
@@ -215,7 +215,7 @@ static inline void expect_call(const struct given *given, struct answer expected
 /* The same as a test, with work areas of each length that matters. */
 static inline void expect_sizes(const struct given *given, struct answer expected, int line)
 {
-    const struct answer refused = {JEHVRUKAM_BAD_SIZE, {0}, ""};
+    const struct answer refused = {JEHVRUKAM_BAD_ARGUMENT, {0}, ""};
     for (int area = 0; area < output_of(given->entry); area++) {
         size_t stated = stated_of(given->entry, area);
         const size_t lengths[] = {0, 1, stated / 2, stated - 1, stated, stated + 1, 2 * stated + 3};

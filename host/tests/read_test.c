@@ -132,7 +132,7 @@ static void test_sizes(void)
                 struct call call = lend(texts[i].text, texts[i].length, tables[t], strings[s], i % 2 ? 0 : -1);
                 run(&call);
                 if (tables[t] < JEHVRUKAM_TABLE_BYTES || strings[s] < JEHVRUKAM_STRINGS_BYTES) {
-                    CHECK(call.refusal == JEHVRUKAM_BAD_SIZE);
+                    CHECK(call.refusal == JEHVRUKAM_BAD_ARGUMENT);
                     CHECK(call.places[1] == NO_PLACE);
                     CHECK(all_are(call.table.bytes, call.table.length, NOISE));
                     CHECK(all_are(call.strings.bytes, call.strings.length, NOISE));
@@ -344,54 +344,6 @@ static void test_every_part(void)
         }
 }
 
-/* What the header's functions tell of rows. */
-static void test_rows(void)
-{
-    static uint8_t table[JEHVRUKAM_TABLE_BYTES], strings[JEHVRUKAM_STRINGS_BYTES];
-    uint64_t place;
-    CHECK(jehvrukam_read((const uint8_t *)sample, sizeof sample - 1, table, sizeof table, strings, sizeof strings,
-                         &place) == 0);
-    static const uint32_t kinds[] = {JEHVRUKAM_OBJECT, JEHVRUKAM_ARRAY,  JEHVRUKAM_TRUE,  JEHVRUKAM_INTEGER,
-                                     JEHVRUKAM_STRING, JEHVRUKAM_OBJECT, JEHVRUKAM_NULL,  JEHVRUKAM_ARRAY,
-                                     JEHVRUKAM_FALSE,  0};
-    static const size_t ends[] = {9, 5, 3, 4, 5, 7, 7, 8, 9};
-    static const uint32_t counts[] = {4, 3, 0, 0, 0, 1, 0, 0, 0};
-    for (size_t row = 0; row < 10; row++)
-        CHECK(jehvrukam_row_kind(table, row) == kinds[row]);
-    for (size_t row = 0; row < 9; row++) {
-        CHECK(jehvrukam_row_end(table, row) == ends[row]);
-        CHECK(jehvrukam_row_count(table, row) == counts[row]);
-    }
-    CHECK(jehvrukam_row_integer(table, 3) == -1);
-    CHECK(jehvrukam_row_string_start(table, 4) == 1 && jehvrukam_row_string_length(table, 4) == 2);
-    CHECK(jehvrukam_row_name_start(table, 5) == 3 && jehvrukam_row_name_length(table, 5) == 0);
-    CHECK(jehvrukam_row_name_start(table, 7) == 4 && jehvrukam_row_name_length(table, 7) == 3);
-    CHECK(memcmp(strings + 4, "c\xc3\xa9", 3) == 0);
-    counted();
-
-    static const struct {
-        const char *text;
-        int64_t integer;
-    } integers[] = {
-        {"0", 0},
-        {"-0", 0},
-        {"1", 1},
-        {"-1", -1},
-        {"4294967295", INT64_C(4294967295)},
-        {"-4294967296", INT64_C(-4294967296)},
-        {"9007199254740991", JEHVRUKAM_MAX_INTEGER},
-        {"-9007199254740991", -JEHVRUKAM_MAX_INTEGER},
-    };
-    for (size_t i = 0; i < sizeof integers / sizeof *integers; i++) {
-        const uint8_t *text = (const uint8_t *)integers[i].text;
-        size_t length = strlen(integers[i].text);
-        CHECK(jehvrukam_read(text, length, table, sizeof table, strings, sizeof strings, &place) == 0);
-        CHECK(jehvrukam_row_kind(table, 0) == JEHVRUKAM_INTEGER);
-        CHECK(jehvrukam_row_integer(table, 0) == integers[i].integer);
-        counted();
-    }
-}
-
 int main(void)
 {
     test_sizes();
@@ -401,7 +353,6 @@ int main(void)
     test_reuse();
     test_unset_areas();
     test_every_part();
-    test_rows();
     printf("%d passed, %d failed\n", passed, failed);
     return failed != 0;
 }

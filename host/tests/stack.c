@@ -2,8 +2,8 @@
  * How many bytes of stack a call of an entry of the library, or of writer_write, uses: the stack of a thread is filled
  * with a pattern, and what no longer has it after the call was used. Prints the most over texts that nest, branch and
  * decode in different ways, over rules that nest 32 deep, evaluated, checked and both, over sheets and records that fit
- * them, and over values that nest 32 deep in rows and in cells. The last line is 'N passed, M failed': one for each
- * text, rule, sheet and value, that it stayed below its limit.
+ * them, over values that nest 32 deep in rows and in cells, and over what the viewer is asked. The last line is
+ * 'N passed, M failed': one for each text, rule, sheet, value and question, that it stayed below its limit.
  */
 #include "jehvrukam.h"
 #include "writer_c.h"
@@ -21,7 +21,7 @@ static uint8_t rule_strings[JEHVRUKAM_STRINGS_BYTES], sheet_strings[JEHVRUKAM_ST
 static uint8_t strings[JEHVRUKAM_STRINGS_BYTES];
 static uint8_t cells[JEHVRUKAM_CELLS_BYTES];
 static uint8_t output[JEHVRUKAM_MAX_TEXT_BYTES];
-static size_t thread; /* bytes of stack that a thread uses by itself */
+static size_t own; /* bytes of stack that a thread uses without the call */
 static int passed, failed;
 
 /* What an entry may use, and the most that a call of it did. */
@@ -31,6 +31,7 @@ struct use {
 
 static struct use reading = {16 * 1024, 0}, evaluating = {32 * 1024, 0}, writing = {16 * 1024, 0};
 static struct use checking = {32 * 1024, 0}, fitting = {32 * 1024, 0}, evaluating_checked = {32 * 1024, 0};
+static struct use viewing = {1024, 0};
 
 struct call {
     const uint8_t *text;
@@ -155,7 +156,7 @@ static struct call literal(const char *text)
 /* Counts a call that used so many bytes of stack, the thread's own among them, and was done or not. */
 static void count(const char *what, int number, size_t bytes, int done, struct use *use)
 {
-    bytes = bytes > thread ? bytes - thread : 0;
+    bytes = bytes > own ? bytes - own : 0;
     if (!done) {
         printf("%s %d does not end as expected\n", what, number);
         failed++;
@@ -187,7 +188,7 @@ static void measure_reading(void)
             call = (struct call){(const uint8_t *)text, length};
         }
         size_t bytes = used(read_text, &call);
-        count("text", i, bytes, jehvrukam_row_kind(table, 0) != 0, &reading);
+        count("text", i, bytes, table[0] != 0, &reading);
 
         struct evaluation given = {literal("{\"var\":\"\"}"), call, literal("{}"), 0};
         bytes = used(evaluate_texts, &given);
@@ -329,9 +330,62 @@ static void measure_writing_cells(int number, uint8_t tag, uint8_t inside, size_
     count("cells", number, bytes, cell == 0, &writing);
 }
 
+/* What a call of the viewer is asked, and its answer. */
+struct question {
+    enum { NO_ENTRY, VIEW, PART, INTEGER, STRING, NAME } entry;
+    uint64_t place, nth;
+    uint32_t refusal;
+};
+
+/* Asks the viewer far below the begin of the stack: a call uses less than the end of a thread does. */
+static void *ask_below(void *argument)
+{
+    struct question *asked = argument;
+    uint8_t above[64 * 1024];
+    volatile uint8_t *lowest = above;
+    uint64_t first = 0, second = 0;
+    int64_t value = 0;
+    *lowest = 0;
+    switch (asked->entry) {
+    case NO_ENTRY: break;
+    case VIEW: asked->refusal = jehvrukam_view(table, sizeof table, asked->place, &first, &second); break;
+    case PART: asked->refusal = jehvrukam_view_part(table, sizeof table, asked->place, asked->nth, &first); break;
+    case INTEGER: asked->refusal = jehvrukam_view_integer(table, sizeof table, asked->place, &value); break;
+    case STRING: asked->refusal = jehvrukam_view_string(table, sizeof table, asked->place, &first, &second); break;
+    case NAME: asked->refusal = jehvrukam_view_name(table, sizeof table, asked->place, &first, &second); break;
+    }
+    return argument;
+}
+
+/* The five entries on values of each kind, on the last of many items, and on what is not there. */
+static void measure_viewing(void)
+{
+    static char text[JEHVRUKAM_MAX_TEXT_BYTES];
+    static const struct question asked[] = {
+        {VIEW, 0, 0, 0},     {VIEW, 1, 0, 0},       {VIEW, 2, 0, 0},          {VIEW, 3, 0, 0},
+        {VIEW, 1023, 0, 0},  {VIEW, 1024, 0, 1},    {PART, 0, 0, 0},          {PART, 0, 1021, 0},
+        {PART, 0, 1022, 1},  {PART, 1, 0, 0},       {PART, 2, 0, 1},          {PART, UINT64_MAX, 0, 1},
+        {STRING, 3, 0, 0},   {STRING, 0, 0, 1},     {INTEGER, 1023, 0, 0},    {INTEGER, 1024, 0, 1},
+        {NAME, 2, 0, 0},     {NAME, 1024, 0, 1},
+    };
+    size_t length = repeat(text, "[{\"a\":null},\"b\"", 1);
+    length += repeat(text + length, ",1", 1020);
+    length += repeat(text + length, "]", 1);
+    struct call call = {(const uint8_t *)text, length};
+    read_text(&call);
+    struct question none = {NO_ENTRY, 0, 0, 0};
+    own = used(ask_below, &none);
+    for (size_t i = 0; i < sizeof asked / sizeof *asked; i++) {
+        struct question question = asked[i];
+        question.refusal = UINT32_MAX;
+        size_t bytes = used(ask_below, &question);
+        count("question", (int)i, bytes, question.refusal == asked[i].refusal, &viewing);
+    }
+}
+
 int main(void)
 {
-    thread = used(nothing, NULL);
+    own = used(nothing, NULL);
     measure_reading();
     measure_evaluating();
     measure_fitting();
@@ -340,9 +394,10 @@ int main(void)
     measure_writing_cells(0, 9, 3, 0xffffffff, 0xffffff); /* an integer of 17 digits */
     measure_writing_cells(1, 10, 4, 999, 73000);          /* an instant */
     measure_writing_cells(2, 10, 5, 0, 2500);             /* most of them zero bytes */
+    measure_viewing();
     printf("the most stack that a call used: %zu bytes to read, %zu to evaluate, %zu to write,\n"
-           "%zu to check, %zu to tell whether a record fits, %zu to check and evaluate\n", reading.most,
-           evaluating.most, writing.most, checking.most, fitting.most, evaluating_checked.most);
+           "%zu to check, %zu to tell whether a record fits, %zu to check and evaluate, %zu to view\n", reading.most,
+           evaluating.most, writing.most, checking.most, fitting.most, evaluating_checked.most, viewing.most);
     printf("%d passed, %d failed\n", passed, failed);
     return failed == 0 ? 0 : 1;
 }

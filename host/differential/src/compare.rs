@@ -1,5 +1,7 @@
-//! Calls the C entry on areas full of noise, and holds answer, place and every byte to the independent reader.
+//! Calls the C entry that reads on areas full of noise, and holds answer, place and every byte to the independent
+//! reader; and the C entries of the viewer.
 
+use differential::view::{Entry, Viewer};
 use harness::lend::{Comparer, Expected, Lent, Names, UNTOUCHED};
 use reader::cases::Answer;
 use reader::{Fault, Form, STRINGS_BYTES, TABLE_BYTES};
@@ -15,6 +17,11 @@ extern "C" {
         strings_len: usize,
         place: *mut u64,
     ) -> u32;
+    fn jehvrukam_view(table: *const u8, table_len: usize, place: u64, kind: *mut u64, count: *mut u64) -> u32;
+    fn jehvrukam_view_part(table: *const u8, table_len: usize, place: u64, nth: u64, part: *mut u64) -> u32;
+    fn jehvrukam_view_integer(table: *const u8, table_len: usize, place: u64, value: *mut i64) -> u32;
+    fn jehvrukam_view_string(table: *const u8, table_len: usize, place: u64, start: *mut u64, length: *mut u64) -> u32;
+    fn jehvrukam_view_name(table: *const u8, table_len: usize, place: u64, start: *mut u64, length: *mut u64) -> u32;
 }
 
 /// Of the table and the strings area.
@@ -56,4 +63,30 @@ pub fn compare(comparer: &mut Comparer, text: &[u8], judged: &Result<Form, Fault
             )
         }
     })
+}
+
+/// The viewer of the library.
+pub struct Library;
+
+impl Viewer for Library {
+    fn read(&mut self, text: &[u8], table: &mut [u8], strings: &mut [u8]) -> u32 {
+        let (table_len, strings_len) = (table.len(), strings.len());
+        let (table, strings) = (table.as_mut_ptr(), strings.as_mut_ptr());
+        // SAFETY: the text and the areas have these lengths, and all lie apart.
+        unsafe { jehvrukam_read(text.as_ptr(), text.len(), table, table_len, strings, strings_len, &mut 0) }
+    }
+
+    fn ask(&mut self, entry: Entry, table: &[u8], place: u64, nth: u64, [first, second]: [&mut u64; 2]) -> u32 {
+        let (table, length) = (table.as_ptr(), table.len());
+        // SAFETY: the table has this length, and the numbers lie apart from it and from each other.
+        unsafe {
+            match entry {
+                Entry::View => jehvrukam_view(table, length, place, first, second),
+                Entry::Part => jehvrukam_view_part(table, length, place, nth, first),
+                Entry::Integer => jehvrukam_view_integer(table, length, place, (first as *mut u64).cast()),
+                Entry::String => jehvrukam_view_string(table, length, place, first, second),
+                Entry::Name => jehvrukam_view_name(table, length, place, first, second),
+            }
+        }
+    }
 }

@@ -1,29 +1,33 @@
-//! The C library against the independent reader: the same refusal, place and bytes of both areas, on the cases and
-//! texts of `vectors/`, on all small texts of some forms, and on random texts, whole and damaged.
+//! The C library against the independent reader and viewer. Of reading: the same refusal, place and bytes of both areas,
+//! on the cases and texts of `vectors/`, on all small texts of some forms, and on random texts, whole and damaged. Of
+//! viewing: the same answers and numbers of the five entries at every place, on tables that were read, on damaged ones,
+//! and on such as no text has.
 //!
-//!     differential [--seed N] [--cases N]   so many random texts, made from this seed
-//!     differential --one N                  the random text of this number alone, as a difference names it
-//!     differential --say                    also prints the number of each random text before the call
+//!     differential [--seed N] [--cases N]   so many random texts, made from this seed, and a tenth as many tables
+//!     differential --one N                  the random text and the table of this number alone, as a difference names it
+//!     differential --say                    also prints the number of each random text and table before the call
+//!     differential --self-test              viewers with a slip each in place of the library: every slip must be noticed
 //!
-//! On a difference it prints the text, a shorter one that differs too, and what differs. It counts how often each class
-//! of random texts was met; a class that was met too rarely fails. The last line is 'N passed, M failed': one for each
-//! group of texts and one for each class.
+//! On a difference it prints the text or table, a shorter one that differs too, and what differs. It counts how often
+//! each class of random texts was met, and each feature of tables; one that was met too rarely fails. The last line is
+//! 'N passed, M failed': one for each group of texts, one for each class of texts, one for each class of tables, one for
+//! each feature of tables.
 
 mod compare;
-mod damage;
-mod generate;
-mod small;
 
-use compare::{answer, compare, STATED};
+use compare::{answer, compare, Library, STATED};
+use differential::tables::Case;
+use differential::{damage, generate, run, small, view};
 use harness::arguments::Arguments;
 use harness::lend::{Comparer, Lent};
-use harness::random::{self, Random};
+use harness::random::Random;
 use harness::report::{report, Group};
-use harness::trial::{escaped, numbers, shortened};
+use harness::trial::{self, escaped, numbers, shortened};
 use reader::{cases, judge, Fault, Form, Why};
 use std::collections::{BTreeMap, HashSet};
 
 const COUNT: usize = 200_000; // random texts
+const TEXTS_A_TABLE: usize = COUNT / run::CASES; // random texts for each table
 const LEAST: usize = 1_400; // of each class, among so many random texts
 const SHOWN: usize = 5; // differences that are printed
 
@@ -220,9 +224,8 @@ fn try_random(run: &mut Run, comparer: &mut Comparer, numbers: impl Iterator<Ite
     }
 }
 
-fn main() {
-    let given = Arguments::of("differential", 20_261_115, COUNT);
-    assert!(!given.self_test, "there is no self-test");
+/// Reading; gives the passed and the failed.
+fn read_texts(given: &Arguments) -> (usize, usize) {
     let mut run = Run::default();
     let mut comparer = Comparer::new();
     let least = if let Some(number) = given.one {
@@ -237,5 +240,29 @@ fn main() {
     };
     let tally = report(&run.groups, &run.classes, &classes(), least);
     println!("{} texts", run.groups.iter().map(|group| group.inputs).sum::<usize>());
-    given.finish(tally)
+    tally
+}
+
+/// Viewing; gives the passed and the failed.
+fn view_tables(given: &Arguments) -> (usize, usize) {
+    let mut comparer = view::Comparer::new();
+    let plan = run::plan();
+    let least = Some(plan.least).filter(|_| given.one.is_none() && given.cases >= COUNT);
+    let chosen: Vec<u64> = match given.one {
+        Some(number) => vec![number],
+        None => numbers(given.seed, given.cases / TEXTS_A_TABLE).collect(),
+    };
+    let compare = &mut |case: &Case| comparer.compare(case, &mut Library);
+    let tally = trial::run(&plan, chosen.into_iter(), least, given.say, compare);
+    println!("{} answers of the viewer", comparer.answers);
+    tally
+}
+
+fn main() {
+    let given = Arguments::of("differential", 20_261_115, COUNT);
+    if given.self_test {
+        given.finish(run::self_test(given.seed, given.cases / TEXTS_A_TABLE));
+    }
+    let (texts, tables) = (read_texts(&given), view_tables(&given));
+    given.finish((texts.0 + tables.0, texts.1 + tables.1))
 }

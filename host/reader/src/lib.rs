@@ -8,13 +8,14 @@
 //! - `faults`: every fault of refusals 3, 4 and 5;
 //! - `layout`: the bytes of both areas, for a text without a fault.
 //!
-//! `cases` reads the cases of `vectors/`.
+//! `viewer` tells what a table holds, whatever bytes it has, from docs/LAYOUT.md. `cases` reads the cases of `vectors/`.
 
 pub mod cases;
 mod faults;
 mod layout;
 mod machine;
 mod strings;
+pub mod viewer;
 
 pub use layout::Form;
 
