@@ -291,10 +291,11 @@ uint32_t jehvrukam_fits(const uint8_t *sheet, size_t sheet_len,
  * After 0 the tables and strings areas hold what jehvrukam_read leaves there for these texts; the cells are zero; the
  * output holds the answer's text, without a terminator, then zeros to its end; *which and *place are 0, *words is the
  * set of words found, *fits is 1 if the record fits and 0 if it does not, *steps is the number of steps begun, and
- * *length is that of the text, at least 1. Refusal, *steps, *length and the output are those of jehvrukam_evaluate on
- * the same rule, record, limit and output length.
+ * *length is that of the text, at least 1.
  *
- * So *words is not 0 exactly if evaluation has begun, and where *fits is 1 the answer belongs to one of the words.
+ * After any answer but 1, *words is not 0 exactly if evaluation has begun, and that is so after 0 and after 7 to 12.
+ * Then the answer, *steps, *length and the output are those of jehvrukam_evaluate on the same rule, record, limit and
+ * output length. Where *fits is 1, the value whose text is written belongs to one of the words. All this is proved.
  */
 uint32_t jehvrukam_evaluate_checked(const uint8_t *rule, size_t rule_len,
                                     const uint8_t *sheet, size_t sheet_len,
@@ -336,7 +337,8 @@ uint32_t jehvrukam_evaluate_checked(const uint8_t *rule, size_t rule_len,
  * A table has table_len / JEHVRUKAM_ROW_BYTES rows, rounded down, but never more than JEHVRUKAM_MAX_VALUES. A row is
  * there if its place is below their number. Whether it has the form depends on its bytes, its place and the number of
  * rows: docs/LAYOUT.md, "When a row has the form". Every value of a table that an entry filled has it; the rows behind
- * the last value are zero, and have it not. Of any other table the viewer tells what the rows that have the form say.
+ * the last value are zero, and have it not. Of any other table the viewer tells what the rows that have the form say:
+ * a part then still lies within what holds it, so a walk ends, but it may go down as deep as there are rows.
  *
  * Starts and lengths are in bytes, in a strings area: the one that was lent together with the table. The table does not
  * say which that is, so with several texts the caller has to know it. A start and its length together are at most

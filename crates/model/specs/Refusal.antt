@@ -21,7 +21,7 @@ pub data EvalFault : Type 0 where
   outOfSteps : EvalFault  -- 10: one step more than the limit would be needed
 
 pub data Refusal : Type 0 where
-  invalidArgument : Refusal  -- 1: a work area below its stated size, or a step limit above the largest
+  invalidArgument : Refusal  -- 1: a work area below its stated size, or a step limit above the largest; from the viewer, what is not there
   reading : ReadFault → Refusal
   notRule : Refusal  -- 6: the text reads, but is not a rule
   evaluating : EvalFault → Refusal

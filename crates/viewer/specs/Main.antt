@@ -10,8 +10,8 @@ use Rattle.model.specs.Value.{Value, withinLimits}
 use Rattle.syntax.specs.Layout.{tableBytes, stringsBytes, tableOf, stringsAreaOf}
 use Rattle.syntax.specs.Read.{done, read}
 use Rattle.viewer.specs.declared.row.Span.{Span}
-use Rattle.viewer.specs.Answer.{nameOf, integerOf, stringOf, placeOf}
-use Rattle.viewer.specs.Row.{numbersAt, endOf}
+use Rattle.viewer.specs.Answer.{Seen, seenOf, nameOf, integerOf, stringOf, placeOf}
+use Rattle.viewer.specs.Row.{rowCount, numbersAt, endOf}
 use Rattle.viewer.specs.Shows.{Shows, ShowsText, Inside}
 use Rattle.viewer.specs.View.{rowSeen, partSeen}
 use Rattle.viewer.specs.Laws.ReadForm as ReadFormLaws
@@ -33,6 +33,10 @@ pub one-shown : (T S : Bytes) (place : ℕ) (v w : Value) → Shows T S place v 
 one-shown T S place v w s t = ReadFormLaws.one T S s t
 
 -- ---- of any bytes as a table
+-- A kind that is told is one of the seven, and a count is below the number of rows.
+pub kind-within : (T : Bytes) (place : ℕ) (s : Seen) → seenOf (rowSeen T place) ≡ some s → (1 ≤ s .kind) × (s .kind ≤ 7) × (s .count < rowCount T)
+kind-within = ToldLaws.kind-within
+
 -- A name and a string that are told lie within the stated size of a strings area.
 pub name-within : (T : Bytes) (place : ℕ) (p : Span) → nameOf (rowSeen T place) ≡ some p → p .start + p .size ≤ stringsBytes
 name-within = ToldLaws.name-within

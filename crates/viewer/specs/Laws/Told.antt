@@ -19,7 +19,7 @@ use Rattle.viewer.specs.declared.row.Span.{Span}
 use Rattle.viewer.specs.declared.row.RowAnswer.{RowAnswer}
 use Rattle.viewer.specs.declared.row.RowAnswer.the-variants as rows
 use Rattle.viewer.specs.declared.part.PartAnswer.the-variants as parts
-use Rattle.viewer.specs.Answer.{nameOf, integerOf, stringOf, placeOf}
+use Rattle.viewer.specs.Answer.{Seen, seenOf, nameOf, integerOf, stringOf, placeOf}
 use Rattle.viewer.specs.Form.{isWithin, isInteger, isSpan, hasContent, hasForm}
 use Rattle.viewer.specs.Row.{rowCount, numbersAt, joined, countOf, endOf}
 use Rattle.viewer.specs.Shows.{Inside}
@@ -76,9 +76,48 @@ module _ (n place : ℕ) (r : Row) (h : T (hasForm n place r)) where
           let s = and-l (ltb place (r .second) && leb (r .second) n) (cond (eqb (r .first) 0) (eqb (r .second) (place + 1)) (leb (r .first) (r .second - (place + 1)))) (form-span l) in
           rw (le-ltb (r .kind) 6 l) (ltb→lt place (r .second) (and-l (ltb place (r .second)) (leb (r .second) n) s), leb→le (r .second) n (and-r (ltb place (r .second)) (leb (r .second) n) s))
 
--- ---- names, strings and integers
+  -- The kind is one of the seven.
+  pub form-kind : (1 ≤ r .kind) × (r .kind ≤ 7)
+  form-kind = go (eqb (r .kind) 0) refl (decLt (r .kind) 8)
+    where
+      go : (b : Bool) → eqb (r .kind) 0 ≡ b → Dec (r .kind < 8) → (1 ≤ r .kind) × (r .kind ≤ 7)
+      go true e l = absurd (rw e at form-content)
+      go false e (yes l) = (positive (r .kind) e, omega arith)
+        where
+          positive : (k : ℕ) → eqb k 0 ≡ false → 1 ≤ k
+          positive zero e = clash cc
+          positive (suc k) e = omega arith
+      go false e (no l) = absurd (rw (e, le-ltb (r .kind) 4 (omega arith), ne-eqb (r .kind) 4 (λ f. omega arith), ne-eqb (r .kind) 5 (λ f. omega arith), le-ltb (r .kind) 8 (omega arith)) at form-content)
+
+  -- A container has fewer parts than there are rows.
+  pub form-count : place < n → countOf r < n
+  form-count there = go (decLt (r .kind) 6)
+    where
+      counted : (b : Bool) → eqb (r .first) 0 ≡ b → r .second ≤ n → T (cond b (eqb (r .second) (place + 1)) (leb (r .first) (r .second - (place + 1)))) → r .first < n
+      counted true e l t = let z = eqb-true (r .first) 0 e in omega arith
+      counted false e l t = omega (arith, leb→le (r .first) (r .second - (place + 1)) t)
+
+      go : Dec (r .kind < 6) → countOf r < n
+      go (yes p) = rw (lt-ltb (r .kind) 6 p) (omega arith)
+      go (no p) =
+          let l : 6 ≤ r .kind = omega arith in
+          let whole = form-span l in
+          let s = and-l (ltb place (r .second) && leb (r .second) n) (cond (eqb (r .first) 0) (eqb (r .second) (place + 1)) (leb (r .first) (r .second - (place + 1)))) whole in
+          rw (le-ltb (r .kind) 6 l) (counted (eqb (r .first) 0) refl (leb→le (r .second) n (and-r (ltb place (r .second)) (leb (r .second) n) s)) (and-r (ltb place (r .second) && leb (r .second) n) _ whole))
+
+-- ---- kinds and counts, names, strings and integers
 some-same : {A : Type 0} {a b : A} → some a ≡ some b → a ≡ b
 some-same e = cc
+
+pub kind-within : (table : Bytes) (place : ℕ) (s : Seen) → seenOf (rowSeen table place) ≡ some s → (1 ≤ s .kind) × (s .kind ≤ 7) × (s .count < rowCount table)
+kind-within table place s e = go (rowSeen table place) refl e
+  where
+    go : (a : RowAnswer) → rowSeen table place ≡ a → seenOf a ≡ some s → (1 ≤ s .kind) × (s .kind ≤ 7) × (s .count < rowCount table)
+    go (rows.Is r) f g =
+        let t = told table place r f in
+        let k = form-kind (rowCount table) place r (t .form) in
+        subst (λ (q : Seen). (1 ≤ q .kind) × (q .kind ≤ 7) × (q .count < rowCount table)) (some-same g) (k .0, k .1, form-count (rowCount table) place r (t .form) (t .there))
+    go rows.NotThere f g = clash cc
 
 pub name-within : (table : Bytes) (place : ℕ) (p : Span) → nameOf (rowSeen table place) ≡ some p → p .start + p .size ≤ stringsBytes
 name-within table place p e = go (rowSeen table place) refl e
