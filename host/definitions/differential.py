@@ -1,10 +1,11 @@
 #!/usr/bin/env python3
-"""Compares the definitions of crates/model with the reference on random cases.
+"""Compares the definitions of crates/model and crates/stages with the reference on random cases.
 
-The reference judges each case, and antt is to accept `refl` for what it gives, as in try_definitions.py. The cases
-depend on the seed and their number alone. README.md, beside this file, says more.
+The reference judges each case, and antt is to accept `refl` for what it gives, as in try_definitions.py: from the bytes
+of the texts. The cases depend on the seed and their number alone. README.md, beside this file, says more.
 """
 import argparse
+import itertools
 import random
 import sys
 import time
@@ -17,13 +18,23 @@ import try_definitions
 from try_definitions import Check, Members
 
 try_definitions.SCRATCH = try_definitions.ROOT / "target" / "differential"
-try_definitions.USES += """use mathlib.Core.Option.{none, some, Option·map}
+try_definitions.USES += """use mathlib.Core.List.{_++_}
+use lib.ListN.{length}
 use Rattle.model.specs.Eval.{run}
-use Rattle.model.specs.Run.{trace}
-use Rattle.model.specs.Shape.{shape}
+use Rattle.model.specs.Run.{Name, trace}
+"""
+try_definitions.SEEN += """
+abbrev spelled : List Name → List ℕ
+spelled [] = []
+spelled (name ∷ names) = length name ∷ (name ++ spelled names)
+
+-- Of a stage that passes: 0, and for each step the length of the name and the name; of another the refusal's number.
+abbrev pub seenTrace : Stage TextsRead → ℕ → List ℕ
+seenTrace (passed t) limit = 0 ∷ spelled (trace (run (t .rule .content) (t .«record») limit))
+seenTrace (refused e which place) limit = number e ∷ []
 """
 
-CASES = 5000  # about half a minute on two idle processors
+CASES = 5000  # some 150 s of processor time
 SHOWN = 20  # disagreements that are printed
 LONGEST_TRACE = 60  # steps of a run whose trace is compared
 
@@ -281,26 +292,25 @@ def judged(case):
     return {**case, "expect": {"refusal": refusal, "steps": steps, "answer": answer.hex()}}
 
 
-def trace_check(case):
-    """The check of the trace of an `evaluate` case: none if the text is no rule. A name is the place read from its inner end."""
-    rule, record = values_of(case)
-    refusal, places, _ = certlogic.evaluate_traced(rule, record, case["limit"], case["out"])
-    names = try_definitions.numbers(try_definitions.numbers(reversed(place)) for place in places)
-    expected = "none" if refusal == certlogic.NOT_A_RULE else f"(some {names})"
-    run = f"λ r. trace (run r {try_definitions.term(record)} {case['limit']})"
-    call = f"(Option·map ({run}) (shape {try_definitions.term(rule)}) ∷ [])"
-    return Check({**case, "id": case["id"].replace("evaluate", "trace"), "entry": "trace", "expect": {"places": places}}, call, [expected])
+def trace_check(check):
+    """The check of the trace of an `evaluate` case, from that of its answer. A name is the place read from its inner end."""
+    case = check.case
+    refusal, places, _ = certlogic.evaluate_traced(*values_of(case), case["limit"], case["out"])
+    expect = {"refusal": refusal if refusal == certlogic.NOT_A_RULE else certlogic.DONE, "places": places}
+    names = [[len(place), *reversed(place)] for place in places]
+    traced = {**case, "id": case["id"].replace("evaluate", "trace"), "entry": "trace", "expect": expect}
+    return Check(traced, f"seenTrace (evaluateStage {{}} {{}}) {case['limit']}", [expect["refusal"], *itertools.chain(*names)], check.texts)
 
 
 def checks_of(cases):
     """The checks of the cases, and those of the traces."""
     checks = [try_definitions.check_of(case) for case in cases]
-    traced = [case for case in cases if case["entry"] == "evaluate" and case["expect"]["steps"] <= LONGEST_TRACE]
-    return checks, [trace_check(case) for case in traced]
+    traced = [check for check in checks if check.case["entry"] == "evaluate" and check.case["expect"]["steps"] <= LONGEST_TRACE]
+    return checks, [trace_check(check) for check in traced]
 
 
 def self_test():
-    """Groups with plain cases: as they are, and with expectations that are wrong."""
+    """Groups with plain cases, of each entry and of a trace: as they are, and with expectations that are wrong."""
     rule, sheet, record = b'{"+":[{"var":"i"},1]}'.hex(), b'{"i":["integer"]}'.hex(), b'{"i":41}'.hex()
     texts = {
         "evaluate": {"rule": rule, "record": record, "limit": 1000, "out": 16384},
@@ -308,34 +318,21 @@ def self_test():
         "check": {"rule": rule, "sheet": sheet},
         "fits": {"sheet": sheet, "record": record},
     }
-    checks, (trace,) = checks_of([judged({"id": entry, "entry": entry, "note": "", **given}) for entry, given in texts.items()])
-    groups = {}
-    for check in checks:
-        groups |= {f"{check.case['id'].replace('_', '·')}-{name}": group for name, group in try_definitions.self_test([check]).items()}
-    shorter = Check(trace.case, trace.call, ["(some ([] ∷ []))"])
-    return {**groups, "trace-right": [trace], "trace-wrong": [shorter], "trace-wrong-none": [Check(trace.case, trace.call, ["none"])]}
+    checks, traces = checks_of([judged({"id": entry, "entry": entry, "note": "", **given}) for entry, given in texts.items()])
+    return try_definitions.self_test(checks + traces)
 
 
 # ---- the run
 
-def tried(checks, traces, modules):
-    """The number of checks that are accepted; those that are refused by themselves, with what was said; and whether the self-test passes."""
+def tried(checks, modules):
+    """The number of checks that are accepted; the cases of those that are refused by themselves, with what was said; and whether the self-test passes."""
     tests = self_test()
-    most = try_definitions.TOGETHER
-    crates = try_definitions.dealt({**try_definitions.grouped(checks, most), **try_definitions.grouped(traces, most)}, "random")
+    crates = try_definitions.dealt(try_definitions.grouped(checks, try_definitions.TOGETHER), "random")
     refused = try_definitions.run({**crates, "wrong": tests}, modules)
-    wrong = set(refused.pop("wrong") or {})
-    tested = wrong == {name for name in tests if "wrong" in name}
-    print(f"self-test: {len(wrong)} wrong expectations are refused" if tested else f"self-test FAILED: refused are {sorted(wrong) or 'none'}")
-
+    tested = try_definitions.self_tested(tests, refused.pop("wrong") or {})
     accepted, others = try_definitions.judged(crates, refused)
-    refuted = []
-    if others:
-        crates = try_definitions.dealt(try_definitions.grouped([check for check, _ in others[: try_definitions.SINGLED]], try_definitions.ALONE), "single")
-        alone, refuted = try_definitions.judged(crates, try_definitions.run(crates, modules))
-        accepted += alone
-        refuted += [(check, "in a refused group, and not tried by itself") for check, _ in others[try_definitions.SINGLED :]]
-    return len(accepted), refuted, tested
+    alone, refuted = try_definitions.tried_alone(others, modules)
+    return len(accepted) + len(alone), refuted, tested
 
 
 def shown(case, said, options):
@@ -370,10 +367,10 @@ def main():
     print(f"seed {options.seed}, {len(cases)} cases", counts(cases), sep="\n")
     checks, traces = checks_of(cases)
     try_definitions.clear()
-    agree, refuted, tested = tried(checks, traces, try_definitions.copy_definitions())
+    agree, refuted, tested = tried(checks + traces, try_definitions.copy_definitions())
 
-    for check, said in refuted[:SHOWN]:
-        print(shown(check.case, said, options))
+    for case, said in refuted[:SHOWN]:
+        print(shown(case, said, options))
     if len(refuted) > SHOWN:
         print(f"and {len(refuted) - SHOWN} more")
     print(f"time: {time.monotonic() - began:.0f} s")

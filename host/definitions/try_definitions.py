@@ -1,8 +1,9 @@
 #!/usr/bin/env python3
-"""Runs the definitions of crates/syntax and crates/model on the cases of vectors/, by computation.
+"""Runs the definitions of crates/syntax, crates/model and crates/stages on the cases of vectors/, by computation.
 
-antt accepts `refl` for a case exactly if the definition, `read` of crates/syntax/specs/Read.antt or one of
-crates/model/specs/Judgement.antt, gives what the case expects. README.md, beside this file, says more.
+antt accepts `refl` for a case exactly if the definitions give what the case expects: `read` of
+crates/syntax/specs/Read.antt, or a stage of crates/stages/specs/Texts.antt and then `answerOf` of
+crates/model/specs/Judgement.antt. All go from the bytes of the texts. README.md, beside this file, says more.
 """
 import argparse
 import json
@@ -18,14 +19,13 @@ ROOT = Path(__file__).resolve().parents[2]
 VECTORS = ROOT / "vectors"
 MODEL = ROOT / "crates" / "model"
 SYNTAX = ROOT / "crates" / "syntax"
-READING = ["Tokens", "Utf8", "Domain", "Read"]  # the modules of syntax that define reading
 SCRATCH = ROOT / "target" / "definitions"
 
 JOBS = 2  # crates that are checked at once
-# antt computes a call once in a declaration, so cases that share one take less time; but it gives up on a declaration
-# with too much to compute. A case weighs the bytes of the text that it reads, and at least LIGHT.
+# antt computes a call once in a declaration, so cases that share a text take less time; but it gives up on a declaration
+# with too much to compute. A case weighs LIGHT and the bytes of its texts that no case before it in the declaration has.
 TOGETHER = 16384  # what the cases of a declaration may weigh in all; a case that weighs more stands alone
-LIGHT = 164
+LIGHT = 120
 ALONE = 0
 SINGLED = 300  # cases of refused groups that are then tried in a declaration each
 SHOWN = 20  # disagreements that are printed
@@ -168,24 +168,8 @@ class Reader:
 # ---- terms of antt
 
 def numbers(items):
-    """A list of numbers; the bytes of a string are one."""
+    """A list of numbers; a text is one."""
     return "(" + "".join(f"{item} ∷ " for item in items) + "[])"
-
-
-def term(value):
-    if value is None:
-        return "(scalar null)"
-    if isinstance(value, bool):
-        return f"(scalar (boolean {str(value).lower()}))"
-    if isinstance(value, int):
-        return f"(scalar (integer ({f'pos {value}' if value >= 0 else f'negsuc {-value - 1}'})))"
-    if isinstance(value, bytes):
-        return f"(scalar (string {numbers(value)}))"
-    if isinstance(value, Members):
-        parts = [f"(member {numbers(name)} {term(content)} " for name, content in value]
-        return f"(object {''.join(parts)}no-members{')' * len(parts)})"
-    parts = [f"(item {term(item)} " for item in value]
-    return f"(array {''.join(parts)}no-items{')' * len(parts)})"
 
 
 # ---- cases
@@ -195,12 +179,35 @@ class Skip(Exception):
 
 
 class Check:
-    """A call of a definition, and the numbers that it is to give (SEEN, below, says which)."""
+    """A call of the definitions, and the numbers that it is to give (SEEN, below, says which)."""
 
-    def __init__(self, case, call, expected):
+    def __init__(self, case, call, expected, texts=(), told=()):
         self.case = case
-        self.call = call
+        self.call = call  # with {} for each text
         self.expected = expected
+        self.texts = texts
+        self.told = told  # which text is refused, and the place: they come before what is expected
+
+    def kind(self):
+        return self.call.split()[0]
+
+    def numbers(self):
+        return [*self.told, *self.expected]
+
+
+# The texts, in the order of their numbers.
+TEXTS = ["rule", "sheet", "record"]
+# Of each entry: what is seen of it (SEEN, below), its stage in crates/stages/specs/Texts.antt, and the texts that this takes.
+STAGES = {
+    "check": ("seenTypes", "checkStage", ["rule", "sheet"]),
+    "fits": ("seenFit", "fitsStage", ["sheet", "record"]),
+    "evaluate": ("seenAnswer", "evaluateStage", ["rule", "record"]),
+    "evaluate_with_sheet": ("seenCheckedAnswer", "evaluateCheckedStage", ["rule", "sheet", "record"]),
+}
+
+
+def text_of(case, key):
+    return bytes.fromhex(case[key] or "")
 
 
 def as_evaluate(case):
@@ -212,64 +219,65 @@ def as_evaluate(case):
 
 
 def reading_of(case):
-    """The check of a case that reading decides: what one text reads as, or its refusal and place."""
+    """The check of a case of `read`: what its text reads as, or its refusal and place."""
     expect = case["expect"]
-    if case["entry"] != "read" and "text" not in expect:
-        raise Skip("refusals 2 to 5 without a place, from the program")
-    text = bytes.fromhex(case["text"] if case["entry"] == "read" else case[expect["text"]] or "")
     if expect["refusal"]:
         seen = [expect["refusal"], expect["place"]]
     else:
         seen = [0, expect["values"], expect["nest"], *bytes.fromhex(expect["written"])]
-    return Check(case, f"seenRead (read {numbers(text)})", seen)
+    return Check(case, "seenRead (read {})", seen, [text_of(case, "text")])
 
 
-def read_texts(case):
-    """The values of a case's texts, None for one that does not read. A ValueError says what is wrong with them."""
+def compare_reading(case):
+    """Raises a ValueError if a case and the reader above do not agree on whether its texts read."""
     refusal = case["expect"]["refusal"]
     # The texts in the order in which they are read, each with the refusals that come before it: under those it may be anything.
     earlier = {"text": (), "rule": (), "sheet": (6,), "record": (6, 14, 13)}
-    values, faulty = {}, []
-    for key in [key for key in earlier if key in case]:
+    faulty = []
+    for key in [key for key in earlier if key in case and refusal not in earlier[key]]:
         try:
-            values[key] = Reader(bytes.fromhex(case[key] or "")).read()
+            Reader(text_of(case, key)).read()
         except Unreadable:
-            values[key] = None
-            if refusal not in earlier[key]:
-                faulty.append(key)
+            faulty.append(key)
     if 2 <= refusal <= 5 and not faulty:
         raise ValueError("each of its texts reads")
     if faulty and not 2 <= refusal <= 5:
         raise ValueError(f"its {faulty[0]} does not read")
-    return values
+
+
+def told_of(expect):
+    """Which text is refused, and the place; 0 and 0 where none is."""
+    return [1 + TEXTS.index(expect["text"]), expect["place"]] if "text" in expect else [0, 0]
+
+
+def expected_of(entry, expect):
+    """The numbers after those."""
+    if entry == "check":
+        return [expect["refusal"], sum(1 << WORDS.index(word) for word in expect.get("kinds", ()))]
+    if entry == "fits":
+        return [expect["refusal"], int(expect.get("fits", False))]
+    return [expect["refusal"], expect["steps"], *bytes.fromhex(expect.get("answer", ""))]
 
 
 def check_of(case):
     """The check of a case. A ValueError says what is wrong with the case."""
-    if case["entry"] == "program":
+    printed = case["entry"] == "program"
+    if printed:
         case = as_evaluate(case)
     entry, expect = case["entry"], case["expect"]
-    refusal = expect["refusal"]
-    if refusal == 1 or "short" in case:
+    if expect["refusal"] == 1 or "short" in case:
         raise Skip("work areas and the step limit: refusal 1")
-
-    values = read_texts(case)
-    if entry == "read" or 2 <= refusal <= 5:
-        return reading_of(case)
-    terms = {key: term(value) for key, value in values.items()}
-    if entry == "check":
-        bits = sum(1 << WORDS.index(word) for word in expect.get("kinds", ()))
-        return Check(case, f"seenTypes (judgeCheck {terms['rule']} {terms['sheet']})", [refusal, bits])
-    if entry == "fits":
-        return Check(case, f"seenFit (judgeFits {terms['sheet']} {terms['record']})", [refusal, int(expect.get("fits", False))])
-    sizes = f"{case['limit']} {case['out']}"
-    if entry == "evaluate":
-        call = f"judgeEvaluate {terms['rule']} {terms['record']} {sizes}"
-    elif entry == "evaluate_with_sheet":
-        call = f"judgeEvaluateChecked {terms['rule']} {terms['sheet']} {terms['record']} {sizes} .answered"
-    else:
+    if entry not in ("read", *STAGES):
         raise ValueError(f"no entry is called {entry}")
-    return Check(case, f"seenAnswer ({call})", [refusal, expect["steps"], *bytes.fromhex(expect.get("answer", ""))])
+
+    compare_reading(case)
+    if entry == "read":
+        return reading_of(case)
+    seen, stage, keys = STAGES[entry]
+    call = f"{'seenPrinted' if printed else seen} ({stage}{' {}' * len(keys)})"
+    if entry.startswith("evaluate"):
+        call += f" {case['limit']} {case['out']}"
+    return Check(case, call, expected_of(entry, expect), [text_of(case, key) for key in keys], () if printed else told_of(expect))
 
 
 def sort_out(cases):
@@ -295,41 +303,58 @@ def shown(case, said):
 
 # ---- the scratch repository
 
-USES = """use mathlib.Core.Bool.{Bool, true, false, cond}
+USES = """use mathlib.Core.Bool.{cond}
 use mathlib.Core.List.{List, [], _∷_}
 use mathlib.Core.Path.{_≡_, refl}
 use Prim.Native.Nat.{ℕ}
-use lib.IntN.{pos, negsuc}
+use lib.ListN.{drop}
 use Rattle.model.specs.Bytes.{Bytes}
-use Rattle.model.specs.Judgement.{Judged, done, refuses, Answer, judgedNumber, judgeEvaluate, judgeEvaluateChecked, judgeCheck, judgeFits}
+use Rattle.model.specs.Judgement.{Judged, done, refuses, Answer, judgedNumber, answerOf}
+use Rattle.model.specs.Refusal.{number, readNumber}
+use Rattle.model.specs.Sheet.{fits}
 use Rattle.model.specs.Size.{valueCount, nesting}
-use Rattle.model.specs.Types.{Types, typeBits}
-use Rattle.model.specs.Value.{Value, scalar, array, object, null, boolean, integer, string, no-items, item, no-members, member}
-use Rattle.model.specs.Refusal.{readNumber}
+use Rattle.model.specs.Types.{typeBits}
 use Rattle.model.specs.Writing.{valueText}
 use Rattle.syntax.specs.Read.{Read, read}
 use Rattle.syntax.specs.Read as reading
+use Rattle.stages.specs.Stage.{Stage, passed, refused}
+use Rattle.stages.specs.Texts.{TextsChecked, checkStage, TextsFitted, fitsStage, TextsRead, evaluateStage, CheckedTextsRead, evaluateCheckedStage}
 """
 
 SEEN = """
-abbrev doneOr : {A : Type 0} → A → Judged A → A
-doneOr other (done a) = a
-doneOr other (refuses e) = other
+-- What a case says of an entry, as numbers. They begin with which text is refused and the place; both are 0 where no text is refused.
+-- Then comes the refusal's number, or 0. What the entry gives comes last; it is 0 where the stage is refused: "Before evaluation steps are 0."
+abbrev seen : {A : Type 0} → (A → List ℕ) → Stage A → List ℕ
+seen given (passed a) = 0 ∷ 0 ∷ given a
+seen given (refused e which place) = which ∷ place ∷ number e ∷ 0 ∷ []
 
--- What a case says, as numbers: first the refusal's number, then ..
--- .. the steps and the bytes of the answer
-abbrev pub seenAnswer : Answer → List ℕ
-seenAnswer a = judgedNumber (a .result) ∷ a .stepsBegun ∷ doneOr [] (a .result)
+abbrev textIn : Judged Bytes → Bytes
+textIn (done s) = s
+textIn (refuses e) = []
 
--- .. the bits of the types found
-abbrev pub seenTypes : Judged Types → List ℕ
-seenTypes j = judgedNumber j ∷ typeBits (doneOr [] j) ∷ []
+abbrev answered : Answer → List ℕ
+answered a = judgedNumber (a .result) ∷ a .stepsBegun ∷ textIn (a .result)
 
--- .. 1 if the record fits
-abbrev pub seenFit : Judged Bool → List ℕ
-seenFit j = judgedNumber j ∷ cond (doneOr false j) 1 0 ∷ []
+-- `evaluate` and `evaluate_with_sheet` give the steps and the bytes of the answer.
+abbrev pub seenAnswer : Stage TextsRead → ℕ → ℕ → List ℕ
+seenAnswer s limit room = seen (λ t. answered (answerOf (t .rule .content) (t .«record») limit room)) s
 
--- .. of a text that reads, the number of values, the nesting, and the bytes of the text as it is written; of another, the place
+abbrev pub seenCheckedAnswer : Stage CheckedTextsRead → ℕ → ℕ → List ℕ
+seenCheckedAnswer s limit room = seen (λ t. answered (answerOf (t .checked .rule .content) (t .«record») limit room)) s
+
+-- `check` gives the bits of the types found.
+abbrev pub seenTypes : Stage TextsChecked → List ℕ
+seenTypes s = seen (λ c. 0 ∷ typeBits (c .types) ∷ []) s
+
+-- `fits` gives 1 if the record fits, else 0.
+abbrev pub seenFit : Stage TextsFitted → List ℕ
+seenFit s = seen (λ t. 0 ∷ cond (fits (t .sheet .content) (t .«record»)) 1 0 ∷ []) s
+
+-- The program prints neither which text nor the place.
+abbrev pub seenPrinted : Stage TextsRead → ℕ → ℕ → List ℕ
+seenPrinted s limit room = drop 2 (seenAnswer s limit room)
+
+-- Of a text that reads: 0, the number of values, the nesting, and the bytes of the text as it is written. Of another: the refusal's number and the place.
 abbrev pub seenRead : Read → List ℕ
 seenRead (reading.done v) = 0 ∷ valueCount v ∷ nesting v ∷ valueText v
 seenRead (reading.refuse k p) = readNumber k ∷ p ∷ []
@@ -340,10 +365,17 @@ unfolding {}
 definitions = 0
 """
 
+# The crates of the definitions, each with those that it needs.
+DEFINING = {"model": [], "syntax": ["model"], "stages": ["model", "syntax"]}
+# Those whose code declares types of the definitions; another crate has this for code.
+DECLARING = ["model", "syntax"]
+NO_CODE = "pub enum Unused {\n    Only,\n}\n"
+# The modules that a text uses, but for those of declared types.
+USED = re.compile(r"^(?:\w+ )*use Rattle·(\w+)(?:·specs)?\.specs\.(?!declared\b)(\w+)", re.MULTILINE)
 
-def source(module):
-    folder = SYNTAX if module in READING else MODEL
-    return (folder / "specs" / f"{module}.antt").read_text(encoding="utf-8")
+
+def source(crate, module):
+    return (ROOT / "crates" / crate / "specs" / f"{module}.antt").read_text(encoding="utf-8")
 
 
 def put(crate, file, text):
@@ -353,44 +385,49 @@ def put(crate, file, text):
 
 
 def copy_definitions():
-    """Copies the modules that Judgement needs, which leaves the laws out, and those of reading; gives their names."""
-    shutil.copytree(SYNTAX / "src", SCRATCH / "crates" / "syntax" / "src")
-    for module in READING:
-        put("syntax", f"specs/{module}.antt", source(module))
-    put("syntax", "specs/Lib.antt", "".join(f"pub mod {module}\n" for module in READING))
-    shutil.copytree(MODEL / "src", SCRATCH / "crates" / "model" / "src")
-    modules, found = [], ["Judgement"]
+    """Copies the modules that the cases need, which leaves the laws out; gives the crate and the name of each."""
+    modules, found = [], USED.findall(USES)
     while found:
         module = found.pop()
         if module not in modules:
             modules.append(module)
-            put("model", f"specs/{module}.antt", source(module))
-            found += sorted(set(re.findall(r"^use Rattle\.model\.specs\.(\w+)", source(module), re.MULTILINE)) - {"declared"})
-    put("model", "specs/Lib.antt", "".join(f"pub mod {module}\n" for module in modules))
-    return modules + READING
+            found += USED.findall(source(*module))
+    for crate in DEFINING:
+        names = [name for owner, name in modules if owner == crate]
+        for name in names:
+            put(crate, f"specs/{name}.antt", source(crate, name))
+        put(crate, "specs/Lib.antt", "".join(f"pub mod {name}\n" for name in names))
+        if crate in DECLARING:
+            shutil.copytree(ROOT / "crates" / crate / "src", SCRATCH / "crates" / crate / "src")
+        else:
+            put(crate, "src/lib.rt", NO_CODE)
+    return modules
 
 
 def unfoldable(module):
     """The definitions of a module that are marked `unfoldable`; a block of functions goes by the first."""
-    return re.findall(r"^unfoldable (?:mutual\s+(?:--.*\s+)*)?(?:abbrev )?pub (?!use )(\S+)", source(module), re.MULTILINE)
+    return re.findall(r"^unfoldable (?:mutual\s+(?:--.*\s+)*)?(?:abbrev )?pub (?!use )(\S+)", source(*module), re.MULTILINE)
 
 
-def declaration(name, checks):
-    calls = "\n    ∷ ".join([check.call for check in checks] + ["[]"])
-    expected = "\n    ∷ ".join([numbers(check.expected) for check in checks] + ["[]"])
+def declaration(name, checks, texts):
+    calls = "\n    ∷ ".join([check.call.format(*[texts[text] for text in check.texts]) for check in checks] + ["[]"])
+    expected = "\n    ∷ ".join([numbers(check.numbers()) for check in checks] + ["[]"])
     return f"{name} :\n    ({calls})\n    ≡ ({expected})\nunfolding definitions\n{name} = refl\n"
 
 
 def write_crate(name, groups, modules):
-    """Writes a crate with a declaration for each group of checks."""
-    opened = [(module, word) for module in modules for word in unfoldable(module)]
-    renamed = "".join(f"use Rattle·{'syntax' if module in READING else 'model'}.specs.{module}.{{{word} as {module}·{word}}}\n" for module, word in opened)
-    unfolding = " ".join(f"{module}·{word}" for module, word in opened)
-    seen = f"use Rattle.{name}.specs.Seen.{{definitions, seenAnswer, seenTypes, seenFit, seenRead}}\n"
-    put(name, "src/lib.rt", "pub enum Unused {\n    Only,\n}\n")
+    """Writes a crate with a name for each text, and a declaration for each group of checks."""
+    opened = [(*module, word) for module in modules for word in unfoldable(module)]
+    renamed = "".join(f"use Rattle.{crate}.specs.{module}.{{{word} as {crate}·{module}·{word}}}\n" for crate, module, word in opened)
+    unfolding = " ".join("·".join(names) for names in opened)
+    seen = f"use Rattle.{name}.specs.Seen.{{definitions, {', '.join(re.findall('^abbrev pub (.*) :', SEEN, re.MULTILINE))}}}\n"
+    every = dict.fromkeys(text for checks in groups.values() for check in checks for text in check.texts)
+    texts = {text: f"text-{number}" for number, text in enumerate(every)}
+    named = "".join(f"\nabbrev {word} : Bytes\n{word} = {numbers(text)}\n" for text, word in texts.items())
+    put(name, "src/lib.rt", NO_CODE)
     put(name, "specs/Lib.antt", "pub mod Seen\npub mod Cases\n")
     put(name, "specs/Seen.antt", USES + renamed + SEEN.replace("{}", unfolding))
-    put(name, "specs/Cases.antt", USES + seen + "".join("\n" + declaration(*group) for group in groups.items()))
+    put(name, "specs/Cases.antt", USES + seen + named + "".join("\n" + declaration(group, checks, texts) for group, checks in groups.items()))
 
 
 # ---- the run
@@ -416,8 +453,9 @@ def clear():
 
 def rt_check(names):
     """Runs `rt check` on crates of the scratch repository, and gives what it printed."""
-    every = [path.name for path in (SCRATCH / "crates").iterdir() if path.name not in ("model", "syntax")]
-    listed = "model:\nsyntax: model\n" + "".join(f"{name}: model syntax\n" for name in every)
+    others = [path.name for path in (SCRATCH / "crates").iterdir() if path.name not in DEFINING]
+    needs = {**DEFINING, **{name: list(DEFINING) for name in others}}
+    listed = "".join(f"{' '.join([name + ':', *needed])}\n" for name, needed in needs.items())
     (SCRATCH / "crates.txt").write_text(listed, encoding="utf-8")
     environment = {**os.environ, "RT_JOBS": str(JOBS), "RT_CUT": "0"}
     done = subprocess.run(["rt", "check", *names], cwd=SCRATCH, env=environment, stdout=subprocess.PIPE, stderr=subprocess.STDOUT, check=False)
@@ -439,18 +477,25 @@ def run(crates, modules):
     return refused
 
 
-def weight(check):
-    return max(LIGHT, check.call.count("∷") if check.call.startswith("seenRead") else 0)
+def by_text(check):
+    """An order in which checks with the same texts stand together."""
+    return [check.case.get(key) or "" for key in ("sheet", "record", "rule", "text")]
+
+
+def weight(check, known):
+    """What a check weighs in a declaration that has the known texts."""
+    return LIGHT + sum(len(text) for text in set(check.texts) - known)
 
 
 def grouped(checks, most):
     """Groups of checks that weigh no more in all, by the name of the first. In antt a `_` in a name is the place of an operand."""
-    groups, room = [], 0
-    for check in checks:
-        room -= weight(check)
-        if room < 0:
+    groups, room, known = [], 0, set()
+    for check in sorted(checks, key=by_text):
+        if weight(check, known) > room:
             groups.append([])
-            room = most - weight(check)
+            room, known = most, set()
+        room -= weight(check, known)
+        known |= set(check.texts)
         groups[-1].append(check)
     return {group[0].case["id"].replace("_", "·"): group for group in groups}
 
@@ -461,17 +506,20 @@ def dealt(groups, name):
 
 
 def self_test(checks):
-    """Groups with the shortest check of each kind of call: as they are, and with one number changed that a call is to give."""
+    """Groups with the shortest checks of each kind of call, one that is done and one with a text refused: as they are, and with one number changed."""
     shortest = {}
-    for check in sorted(checks, key=lambda check: len(check.call)):
-        if check.case["expect"]["refusal"] == 0:
-            shortest.setdefault(check.call.split()[0], check)
+    for check in sorted(checks, key=lambda check: sum(len(text) for text in check.texts)):
+        refusal = check.case["expect"]["refusal"]
+        if refusal in (0, 2, 3, 4, 5):
+            shortest.setdefault((check.kind(), refusal == 0), check)
     right = list(shortest.values())
     groups = {"right": right}
     for place, check in enumerate(right):
-        for at in sorted({0, 1, len(check.expected) - 1}):
-            changed = [*check.expected[:at], check.expected[at] ^ 1, *check.expected[at + 1 :]]
-            groups[f"wrong-{place}-{at}"] = [*right[:place], Check(check.case, check.call, changed), *right[place + 1 :]]
+        given = check.numbers()
+        # Which text and the place, the refusal, the first number given, and the last.
+        for at in sorted({*range(min(4, len(given))), len(given) - 1}):
+            changed = Check(check.case, check.call, [*given[:at], given[at] ^ 1, *given[at + 1 :]], check.texts)
+            groups[f"wrong-{place}-{at}"] = [*right[:place], changed, *right[place + 1 :]]
     return groups
 
 
