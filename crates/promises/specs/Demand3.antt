@@ -18,10 +18,6 @@ use Rattle.promises.specs.Laws.Replaced as ReplacedLaws
 pub demand-3a : (rule sheet record′ : Bytes) (words limit : ℕ) → Accepts rule sheet words → SaysFits sheet record′ → limit ≤ maxSteps → RunsNamed rule record′ limit words
 demand-3a = NamedLaws.demand-3a
 
--- The words told are not 0: the check found at least one type.
-pub words-some : (rule sheet : Bytes) (words : ℕ) → Accepts rule sheet words → ¬ (words ≡ 0)
-words-some = NamedLaws.words-some
-
 -- So `jehvrukam_evaluate`, unless it gives 1, ends with 0, 9, 10, 11 or 12: never with 7 or 8.
 pub never-7-or-8 :
     (rule sheet record′ : Bytes) (words limit : ℕ) (a : Areas) (n : Numbers)
@@ -55,6 +51,10 @@ pub checked-written-as-named :
     → evaluateCheckedEntry rule sheet record′ limit a n .numbers .fit ≡ 1
     → AnswersNamed rule record′ limit (evaluateCheckedEntry rule sheet record′ limit a n .numbers .steps) (evaluateCheckedEntry rule sheet record′ limit a n .numbers .words) (evaluateCheckedEntry rule sheet record′ limit a n .numbers .size) (writtenByChecked (evaluateCheckedEntry rule sheet record′ limit a n))
 checked-written-as-named = NamedLaws.checked-written-as-named
+
+-- The words that `jehvrukam_check` tells are not 0: it found at least one type.
+pub words-some : (rule sheet : Bytes) (words : ℕ) → Accepts rule sheet words → ¬ (words ≡ 0)
+words-some = NamedLaws.words-some
 
 -- ---- (b)
 -- The bytes of an operand rule that the run never begins give way to another rule's, and the whole is a rule (Replacement.antt): both runs end alike, in value
