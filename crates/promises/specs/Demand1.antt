@@ -15,7 +15,7 @@ use Rattle.jehvrukam.specs.Evaluate.{Areas, Numbers, evaluateEntry}
 use Rattle.jehvrukam.specs.EvaluateChecked.{CheckedAreas, CheckedNumbers, evaluateCheckedEntry}
 use Rattle.jehvrukam.specs.Fits.{FitsAreas, FitsNumbers, fitsEntry}
 use Rattle.jehvrukam.specs.View.{viewEntry, viewPartEntry, viewIntegerEntry, viewStringEntry, viewNameEntry}
-use Rattle.promises.specs.Lengths.{SameCheck, SameFits, SameEvaluate, SameChecked, NoOther, SameReading, SameTold}
+use Rattle.promises.specs.Lengths.{SameCheck, SameFits, SameEvaluate, SameChecked, SameEntry, SameReading, SameTold}
 use Rattle.promises.specs.Laws.Lengths as LengthsLaws
 
 -- `jehvrukam_read`: areas of the same lengths, any place before; the refusal is the same, and unless it is 1, so is all that comes back.
@@ -27,25 +27,25 @@ pub read-lengths :
 read-lengths = LengthsLaws.read-lengths
 
 -- `jehvrukam_check`: areas of the same lengths, any numbers before; so again.
-pub check-lengths : (rule sheet : Bytes) (a b : CheckAreas) (m n : CheckNumbers) → SameCheck a b → NoOther (checkEntry rule sheet a m) (checkEntry rule sheet b n)
+pub check-lengths : (rule sheet : Bytes) (a b : CheckAreas) (m n : CheckNumbers) → SameCheck a b → SameEntry (checkEntry rule sheet a m) (checkEntry rule sheet b n)
 check-lengths = LengthsLaws.check-lengths
 
 -- `jehvrukam_fits`: the same.
-pub fits-lengths : (sheet record′ : Bytes) (a b : FitsAreas) (m n : FitsNumbers) → SameFits a b → NoOther (fitsEntry sheet record′ a m) (fitsEntry sheet record′ b n)
+pub fits-lengths : (sheet record′ : Bytes) (a b : FitsAreas) (m n : FitsNumbers) → SameFits a b → SameEntry (fitsEntry sheet record′ a m) (fitsEntry sheet record′ b n)
 fits-lengths = LengthsLaws.fits-lengths
 
 -- `jehvrukam_evaluate`: the same, the output's length among the lengths.
 pub evaluate-lengths :
     (rule record′ : Bytes) (limit : ℕ) (a b : Areas) (m n : Numbers)
     → SameEvaluate a b
-    → NoOther (evaluateEntry rule record′ limit a m) (evaluateEntry rule record′ limit b n)
+    → SameEntry (evaluateEntry rule record′ limit a m) (evaluateEntry rule record′ limit b n)
 evaluate-lengths = LengthsLaws.evaluate-lengths
 
 -- `jehvrukam_evaluate_checked`: the same.
 pub evaluate-checked-lengths :
     (rule sheet record′ : Bytes) (limit : ℕ) (a b : CheckedAreas) (m n : CheckedNumbers)
     → SameChecked a b
-    → NoOther (evaluateCheckedEntry rule sheet record′ limit a m) (evaluateCheckedEntry rule sheet record′ limit b n)
+    → SameEntry (evaluateCheckedEntry rule sheet record′ limit a m) (evaluateCheckedEntry rule sheet record′ limit b n)
 evaluate-checked-lengths = LengthsLaws.evaluate-checked-lengths
 
 -- `jehvrukam_view`, `jehvrukam_view_part`, `jehvrukam_view_integer`, `jehvrukam_view_string`, `jehvrukam_view_name`: on the same table, whatever the numbers

@@ -38,7 +38,7 @@ pub record SameChecked (a b : CheckedAreas) : Type 0 where
   pub work : SameWork (a .work) (b .work)
 
 -- Two answers: the refusal is the same, and unless it is 1, which touches nothing, so are all numbers and the last bytes of every area.
-pub record NoOther {N A : Type 0} (x y : Entry N A) : Type 0 where
+pub record SameEntry {N A : Type 0} (x y : Entry N A) : Type 0 where
   pub refusal : x .refusal ≡ y .refusal
   pub whole : ¬ (x .refusal ≡ 1) → x ≡ y
 

@@ -1,29 +1,22 @@
 -- Raised: integers raised by one number are ordered as they were; sums are raised by both numbers.
-use mathlib.Core.Path.{_≡_, refl, sym, _∙_, ap₂}
+use mathlib.Core.Path.{_≡_, refl, sym, ap₂}
 use mathlib.Core.Bool.{Bool, true, false, cond, _&&_}
 use Prim.Native.Nat.{ℕ, suc, _+_, _-_, _≤_, _<_}
-use native.Mathlib.Decide.{decLt, ℕ-discrete}
+use native.Mathlib.Decide.{decLt}
 use native.Mathlib.Omega.{arith}
-use borrow.Author.Tests.{ltb-true, ltb-false, le-leb, lt-leb, eq-eqb, ne-eqb}
+use borrow.Author.Tests.{ltb-true, ltb-false, le-leb, lt-leb, ne-eqb}
 use lib.Dec.{T, eqb, leb, ltb, leb→le}
 use lib.IntN.{ℤ, pos, negsuc, subℕ, _+ℤ_}
 use lib.Signed.{leZ, ltZ}
 use Rattle.model.specs.Instant.{inRange, sinceYear0}
 use Rattle.model.specs.Laws.Logic.{and-l}
+use Rattle.model.specs.Laws.Tests.{same-le, same-eq}
 use Rattle.model.specs.Limits.{maxInteger}
 use Rattle.model.specs.Value.{sameInteger, withinLimits}
 use Rattle.syntax.specs.Layout.{biased, unbiased}
 use Rattle.scalars.specs.Inner.{Raised, raised-pos, raised-negsuc}
 
 -- ---- order
--- Two tests of order hold together and fail together.
-same-le : (a b c d : ℕ) → (a ≤ b → c ≤ d) → (b < a → d < c) → leb a b ≡ leb c d
-same-le a b c d f g = go (decLt b a)
-  where
-    go : Dec (b < a) → leb a b ≡ leb c d
-    go (yes l) = lt-leb a b l ∙ sym (lt-leb c d (g l))
-    go (no l) = let k : a ≤ b = omega arith in le-leb a b k ∙ sym (le-leb c d (f k))
-
 pub le-raised : {k m n : ℕ} {y z : ℤ} → Raised k y m → Raised k z n → leZ y z ≡ leb m n
 le-raised (raised-pos a m e) (raised-pos b n f) = same-le a b m n (λ l. omega arith) (λ l. omega arith)
 le-raised (raised-pos a m e) (raised-negsuc b n f) = sym (lt-leb m n (omega arith))
@@ -37,13 +30,6 @@ lt-raised (raised-negsuc a m e) (raised-pos b n f) = sym (le-leb (suc m) n (omeg
 lt-raised (raised-negsuc a m e) (raised-negsuc b n f) = same-le (suc b) a (suc m) n (λ l. omega arith) (λ l. omega arith)
 
 -- ---- equality
-same-eq : (a b c d : ℕ) → (a ≡ b → c ≡ d) → (c ≡ d → a ≡ b) → eqb a b ≡ eqb c d
-same-eq a b c d f g = go (ℕ-discrete a b)
-  where
-    go : Dec (a ≡ b) → eqb a b ≡ eqb c d
-    go (yes e) = eq-eqb a b e ∙ sym (eq-eqb c d (f e))
-    go (no e) = ne-eqb a b e ∙ sym (ne-eqb c d (λ q. e (g q)))
-
 pub same-raised : {k m n : ℕ} {y z : ℤ} → Raised k y m → Raised k z n → sameInteger y z ≡ eqb m n
 same-raised (raised-pos a m e) (raised-pos b n f) = same-eq a b m n (λ l. omega arith) (λ l. omega arith)
 same-raised (raised-pos a m e) (raised-negsuc b n f) = sym (ne-eqb m n (λ l. omega arith))

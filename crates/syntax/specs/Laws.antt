@@ -9,6 +9,7 @@ pub mod Sound
 pub mod Meaning
 pub mod Layout
 pub mod Biased
+pub mod Widths
 pub mod Stands
 pub mod FaultScalars
 pub mod FaultStrings

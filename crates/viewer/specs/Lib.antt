@@ -4,6 +4,7 @@ pub mod Form
 pub mod View
 pub mod Answer
 pub mod Shows
+pub mod Inside
 pub mod Inner
 pub mod Main
 pub mod Laws

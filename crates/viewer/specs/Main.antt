@@ -11,8 +11,9 @@ use Rattle.syntax.specs.Layout.{tableBytes, stringsBytes, tableOf, stringsAreaO
 use Rattle.syntax.specs.Read.{done, read}
 use Rattle.viewer.specs.declared.row.Span.{Span}
 use Rattle.viewer.specs.Answer.{Seen, seenOf, nameOf, integerOf, stringOf, placeOf}
+use Rattle.viewer.specs.Inside.{Inside}
 use Rattle.viewer.specs.Row.{rowCount, numbersAt, endOf}
-use Rattle.viewer.specs.Shows.{Shows, ShowsText, Inside}
+use Rattle.viewer.specs.Shows.{Shows, ShowsText}
 use Rattle.viewer.specs.View.{rowSeen, partSeen}
 use Rattle.viewer.specs.Laws.ReadForm as ReadFormLaws
 use Rattle.viewer.specs.Laws.Told as ToldLaws

@@ -2,7 +2,7 @@
 use mathlib.Core.Bool.{true, false}
 use mathlib.Core.Option.{none, some}
 use mathlib.Core.Path.{_≡_}
-use Prim.Native.Nat.{ℕ, suc, _+_, _≤_, _<_}
+use Prim.Native.Nat.{ℕ, suc, _+_, _≤_}
 use lib.ListN.{length, take, drop}
 use Rattle.model.specs.Bytes.{Bytes}
 use Rattle.model.specs.Size.{valueCount}
@@ -10,7 +10,6 @@ use Rattle.model.specs.Value.{Value, scalar, instant, array, object, Scalar, nu
 use Rattle.syntax.specs.Layout.{itemCount}
 use Rattle.viewer.specs.declared.row.Span.{Span}
 use Rattle.viewer.specs.Answer.{seenOf, nameOf, integerOf, stringOf, placeOf}
-use Rattle.viewer.specs.Row.{rowCount, numbersAt, endOf}
 use Rattle.viewer.specs.View.{rowSeen, partSeen}
 
 -- The kind of a value (docs/LAYOUT.md). No text reads as an instant.
@@ -82,8 +81,3 @@ mutual
 pub record ShowsText (T S : Bytes) (v : Value) : Type 0 where
   pub shows : Shows T S 0 v
   pub no-member : Unnamed T 0
-
--- Whatever the table holds: the value at a place is one of the rows, and ends within `end`.
-pub record Inside (T : Bytes) (place end : ℕ) : Type 0 where
-  pub there : place < rowCount T
-  pub ends : endOf place (numbersAt T place) ≤ end

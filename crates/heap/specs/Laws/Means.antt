@@ -19,6 +19,7 @@ use Rattle.model.specs.Value.{Value, scalar, array, object, null, integer, stri
 use Rattle.model.specs.Laws.Logic.{clash}
 use Rattle.syntax.specs.Layout.{itemCount, unbiased}
 use Rattle.syntax.specs.Laws.Biased.{biased-small, unbiased-biased}
+use Rattle.syntax.specs.Laws.Widths.{text-small, values-small}
 use Rattle.heap.specs.declared.handle.Handle.{Handle}
 use Rattle.heap.specs.declared.handle.Handle.the-variants as variants
 use Rattle.heap.specs.declared.handle.Form.the-variants as forms
@@ -29,7 +30,7 @@ use Rattle.heap.specs.Means.{Means, means-null, means-false, means-true,
 use Rattle.heap.specs.Parts.{headOf, tailOf, nextCell, labelOf, labelBytes}
 use Rattle.heap.specs.Unfold.{Areas, withCells, instantAt, itemsBy, membersBy, valueBy, unfolded}
 use Rattle.heap.specs.Laws.Cells.{length-stored, stored-other}
-use Rattle.heap.specs.Laws.Numbers.{instantAt-sinceYear0, text-small, values-small, heap-small}
+use Rattle.heap.specs.Laws.Numbers.{instantAt-sinceYear0, heap-small}
 
 -- ---- while the heap grows
 -- The cells below `top` hold the same.

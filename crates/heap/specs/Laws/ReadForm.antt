@@ -19,6 +19,7 @@ use Rattle.syntax.specs.Laws.Layout.{length-row, length-rows, count-positive, k
 use Rattle.syntax.specs.Laws.Sound.{sound}
 use Rattle.syntax.specs.Laws.StringsFit.{strings-small}
 use Rattle.syntax.specs.Laws.WellFormed.{read-well-formed}
+use Rattle.syntax.specs.Laws.Widths.{text-small, values-small}
 use Rattle.syntax.specs.Read.{done, read}
 use Rattle.syntax.specs.WellFormed.{WellFormedValue}
 use Rattle.syntax.specs.Laws.Biased.{biased-small}
@@ -28,7 +29,6 @@ use Rattle.heap.specs.Handles.{ofRow, rowHandle, nextRow}
 use Rattle.heap.specs.Means.{Means, means-null, means-false, means-true, means-integer, means-string, means-items, means-members, RowItems, no-row-items, row-item, RowMembers, no-row-members, row-member}
 use Rattle.heap.specs.Parts.{rowLabel}
 use Rattle.heap.specs.Unfold.{Areas}
-use Rattle.heap.specs.Laws.Numbers.{text-small, values-small}
 
 -- ---- a row of the table
 record Row (A : Bytes) (i kind : ℕ) (name : Label) (x y : ℕ) : Type 0 where

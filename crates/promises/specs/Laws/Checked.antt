@@ -1,26 +1,23 @@
 -- Checked: with a sheet, when evaluation has begun, and that its answer is the one without a sheet.
-use mathlib.Core.Bool.{Bool, true, false, _||_, cond}
+use mathlib.Core.Bool.{false, _||_}
 use mathlib.Core.Logic.{inl, inr, _↔_}
 use mathlib.Core.Option.{Option, none, some}
 use mathlib.Core.Path.{_≡_, refl, sym, ap, subst, _∙_}
 use Prim.Native.Nat.{ℕ, _≤_}
 use native.Mathlib.Omega.{arith}
-use lib.Dec.{ltb}
 use lib.ListN.{length, replicate}
 use Rattle.model.specs.Bytes.{Bytes}
 use Rattle.model.specs.Eval.{run, Outcome, value, refusal, outcome}
-use Rattle.model.specs.Judgement.{Judged, done, refuses, sheetIn, orRefuse, written, Answer, answerOf}
+use Rattle.model.specs.Judgement.{Judged, done, refuses, judgedNumber, sheetIn, orRefuse, writtenWithin, written, Answer, answerOf}
 use Rattle.model.specs.Laws.Logic.{or-false-l, or-false-r}
 use Rattle.model.specs.Main.{found-some}
-use Rattle.model.specs.Refusal.{Refusal, number, notJson, repeatedName, loneSurrogate, badNumber, tooLarge, notRule, notSheet, notAccepted, fault, wrongKind, badDate, outOfRange, outOfSteps, answerTooLarge, outputTooShort}
+use Rattle.model.specs.Refusal.{Refusal, number, notJson, repeatedName, loneSurrogate, badNumber, tooLarge, notRule, notSheet, notAccepted, fault, wrongKind, badDate, outOfRange, outOfSteps}
 use Rattle.model.specs.Rule.{Rule}
 use Rattle.model.specs.Shape.{shape}
 use Rattle.model.specs.Sheet.{Sheet, sheetOf}
-use Rattle.model.specs.Size.{isTooLarge}
 use Rattle.model.specs.TypeCheck.{check}
 use Rattle.model.specs.Types.{Types, typeBits}
 use Rattle.model.specs.Value.{Value}
-use Rattle.model.specs.Writing.{valueText}
 use Rattle.syntax.specs.Layout.{padded}
 use Rattle.syntax.specs.Read.{Read}
 use Rattle.syntax.specs.Read as readings
@@ -33,7 +30,7 @@ use Rattle.jehvrukam.specs.Evaluate.{Areas, Numbers, Evaluated, isInvalid, answ
 use Rattle.jehvrukam.specs.EvaluateChecked.{CheckedAreas, CheckedNumbers, isCheckedInvalid, checkedAnswered, evaluateCheckedAnswer, evaluateCheckedEntry}
 use Rattle.promises.specs.Calls.{Begins, AfterEvaluation, SameAnswer}
 use Rattle.promises.specs.Laws.Bits.{bits-some}
-use Rattle.promises.specs.Laws.Entries.{behind, checked-held, unsheeted, unsheeted-read}
+use Rattle.promises.specs.Laws.Entries.{behind, written-number, checked-held, unsheeted, unsheeted-read}
 
 -- ---- the numbers of refusals
 -- Before evaluation: 2 to 6, 13 and 14.
@@ -104,20 +101,16 @@ stage-early rule sheet record′ = early-bind (checkStage rule sheet) with-recor
     with-record c = readAs recordText record′ >>= both c
 
 -- From evaluation on: 0, or 7 to 12.
+told-number : (a : CheckedAreas) (t : CheckedTextsRead) (j : Judged Bytes) (k : ℕ) → checkedAnswered a t j k .refusal ≡ judgedNumber j
+told-number a t (done x) k = refl
+told-number a t (refuses x) k = refl
+
 judged-after : (a : CheckedAreas) (t : CheckedTextsRead) (room : ℕ) (o : Outcome) (k : ℕ) → AfterEvaluation (checkedAnswered a t (written room o) k .refusal)
 judged-after a t room (refusal (fault wrongKind)) k = inr (omega arith, omega arith)
 judged-after a t room (refusal (fault badDate)) k = inr (omega arith, omega arith)
 judged-after a t room (refusal (fault outOfRange)) k = inr (omega arith, omega arith)
 judged-after a t room (refusal outOfSteps) k = inr (omega arith, omega arith)
-judged-after a t room (value v) k = large (isTooLarge v)
-  where
-    short : (b : Bool) (x : Bytes) → AfterEvaluation (checkedAnswered a t (cond b (refuses outputTooShort) (done x)) k .refusal)
-    short true x = inr (omega arith, omega arith)
-    short false x = inl refl
-
-    large : (b : Bool) → AfterEvaluation (checkedAnswered a t (cond b (refuses answerTooLarge) (cond (ltb room (length (valueText v))) (refuses outputTooShort) (done (valueText v)))) k .refusal)
-    large true = inr (omega arith, omega arith)
-    large false = short (ltb room (length (valueText v))) (valueText v)
+judged-after a t room (value v) k = subst AfterEvaluation (sym (told-number a t (writtenWithin room v) k)) (written-number AfterEvaluation room v (inl refl) (inr (omega arith, omega arith)) (inr (omega arith, omega arith)))
 
 -- ---- when evaluation has begun
 pub types-some : (rule sheet : Bytes) (t : TextsChecked) → checkStage rule sheet ≡ passed t → ¬ (typeBits (t .types) ≡ 0)

@@ -1,15 +1,20 @@
 -- Entries: what an answer of an entry tells of its stages.
-use mathlib.Core.Bool.{Bool, true, false, _||_}
+use mathlib.Core.Bool.{Bool, true, false, _||_, cond}
 use mathlib.Core.Path.{_≡_, refl, ap, _∙_}
 use Prim.Native.Nat.{ℕ, _≤_}
 use native.Mathlib.Omega.{arith}
 use borrow.Author.Tests.{ltb-false}
 use lib.Dec.{ltb}
+use lib.ListN.{length}
 use Rattle.model.specs.Bytes.{Bytes}
+use Rattle.model.specs.Judgement.{done, refuses, judgedNumber, writtenWithin}
 use Rattle.model.specs.Laws.Logic.{or-false-l}
 use Rattle.model.specs.Limits.{maxSteps}
+use Rattle.model.specs.Refusal.{answerTooLarge, outputTooShort}
 use Rattle.model.specs.Rule.{Rule}
+use Rattle.model.specs.Size.{isTooLarge}
 use Rattle.model.specs.Value.{Value}
+use Rattle.model.specs.Writing.{valueText}
 use Rattle.stages.specs.Laws.{bound, check-held}
 use Rattle.stages.specs.Stage.{passed, recordText, readAs}
 use Rattle.stages.specs.Texts.{TextRead, ruleStage, checkStage, TextsRead, evaluateStage, CheckedTextsRead, evaluateCheckedStage}
@@ -34,6 +39,19 @@ zero-not-1 e f = omega arith
 -- A valid limit is within the largest.
 pub limit-within : (limit : ℕ) (cells : Bytes) (b : Bool) → cannotRun limit cells || b ≡ false → limit ≤ maxSteps
 limit-within limit cells b e = ltb-false maxSteps limit (or-false-l (ltb maxSteps limit) _ (or-false-l (cannotRun limit cells) b e))
+
+-- ---- what is written
+-- The number of a value that is written is 0, 11 or 12.
+pub written-number : (P : ℕ → Type 0) (room : ℕ) (v : Value) → P 0 → P 11 → P 12 → P (judgedNumber (writtenWithin room v))
+written-number P room v done-so too-large too-short = large (isTooLarge v)
+  where
+    short : (b : Bool) (x : Bytes) → P (judgedNumber (cond b (refuses outputTooShort) (done x)))
+    short true x = too-short
+    short false x = done-so
+
+    large : (b : Bool) → P (judgedNumber (cond b (refuses answerTooLarge) (cond (ltb room (length (valueText v))) (refuses outputTooShort) (done (valueText v)))))
+    large true = too-large
+    large false = short (ltb room (length (valueText v))) (valueText v)
 
 -- ---- several texts
 pub passed-same : {A : Type 0} {a b : A} → passed a ≡ passed b → a ≡ b

@@ -23,7 +23,7 @@ use Rattle.jehvrukam.specs.Evaluate.{Areas, Numbers, Evaluated, isInvalid, zero
 use Rattle.jehvrukam.specs.EvaluateChecked.{CheckedAreas, CheckedNumbers, isCheckedInvalid, checkedZeros, checkedNumbers, checkedAnswered, evaluateCheckedAnswer, evaluateCheckedEntry}
 use Rattle.jehvrukam.specs.Fits.{FitsAreas, FitsNumbers, isFitsInvalid, fitsAnswer, fitsEntry}
 use Rattle.jehvrukam.specs.View.{toldOr}
-use Rattle.promises.specs.Lengths.{SameText, SameWork, SameCheck, SameFits, SameEvaluate, SameChecked, NoOther, SameReading, SameTold}
+use Rattle.promises.specs.Lengths.{SameText, SameWork, SameCheck, SameFits, SameEvaluate, SameChecked, SameEntry, SameReading, SameTold}
 use Rattle.promises.specs.Laws.Entries.{orUntouched}
 
 -- ---- the areas of a text
@@ -38,7 +38,7 @@ module _ {a b : TextAreas} (h : SameText a b) where
   holding-same v = λ i. textAreas (tableOf v (h .table i)) (stringsAreaOf v (h .strings i))
 
 -- ---- behind the test of sizes and limit, which comes out alike
-alike : {N A : Type 0} (p q : Bool) (m n : N) (a b : A) (x y : Entry N A) → p ≡ q → x ≡ y → NoOther (orUntouched p m a x) (orUntouched q n b y)
+alike : {N A : Type 0} (p q : Bool) (m n : N) (a b : A) (x y : Entry N A) → p ≡ q → x ≡ y → SameEntry (orUntouched p m a x) (orUntouched q n b y)
 alike true true m n a b x y e f = record { refusal = refl; whole = λ k. absurd (k refl) }
 alike false false m n a b x y e f = record { refusal = λ i. f i .refusal; whole = λ k. f }
 alike true false m n a b x y e f = clash cc
@@ -67,7 +67,7 @@ read-lengths text T T′ A A′ place place′ t s = go (tooShort T A) (tooShort
     go false true e = clash cc
 
 -- ---- `jehvrukam_check`
-pub check-lengths : (rule sheet : Bytes) (a b : CheckAreas) (m n : CheckNumbers) → SameCheck a b → NoOther (checkEntry rule sheet a m) (checkEntry rule sheet b n)
+pub check-lengths : (rule sheet : Bytes) (a b : CheckAreas) (m n : CheckNumbers) → SameCheck a b → SameEntry (checkEntry rule sheet a m) (checkEntry rule sheet b n)
 check-lengths rule sheet a b m n h = alike (isCheckInvalid a) (isCheckInvalid b) m n a b _ _ (λ i. short-same (h .rule) i || short-same (h .sheet) i) (ofStage (checkStage rule sheet))
   where
     ofStage : (x : Stage TextsChecked) → checkAnswer a x ≡ checkAnswer b x
@@ -75,7 +75,7 @@ check-lengths rule sheet a b m n h = alike (isCheckInvalid a) (isCheckInvalid b)
     ofStage (refused e w p) = λ i. record { refusal = checkAnswer a (refused e w p) .refusal; numbers = checkAnswer a (refused e w p) .numbers; areas = record { rule = zeroed-same (h .rule) i; sheet = zeroed-same (h .sheet) i } }
 
 -- ---- `jehvrukam_fits`
-pub fits-lengths : (sheet record′ : Bytes) (a b : FitsAreas) (m n : FitsNumbers) → SameFits a b → NoOther (fitsEntry sheet record′ a m) (fitsEntry sheet record′ b n)
+pub fits-lengths : (sheet record′ : Bytes) (a b : FitsAreas) (m n : FitsNumbers) → SameFits a b → SameEntry (fitsEntry sheet record′ a m) (fitsEntry sheet record′ b n)
 fits-lengths sheet record′ a b m n h = alike (isFitsInvalid a) (isFitsInvalid b) m n a b _ _ (λ i. short-same (h .sheet) i || short-same (h .«record») i) (ofStage (fitsStage sheet record′))
   where
     ofStage : (x : Stage TextsFitted) → fitsAnswer a x ≡ fitsAnswer b x
@@ -93,7 +93,7 @@ module _ {a b : WorkAreas} (h : SameWork a b) where
   written-same : (text : Bytes) → workAreas (replicate (length (a .cells)) 0) (padded (length (a .output)) text) ≡ workAreas (replicate (length (b .cells)) 0) (padded (length (b .output)) text)
   written-same text = λ i. workAreas (replicate (h .cells i) 0) (padded (h .output i) text)
 
-pub evaluate-lengths : (rule record′ : Bytes) (limit : ℕ) (a b : Areas) (m n : Numbers) → SameEvaluate a b → NoOther (evaluateEntry rule record′ limit a m) (evaluateEntry rule record′ limit b n)
+pub evaluate-lengths : (rule record′ : Bytes) (limit : ℕ) (a b : Areas) (m n : Numbers) → SameEvaluate a b → SameEntry (evaluateEntry rule record′ limit a m) (evaluateEntry rule record′ limit b n)
 evaluate-lengths rule record′ limit a b m n h =
     alike (isInvalid limit a) (isInvalid limit b) m n a b _ _ (λ i. run-same (h .work) limit i || (short-same (h .rule) i || short-same (h .«record») i)) (ofStage (evaluateStage rule record′))
   where
@@ -110,7 +110,7 @@ evaluate-lengths rule record′ limit a b m n h =
         let x : ℕ → Answer = answerOf (t .rule .content) (t .«record») limit in
         (λ i. answered a t (x (h .work .output i) .result) (x (h .work .output i) .stepsBegun)) ∙ ofAnswer t (x (length (b .work .output)) .result) (x (length (b .work .output)) .stepsBegun)
 
-pub evaluate-checked-lengths : (rule sheet record′ : Bytes) (limit : ℕ) (a b : CheckedAreas) (m n : CheckedNumbers) → SameChecked a b → NoOther (evaluateCheckedEntry rule sheet record′ limit a m) (evaluateCheckedEntry rule sheet record′ limit b n)
+pub evaluate-checked-lengths : (rule sheet record′ : Bytes) (limit : ℕ) (a b : CheckedAreas) (m n : CheckedNumbers) → SameChecked a b → SameEntry (evaluateCheckedEntry rule sheet record′ limit a m) (evaluateCheckedEntry rule sheet record′ limit b n)
 evaluate-checked-lengths rule sheet record′ limit a b m n h =
     alike (isCheckedInvalid limit a) (isCheckedInvalid limit b) m n a b _ _ (λ i. run-same (h .work) limit i || (short-same (h .rule) i || (short-same (h .sheet) i || short-same (h .«record») i))) (ofStage (evaluateCheckedStage rule sheet record′))
   where

@@ -5,23 +5,21 @@ use mathlib.Core.Logic.{inl, inr}
 use mathlib.Core.Path.{_≡_, refl, sym, ap, subst, _∙_}
 use Prim.Native.Nat.{ℕ, _≤_}
 use native.Mathlib.Omega.{arith}
-use lib.Dec.{T, ltb}
+use lib.Dec.{T}
 use lib.ListN.{length}
 use Rattle.model.specs.Bytes.{Bytes}
 use Rattle.model.specs.Eval.{run, Outcome, value, refusal, outcome}
-use Rattle.model.specs.Judgement.{Judged, done, refuses, ruleIn, sheetIn, written, answerOf}
+use Rattle.model.specs.Judgement.{Judged, done, refuses, judgedNumber, ruleIn, sheetIn, writtenWithin, written, answerOf}
 use Rattle.model.specs.Laws.Logic.{or-e, T→true}
 use Rattle.model.specs.Laws.Types.{sameTy-refl}
 use Rattle.model.specs.Limits.{maxSteps}
 use Rattle.model.specs.Main.{EndsWell}
-use Rattle.model.specs.Refusal.{notRule, notSheet, answerTooLarge, outputTooShort}
+use Rattle.model.specs.Refusal.{notRule, notSheet}
 use Rattle.model.specs.Run.{steps}
 use Rattle.model.specs.Shape.{shape}
 use Rattle.model.specs.Sheet.{sheetOf, fits}
-use Rattle.model.specs.Size.{isTooLarge}
 use Rattle.model.specs.Types.{Types, belongs, hasType, isIn, sameTy, typeBits}
 use Rattle.model.specs.Value.{Value}
-use Rattle.model.specs.Writing.{valueText}
 use Rattle.model.specs.declared.Ty.{Ty}
 use Rattle.syntax.specs.Demand3.{demand-3a-bytes}
 use Rattle.stages.specs.Areas.{isShort}
@@ -37,7 +35,7 @@ use Rattle.promises.specs.Calls.{Accepts, SaysFits, Runs, EndsNamed, Run
 use Rattle.promises.specs.Words.{bitOf, BelongsTo}
 use Rattle.promises.specs.Laws.Bits.{bit-tells}
 use Rattle.promises.specs.Laws.Checked.{types-some, told-words, begun-by-number, without-sheet}
-use Rattle.promises.specs.Laws.Entries.{Behind, behind, zero-not-1, limit-within, passed-same, both-read, checked-held, unsheeted-read}
+use Rattle.promises.specs.Laws.Entries.{Behind, behind, written-number, zero-not-1, limit-within, passed-same, both-read, checked-held, unsheeted-read}
 use Rattle.promises.specs.Laws.Written.{evaluate-reads-back, checked-reads-back}
 
 -- ---- types and bits
@@ -137,15 +135,11 @@ demand-3a rule sheet record′ words limit accepts says within =
 ends-so : (words : ℕ) (a : Areas) (t : TextsRead) (k : ℕ) (o : Outcome) → EndsNamed words o → EndsSo (answered a t (written (length (a .work .output)) o) k .refusal)
 ends-so words a t k (refusal e) (inl h) = rw h in-range
 ends-so words a t k (refusal e) (inr h) = rw h in-steps
-ends-so words a t k (value v) h = large (isTooLarge v)
+ends-so words a t k (value v) h = subst EndsSo (sym (told-number (writtenWithin (length (a .work .output)) v))) (written-number EndsSo (length (a .work .output)) v in-value in-size in-output)
   where
-    short : (b : Bool) (x : Bytes) → EndsSo (answered a t (cond b (refuses outputTooShort) (done x)) k .refusal)
-    short true x = in-output
-    short false x = in-value
-
-    large : (b : Bool) → EndsSo (answered a t (cond b (refuses answerTooLarge) (cond (ltb (length (a .work .output)) (length (valueText v))) (refuses outputTooShort) (done (valueText v)))) k .refusal)
-    large true = in-size
-    large false = short (ltb (length (a .work .output)) (length (valueText v))) (valueText v)
+    told-number : (j : Judged Bytes) → answered a t j k .refusal ≡ judgedNumber j
+    told-number (done x) = refl
+    told-number (refuses x) = refl
 
 -- Of a run that ends so, in any valid areas.
 entry-ends-so : (rule record′ : Bytes) (words limit : ℕ) (a : Areas) → RunsNamed rule record′ limit words → EndsSo (evaluateAnswer a limit (evaluateStage rule record′) .refusal)

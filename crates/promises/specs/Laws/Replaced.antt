@@ -18,7 +18,7 @@ use Rattle.stages.specs.Stage.{passed, ruleText}
 use Rattle.stages.specs.Texts.{TextRead, ruleStage, TextsRead, evaluateStage}
 use Rattle.jehvrukam.specs.Entry.{untouched}
 use Rattle.jehvrukam.specs.Evaluate.{Areas, Numbers, Evaluated, isInvalid, answered, evaluateAnswer, evaluateEntry}
-use Rattle.promises.specs.Lengths.{SameEvaluate, NoOther}
+use Rattle.promises.specs.Lengths.{SameEvaluate, SameEntry}
 use Rattle.promises.specs.Replacement.{Replacement, RunsAlike, Alike}
 use Rattle.promises.specs.Laws.Entries.{both-read}
 use Rattle.promises.specs.Laws.Lengths.{evaluate-lengths}
@@ -81,8 +81,8 @@ module _ (text record′ before old after new : Bytes) (limit : ℕ) (h : Replac
           entry-is s = rw (e, evaluateEntry)
 
 -- What the areas and numbers held plays no part.
-no-other-alike : {x y z : Evaluated} → NoOther x y → Alike y z → Alike x z
-no-other-alike e h = record {
+same-alike : {x y z : Evaluated} → SameEntry x y → Alike y z → Alike x z
+same-alike e h = record {
   refusal = e .refusal ∙ h .refusal;
   numbers = λ k. (λ i. e .whole k i .numbers) ∙ h .numbers (λ z. k (e .refusal ∙ z));
   record-areas = λ k. (λ i. e .whole k i .areas .«record») ∙ h .record-areas (λ z. k (e .refusal ∙ z));
@@ -102,4 +102,4 @@ pub demand-3b-entry :
     → SameEvaluate a b
     → Alike (evaluateEntry (before ++ (new ++ after)) record′ limit b n) (evaluateEntry text record′ limit a m)
 demand-3b-entry text record′ before old after new limit a b m n h same =
-    no-other-alike (evaluate-lengths (before ++ (new ++ after)) record′ limit b a n m (same-lengths same)) (same-areas text record′ before old after new limit h a m)
+    same-alike (evaluate-lengths (before ++ (new ++ after)) record′ limit b a n m (same-lengths same)) (same-areas text record′ before old after new limit h a m)

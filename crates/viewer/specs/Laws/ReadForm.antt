@@ -24,6 +24,7 @@ use Rattle.syntax.specs.Laws.Sound.{sound}
 use Rattle.syntax.specs.Laws.Stands.{Stands, front, back, part-stands, word-stands, behind, starts}
 use Rattle.syntax.specs.Laws.StringsFit.{strings-small}
 use Rattle.syntax.specs.Laws.WellFormed.{read-well-formed}
+use Rattle.syntax.specs.Laws.Widths.{text-small, values-small}
 use Rattle.syntax.specs.Read.{done, read}
 use Rattle.viewer.specs.declared.row.Row.{Row}
 use Rattle.viewer.specs.declared.row.Span.{Span}
@@ -43,13 +44,8 @@ numbers kind name x y = record { kind = kind; name = record { start = name .star
 abbrev Fits : Label → Type 0
 Fits name = name .start + name .size ≤ maxTextBytes
 
-text-small : {n : ℕ} → n ≤ maxTextBytes → n < 16777216
-unfolding maxTextBytes
-text-small h = omega arith
-
 row-word : {n : ℕ} → n ≤ maxValues → n < 4294967296
-unfolding maxValues
-row-word h = omega arith
+row-word h = omega (arith, values-small h)
 
 row-numbers : {A : Bytes} (i kind : ℕ) (name : Label) (x y : ℕ) → Stands A (i * rowBytes) (row kind name x y) → Fits name
     → kind < 256 → x < 4294967296 → y < 4294967296 → numbersAt A i ≡ numbers kind name x y

@@ -22,7 +22,7 @@ use Rattle.viewer.specs.declared.part.PartAnswer.the-variants as parts
 use Rattle.viewer.specs.Answer.{Seen, seenOf, nameOf, integerOf, stringOf, placeOf}
 use Rattle.viewer.specs.Form.{isWithin, isInteger, isSpan, hasContent, hasForm}
 use Rattle.viewer.specs.Row.{rowCount, numbersAt, joined, countOf, endOf}
-use Rattle.viewer.specs.Shows.{Inside}
+use Rattle.viewer.specs.Inside.{Inside}
 use Rattle.viewer.specs.View.{rowSeen, nextOf, nextWithin, nthWithin, partOf, partOfRow, partSeen}
 
 -- ---- a row that is told

@@ -3,7 +3,7 @@ use Prim.Native.Nat.{suc}
 use native.Mathlib.Omega.{arith}
 use borrow.Author.Tests.{le-leb, lt-leb}
 use Rattle.model.specs.Limits.{maxInteger}
-use Rattle.viewer.proofs.Tests.{same-le}
+use Rattle.model.specs.Laws.Tests.{same-le}
 use Rattle.viewer.proofs.row.is_integer.Statement.{statement}
 use Rattle.viewer.proofs.row.is_integer.Tie as tie
 

@@ -4,7 +4,7 @@ use Prim.Native.Nat.{_+_, _-_}
 use native.Mathlib.Omega.{arith}
 use borrow.Author.Tests.{lt-ltb, le-ltb, le-leb, lt-leb, eq-eqb, ne-eqb}
 use lib.Dec.{leb}
-use Rattle.viewer.proofs.Tests.{same-eq}
+use Rattle.model.specs.Laws.Tests.{same-eq}
 use Rattle.viewer.proofs.row.is_span.Statement.{statement}
 use Rattle.viewer.proofs.row.is_span.Tie as tie
 

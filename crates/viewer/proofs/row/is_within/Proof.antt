@@ -2,7 +2,7 @@ use Prim.Native.Nat.{_+_, _-_}
 use native.Mathlib.Omega.{arith}
 use borrow.Author.Tests.{lt-leb}
 use Rattle.model.specs.Limits.{maxTextBytes}
-use Rattle.viewer.proofs.Tests.{same-le}
+use Rattle.model.specs.Laws.Tests.{same-le}
 use Rattle.viewer.proofs.row.is_within.Statement.{statement}
 use Rattle.viewer.proofs.row.is_within.Tie as tie
 
