@@ -6,6 +6,11 @@ use crate::step::fail;
 use chars::chars;
 use scan::number::number;
 use scan::token::literal;
+use syntax::FALSE_ROW;
+use syntax::INTEGER_ROW;
+use syntax::NULL_ROW;
+use syntax::STRING_ROW;
+use syntax::TRUE_ROW;
 use syntax::Word;
 ghost use mathlib.Core.Path.{_≡_};
 ghost use Prim.Native.Nat.{_<_};
@@ -18,9 +23,9 @@ fn kind_of(word: Word) -> usize
     ensures { λ r. ⌜ r ≡ kindOf word ⌝ }
 {
     match word {
-        Word::NullWord => 1,
-        Word::FalseWord => 2,
-        Word::TrueWord => 3,
+        Word::NullWord => NULL_ROW,
+        Word::FalseWord => FALSE_ROW,
+        Word::TrueWord => TRUE_ROW,
     }
 }
 
@@ -70,7 +75,7 @@ pub fn read_number(
     }
     let low = (n.biased % 4294967296) as usize;
     let high = (n.biased / 4294967296) as usize;
-    put_row(table, row, 4, name, low, high);
+    put_row(table, row, INTEGER_ROW, name, low, high);
     Step {
         fault: 0,
         at: n.at,
@@ -97,7 +102,7 @@ pub fn read_string(
     if s.fault != 0 {
         return fail(s.fault, s.at);
     }
-    put_row(table, row, 5, name, used, s.used - used);
+    put_row(table, row, STRING_ROW, name, used, s.used - used);
     Step {
         fault: 0,
         at: s.at + 1,

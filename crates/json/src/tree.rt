@@ -14,6 +14,8 @@ use crate::step::fail;
 use scan::token::skip_white;
 use scan::token::stands;
 use scan::token::start;
+use syntax::ARRAY_ROW;
+use syntax::OBJECT_ROW;
 use syntax::Start;
 ghost use mathlib.Core.List.{[]};
 ghost use Prim.Native.Nat.{_<_};
@@ -64,10 +66,10 @@ fn array(
 {
     let first = skip_white(text, at);
     if stands(text, first, 93) {
-        return empty(table, row, 6, name, first, used);
+        return empty(table, row, ARRAY_ROW, name, first, used);
     }
     let s = all_items(text, first, table, row + 1, strings, used, depth + 1);
-    filled(table, row, 6, name, s)
+    filled(table, row, ARRAY_ROW, name, s)
 }
 
 // What follows an opening brace.
@@ -86,10 +88,10 @@ fn object(
 {
     let first = skip_white(text, at);
     if stands(text, first, 125) {
-        return empty(table, row, 7, name, first, used);
+        return empty(table, row, OBJECT_ROW, name, first, used);
     }
     let s = all_members(text, first, table, row + 1, strings, used, depth + 1);
-    filled(table, row, 7, name, s)
+    filled(table, row, OBJECT_ROW, name, s)
 }
 
 // One item or more, and the closing bracket.

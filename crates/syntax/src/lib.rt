@@ -13,6 +13,21 @@ pub const TABLE_BYTES: usize = MAX_VALUES * (ROW_BYTES + ENTRY_BYTES);
 
 pub const STRINGS_BYTES: usize = MAX_TEXT_BYTES;
 
+// The kinds of rows, as specs/Layout.antt numbers them.
+pub const NULL_ROW: usize = 1;
+
+pub const FALSE_ROW: usize = 2;
+
+pub const TRUE_ROW: usize = 3;
+
+pub const INTEGER_ROW: usize = 4;
+
+pub const STRING_ROW: usize = 5;
+
+pub const ARRAY_ROW: usize = 6;
+
+pub const OBJECT_ROW: usize = 7;
+
 // What is added to an integer in a row: 2^53.
 pub const BIAS: u64 = MAX_INTEGER + 1;
 
