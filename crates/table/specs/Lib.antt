@@ -1,0 +1,7 @@
+-- Rows of a read table: the definitions, in the order to read them; then the theorems.
+pub mod Row
+pub mod Node
+pub mod Strings
+pub mod Denotes
+pub mod Main
+pub mod Laws
