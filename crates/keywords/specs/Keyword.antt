@@ -10,7 +10,7 @@ use Rattle.model.specs.Value.{withinLimits}
 use Rattle.model.specs.declared.Comparison.{Comparison}
 use Rattle.model.specs.declared.Domain.{Domain}
 use Rattle.model.specs.declared.TimeUnit.{TimeUnit}
-use Rattle.syntax.specs.Layout.{biased}
+use Rattle.syntax.specs.Layout.{biased, unbiased}
 use Rattle.keywords.specs.declared.Keyword.{Keyword}
 use Rattle.keywords.specs.declared.Keyword.the-variants as Keywords
 use Rattle.keywords.specs.declared.Op.{Op}
@@ -23,20 +23,17 @@ abbrev pub unitOf : UnitAnswer → Option TimeUnit
 unitOf Units.NoUnit = none
 unitOf (Units.Unit u) = some u
 
--- The operation on so many rules and nothing else. One that is written otherwise is taken for an array, which no name stands for.
-abbrev pub countedOf : Op → Operation
-countedOf Ops.Array = Operation.array
-countedOf Ops.If = Operation.array
-countedOf Ops.And = Operation.array
-countedOf Ops.Reduce = Operation.array
-countedOf Ops.Equal = Operation.equal
-countedOf Ops.MemberOf = Operation.memberOf
-countedOf Ops.Plus = Operation.plus
-countedOf Ops.Not = Operation.not
-countedOf Ops.DateOfBirth = Operation.dateOfBirth
-countedOf (Ops.Compare d c) = Operation.compare d c
-countedOf (Ops.PlusTime n u) = Operation.array
-countedOf (Ops.ExtractFromUvci n) = Operation.array
+-- The operation in the model's terms. 2^53 was added to an amount or index.
+abbrev pub operationOf : Op → Operation
+operationOf Ops.Array = Operation.array
+operationOf Ops.Equal = Operation.equal
+operationOf Ops.MemberOf = Operation.memberOf
+operationOf Ops.Plus = Operation.plus
+operationOf Ops.Not = Operation.not
+operationOf Ops.DateOfBirth = Operation.dateOfBirth
+operationOf (Ops.Compare d c) = Operation.compare d c
+operationOf (Ops.PlusTime n u) = Operation.plusTime (unbiased n) u
+operationOf (Ops.ExtractFromUvci n) = Operation.extractFromUVCI (unbiased n)
 
 -- The keyword in the model's terms; none where no name fits.
 abbrev pub keywordOf : Keyword → Option ModelKeyword
@@ -47,7 +44,7 @@ keywordOf Keywords.Reduce = some reduce
 keywordOf Keywords.And = some and
 keywordOf Keywords.PlusTime = some plusTime
 keywordOf Keywords.ExtractFromUvci = some extractFromUVCI
-keywordOf (Keywords.Counted least most op) = some (counted least most (countedOf op))
+keywordOf (Keywords.Counted least most op) = some (counted least most (operationOf op))
 
 -- The operation, with its number of operands as 01's table has it. 2^53 was added to an amount or index.
 pub data Stands : Op → Operation → ℕ → Type 0 where

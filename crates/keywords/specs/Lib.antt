@@ -1,3 +1,2 @@
--- The names of operations and units, in the terms of the model; then the laws.
+-- The names of operations and units, in the terms of the model.
 pub mod Keyword
-pub mod Laws

@@ -13,9 +13,6 @@ ghost use Rattle.keywords.specs.Keyword.{keywordOf, unitOf};
 // What is done with operands. 2^53 was added to an amount and an index.
 pub enum Op {
     Array,
-    If,
-    And,
-    Reduce,
     Equal,
     MemberOf,
     Plus,

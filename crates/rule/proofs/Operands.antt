@@ -19,73 +19,57 @@ use Rattle.model.specs.Size.{nesting, itemsNesting}
 use Rattle.model.specs.Value.{Value, array, object, Values, no-items, item, no-members, member, asInteger, asString, withinLimits}
 use Rattle.model.specs.declared.TimeUnit.{TimeUnit}
 use Rattle.syntax.specs.Layout.{itemCount, biased}
-use Rattle.heap.specs.declared.handle.Area.{Area}
-use Rattle.heap.specs.declared.handle.Area.the-variants as Of
-use Rattle.heap.specs.declared.handle.Handle.{Handle}
-use Rattle.heap.specs.declared.handle.Handle.the-variants.{Integer, Compound}
-use Rattle.heap.specs.declared.handle.Parts.{Parts}
-use Rattle.heap.specs.Handles.{rowHandle, nextRow}
-use Rattle.heap.specs.Means.{Means, means-null, means-false, means-true, means-integer, means-instant, means-string, means-items, means-members, means-list, means-context, Lies, RowItems, no-row-items, row-item}
-use Rattle.heap.specs.Strings.{part, areaBytes}
-use Rattle.heap.specs.Laws.Means as MeansLaws
-use Rattle.heap.specs.Unfold.{readAreas}
+use Rattle.table.specs.declared.node.Node.{Node}
+use Rattle.table.specs.declared.node.Node.the-variants.{Integer, Array}
+use Rattle.table.specs.declared.node.Rows.{Rows}
+use Rattle.table.specs.Denotes.{Denotes, denotes-null, denotes-false, denotes-true, denotes-integer, denotes-string, denotes-array, denotes-object, RowItems, no-row-items, row-item}
+use Rattle.table.specs.Node.{nodeAt, nextRow}
+use Rattle.table.specs.Laws.Denotes as DenotesLaws
 use Rattle.keywords.specs.declared.Keyword.{Keyword}
 use Rattle.keywords.specs.declared.Keyword.the-variants as Keywords
 use Rattle.keywords.specs.declared.Op.{Op}
 use Rattle.keywords.specs.declared.Op.the-variants as Ops
-use Rattle.keywords.specs.Keyword.{countedOf, keywordOf, Stands, stands-plus-time, stands-extract}
+use Rattle.keywords.specs.Keyword.{operationOf, keywordOf, Stands, stands-plus-time, stands-extract}
+use Rattle.rule.specs.declared.view.Shape.{Shape}
+use Rattle.rule.specs.declared.view.Shape.the-variants as Seen
 use Rattle.rule.specs.declared.view.View.{View}
-use Rattle.rule.specs.declared.view.View.the-variants as Seen
+use Rattle.rule.specs.declared.view.View.the-variants as Views
 use Rattle.rule.specs.Holds.{ruleCount}
 use Rattle.rule.specs.Inner.{countedOn, andOn, firstOf, unitAt, plusTimeOf, plusTimeBy, plusTimeOn, extractBy, extractOn, operandsOn}
-use Rattle.rule.specs.View.{Built, built-if, built-and, built-reduce, built-apply, Builds, Operates, Views, views-none, views-operation}
+use Rattle.rule.specs.View.{Built, built-if, built-and, built-reduce, built-apply, Builds, Operates, Shaped, shaped-none, shaped-operation}
 use Rattle.rule.specs.Laws.Holds.{rules-count}
 use Rattle.rule.proofs.Chains.{bind-none, one-refused, one-built, three-refused, three-built, unit-chain, operands-length, chain3, Two, two, two-of, ThreeItems, three, three-of, exactly2-none, exactly3-none}
 use Rattle.rule.proofs.Table.{named-stands}
 
--- The strings of a rule are one area.
-pub rule-part : {B : Bytes} {start size : ℕ} {s : Bytes} (area : Area) → Lies (areaBytes [] B area) start size s → Lies B start size s
-rule-part {B} {start} {size} Of.Rule l = record {
-  is = l .is ∙ none-taken size start (l .inside);
-  inside = omega (arith, l .inside);
-  short = l .short;
-}
-  where
-    none-taken : (size start : ℕ) → start + size ≤ 0 → part [] start size ≡ part B start size
-    none-taken zero zero h = refl
-    none-taken zero (suc start) h = absurd (omega arith)
-    none-taken (suc size) start h = absurd (omega arith)
-rule-part Of.Record l = l
-
 -- ---- the number of operands
-module _ {T B : Bytes} {v : Value} {q : Parts} where
+module _ {T B : Bytes} {v : Value} {q : Rows} where
   -- From `least` to `most` of them.
-  counted-views : (least most : ℕ) (op : Op) → (q .count < least → shape v ≡ none) → (most < q .count → shape v ≡ none) → (least ≤ q .count → q .count ≤ most → Operates T B v op q)
-      → Views T B v (countedOn least most op q)
-  counted-views least most op below above fits = low (decLt (q .count) least)
+  counted-views : (least most : ℕ) (w : View) → (q .count < least → shape v ≡ none) → (most < q .count → shape v ≡ none) → (least ≤ q .count → q .count ≤ most → Operates T B v w q)
+      → Shaped T B v (countedOn least most w q)
+  counted-views least most w below above fits = low (decLt (q .count) least)
     where
-      high : least ≤ q .count → Dec (most < q .count) → Views T B v (cond (ltb most (q .count)) Seen.NotRule (Seen.Operation op q))
-      high l (yes p) = rw (lt-ltb most (q .count) p) (views-none (above p))
-      high l (no p) = rw (le-ltb most (q .count) (omega arith)) (views-operation (fits l (omega arith)))
+      high : least ≤ q .count → Dec (most < q .count) → Shaped T B v (cond (ltb most (q .count)) Seen.NotRule (Seen.Rule w))
+      high l (yes p) = rw (lt-ltb most (q .count) p) (shaped-none (above p))
+      high l (no p) = rw (le-ltb most (q .count) (omega arith)) (shaped-operation (fits l (omega arith)))
 
-      low : Dec (q .count < least) → Views T B v (cond (ltb (q .count) least) Seen.NotRule (cond (ltb most (q .count)) Seen.NotRule (Seen.Operation op q)))
-      low (yes p) = rw (lt-ltb (q .count) least p) (views-none (below p))
+      low : Dec (q .count < least) → Shaped T B v (cond (ltb (q .count) least) Seen.NotRule (cond (ltb most (q .count)) Seen.NotRule (Seen.Rule w)))
+      low (yes p) = rw (lt-ltb (q .count) least p) (shaped-none (below p))
       low (no p) = rw (le-ltb (q .count) least (omega arith)) (high (omega arith) (decLt most (q .count)))
 
-  and-views : (q .count < 2 → shape v ≡ none) → (2 ≤ q .count → Operates T B v Ops.And q) → Views T B v (andOn q)
+  and-views : (q .count < 2 → shape v ≡ none) → (2 ≤ q .count → Operates T B v (Views.And q) q) → Shaped T B v (andOn q)
   and-views below fits = go (decLt (q .count) 2)
     where
-      go : Dec (q .count < 2) → Views T B v (cond (ltb (q .count) 2) Seen.NotRule (Seen.Operation Ops.And q))
-      go (yes p) = rw (lt-ltb (q .count) 2 p) (views-none (below p))
-      go (no p) = rw (le-ltb (q .count) 2 (omega arith)) (views-operation (fits (omega arith)))
+      go : Dec (q .count < 2) → Shaped T B v (cond (ltb (q .count) 2) Seen.NotRule (Seen.Rule (Views.And q)))
+      go (yes p) = rw (lt-ltb (q .count) 2 p) (shaped-none (below p))
+      go (no p) = rw (le-ltb (q .count) 2 (omega arith)) (shaped-operation (fits (omega arith)))
 
 -- Exactly n of them.
-exact-views : {T B : Bytes} {v : Value} (count n : ℕ) {w : View} → ((count ≡ n → ⊥) → shape v ≡ none) → (count ≡ n → Views T B v w) → Views T B v (cond (eqb count n) w Seen.NotRule)
+exact-views : {T B : Bytes} {v : Value} (count n : ℕ) {w : Shape} → ((count ≡ n → ⊥) → shape v ≡ none) → (count ≡ n → Shaped T B v w) → Shaped T B v (cond (eqb count n) w Seen.NotRule)
 exact-views {T} {B} {v} count n {w} others fits = go (eqb count n) refl
   where
-    go : (b : Bool) → eqb count n ≡ b → Views T B v (cond b w Seen.NotRule)
+    go : (b : Bool) → eqb count n ≡ b → Shaped T B v (cond b w Seen.NotRule)
     go true e = fits (eqb-true count n e)
-    go false e = views-none (others (eqb-false count n e))
+    go false e = shaped-none (others (eqb-false count n e))
 
 -- ---- operations by keyword
 -- An object of one member.
@@ -100,41 +84,41 @@ of-nests : (name : Bytes) (vs : Values) → suc (itemsNesting vs) ≤ nesting (o
 unfolding nesting
 of-nests name vs = omega arith
 
-module _ {T B : Bytes} {vs : Values} {q : Parts} (name : Bytes) (m : Means (readAreas T B) 0 (array vs) (Compound q)) where
+module _ {T B : Bytes} {vs : Values} {q : Rows} (name : Bytes) (m : Denotes T B (array vs) (Array q)) where
   count-is : q .count ≡ itemCount vs
-  count-is = MeansLaws.array-count m
+  count-is = DenotesLaws.array-count m
 
   nests : suc (itemsNesting vs) ≤ nesting (of name (array vs))
   nests = of-nests name vs
 
   -- Three rules.
-  three-views : (op : Op) (f : Rule → Rule → Rule → Rule) → ((r₀ r₁ r₂ : Rule) → Built op (rule r₀ (rule r₁ (rule r₂ no-rules))) (f r₀ r₁ r₂))
+  three-views : (w : View) (f : Rule → Rule → Rule → Rule) → ((r₀ r₁ r₂ : Rule) → Built w q (rule r₀ (rule r₁ (rule r₂ no-rules))) (f r₀ r₁ r₂))
       → shape (of name (array vs)) ≡ exactly3 (operandsOf vs) (λ a b c. chain3 (a .asRule) (b .asRule) (c .asRule) f)
-      → Views T B (of name (array vs)) (countedOn 3 3 op q)
+      → Shaped T B (of name (array vs)) (countedOn 3 3 w q)
   unfolding operandsOf
-  three-views op f b e =
-      counted-views 3 3 op
+  three-views w f b e =
+      counted-views 3 3 w
       (λ l. e ∙ exactly3-none vs _ (λ x. omega (arith, count-is)))
       (λ l. e ∙ exactly3-none vs _ (λ x. omega (arith, count-is)))
       (λ l k. operates (three-of vs (omega (arith, count-is))) e m nests)
     where
       operates : {ws : Values} → ThreeItems ws → shape (of name (array vs)) ≡ exactly3 (operandsOf ws) (λ a b c. chain3 (a .asRule) (b .asRule) (c .asRule) f)
-          → Means (readAreas T B) 0 (array ws) (Compound q) → suc (itemsNesting ws) ≤ nesting (of name (array vs)) → Operates T B (of name (array vs)) op q
+          → Denotes T B (array ws) (Array q) → suc (itemsNesting ws) ≤ nesting (of name (array vs)) → Operates T B (of name (array vs)) w q
       operates (three {a = a} {b = b′} {c = c}) e m n = record {
         operands = item a (item b′ (item c no-items));
-        means = m;
+        denotes = m;
         nests = n;
         refused = λ x. e ∙ three-refused (shape a) (shape b′) (shape c) f x;
         builds = λ rs x.
             let t = three-built (shape a) (shape b′) (shape c) f rs x in
-            record { whole = f (t .first) (t .second) (t .third); shaped = e ∙ t .chain; built = subst (λ (xs : Rules). Built op xs (f (t .first) (t .second) (t .third))) (sym (t .all)) (b (t .first) (t .second) (t .third)) };
+            record { whole = f (t .first) (t .second) (t .third); shaped = e ∙ t .chain; built = subst (λ (xs : Rules). Built w q xs (f (t .first) (t .second) (t .third))) (sym (t .all)) (b (t .first) (t .second) (t .third)) };
       }
 
   -- Two rules or more.
-  and-operates : 2 ≤ q .count → shape (of name (array vs)) ≡ when (leb 2 (length (operandsOf vs))) (rulesOf (operandsOf vs) >>= andOf) → Operates T B (of name (array vs)) Ops.And q
+  and-operates : 2 ≤ q .count → shape (of name (array vs)) ≡ when (leb 2 (length (operandsOf vs))) (rulesOf (operandsOf vs) >>= andOf) → Operates T B (of name (array vs)) (Views.And q) q
   and-operates l e = record {
     operands = vs;
-    means = m;
+    denotes = m;
     nests = nests;
     refused = λ x. whole ∙ ap (λ (o : Option Rules). o >>= andOf) x;
     builds = λ rs x. builds rs (whole ∙ ap (λ (o : Option Rules). o >>= andOf) x) (omega (arith, count-is, rules-count vs rs x));
@@ -143,11 +127,11 @@ module _ {T B : Bytes} {vs : Values} {q : Parts} (name : Bytes) (m : Means (read
       whole : shape (of name (array vs)) ≡ (rulesOf (operandsOf vs) >>= andOf)
       whole = e ∙ ap (λ (b : Bool). when b (rulesOf (operandsOf vs) >>= andOf)) (le-leb 2 (length (operandsOf vs)) (omega (arith, count-is, operands-length vs)))
 
-      builds : (rs : Rules) → shape (of name (array vs)) ≡ andOf rs → 2 ≤ ruleCount rs → Builds (of name (array vs)) Ops.And rs
+      builds : (rs : Rules) → shape (of name (array vs)) ≡ andOf rs → 2 ≤ ruleCount rs → Builds (of name (array vs)) (Views.And q) q rs
       builds no-rules f k = absurd (omega arith)
       builds (rule r rs) f k = record { whole = Rule.and r rs; shaped = f; built = built-and }
 
-  all-views : shape (of name (array vs)) ≡ when (leb 2 (length (operandsOf vs))) (rulesOf (operandsOf vs) >>= andOf) → Views T B (of name (array vs)) (andOn q)
+  all-views : shape (of name (array vs)) ≡ when (leb 2 (length (operandsOf vs))) (rulesOf (operandsOf vs) >>= andOf) → Shaped T B (of name (array vs)) (andOn q)
   all-views e =
       and-views
       (λ l. e ∙ ap (λ (b : Bool). when b (rulesOf (operandsOf vs) >>= andOf)) (lt-leb 2 (length (operandsOf vs)) (omega (arith, count-is, operands-length vs))))
@@ -169,17 +153,17 @@ module _ {T B : Bytes} {vs : Values} {q : Parts} (name : Bytes) (m : Means (read
     and-none true = refl
     and-none false = refl
 
-    some-views : shape (of name (array vs)) ≡ counting (leb least (length (operandsOf vs))) (leb (length (operandsOf vs)) most) → Views T B (of name (array vs)) (countedOn least most op q)
+    some-views : shape (of name (array vs)) ≡ counting (leb least (length (operandsOf vs))) (leb (length (operandsOf vs)) most) → Shaped T B (of name (array vs)) (countedOn least most (Views.Apply op q) q)
     some-views e =
-        counted-views least most op
+        counted-views least most (Views.Apply op q)
         (λ l. e ∙ ap (λ (b : Bool). counting b (leb (length (operandsOf vs)) most)) (low false (lt-leb least (q .count) l)))
         (λ l. e ∙ ap (counting (leb least (length (operandsOf vs)))) (high false (lt-leb (q .count) most l)) ∙ and-none (leb least (length (operandsOf vs))))
         (λ l k. operates l k (e ∙ ap₂ counting (low true (le-leb least (q .count) l)) (high true (le-leb (q .count) most k))))
       where
-        operates : least ≤ q .count → q .count ≤ most → shape (of name (array vs)) ≡ (rulesOf (operandsOf vs) >>= λ rs. some (apply o rs)) → Operates T B (of name (array vs)) op q
+        operates : least ≤ q .count → q .count ≤ most → shape (of name (array vs)) ≡ (rulesOf (operandsOf vs) >>= λ rs. some (apply o rs)) → Operates T B (of name (array vs)) (Views.Apply op q) q
         operates l k f = record {
           operands = vs;
-          means = m;
+          denotes = m;
           nests = nests;
           refused = λ x. f ∙ ap (λ (r : Option Rules). r >>= λ rs. some (apply o rs)) x;
           builds = λ rs x. record {
@@ -191,9 +175,9 @@ module _ {T B : Bytes} {vs : Values} {q : Parts} (name : Bytes) (m : Means (read
 
 -- ---- bare integers and units
 -- What an integer stands for, and what no integer does.
-data IntegerAt (v : Value) (h : Handle) : Type 0 where
+data IntegerAt (v : Value) (h : Node) : Type 0 where
   integer-at : {z : ℤ} {n : ℕ} → h ≡ Integer n → asInteger v ≡ some z → IsTrue (withinLimits z) → n ≡ biased z → IntegerAt v h
-  other-at : asInteger v ≡ none → ((u : Option TimeUnit) (q : Parts) → plusTimeBy h u q ≡ Seen.NotRule) → ((q : Parts) → extractBy h q ≡ Seen.NotRule) → IntegerAt v h
+  other-at : asInteger v ≡ none → ((u : Option TimeUnit) (q : Rows) → plusTimeBy h u q ≡ Seen.NotRule) → ((q : Rows) → extractBy h q ≡ Seen.NotRule) → IntegerAt v h
 
 -- ---- one rule and bare operands
 -- The rule that each of the two builds.
@@ -212,124 +196,117 @@ shifted o i t = do
   some (apply (Operation.plusTime n u) (rule r no-rules))
 
 -- The first item alone, and the others where they lie.
-record Bare (T B : Bytes) (a b : Value) (vs : Values) (q : Parts) : Type 0 where
-  only : Means (readAreas T B) 0 (array (item a no-items)) (Compound (firstOf q))
-  second : Means (readAreas T B) 0 b (rowHandle T (nextRow T (q .first)))
-  rest : RowItems (readAreas T B) (nextRow T (nextRow T (q .first))) vs
+record Bare (T B : Bytes) (a b : Value) (vs : Values) (q : Rows) : Type 0 where
+  only : Denotes T B (array (item a no-items)) (Array (firstOf q))
+  second : Denotes T B b (nodeAt T (nextRow T (q .first)))
+  rest : RowItems T B (nextRow T (nextRow T (q .first))) vs
 
 module _ {T B : Bytes} where
-  integer-of : {v : Value} {h : Handle} → Means (readAreas T B) 0 v h → IntegerAt v h
-  integer-of means-null = other-at refl (λ u q. refl) (λ q. refl)
-  integer-of means-false = other-at refl (λ u q. refl) (λ q. refl)
-  integer-of means-true = other-at refl (λ u q. refl) (λ q. refl)
-  integer-of (means-integer w e) = integer-at refl refl w e
-  integer-of (means-instant w e) = other-at refl (λ u q. refl) (λ q. refl)
-  integer-of (means-string l) = other-at refl (λ u q. refl) (λ q. refl)
-  integer-of (means-items e f r) = other-at refl (λ u q. refl) (λ q. refl)
-  integer-of (means-members e f r) = other-at refl (λ u q. refl) (λ q. refl)
-  integer-of (means-list e b r) = other-at refl (λ u q. refl) (λ q. refl)
-  integer-of (means-context b i m n) = other-at refl (λ u q. refl) (λ q. refl)
+  integer-of : {v : Value} {h : Node} → Denotes T B v h → IntegerAt v h
+  integer-of denotes-null = other-at refl (λ u q. refl) (λ q. refl)
+  integer-of denotes-false = other-at refl (λ u q. refl) (λ q. refl)
+  integer-of denotes-true = other-at refl (λ u q. refl) (λ q. refl)
+  integer-of (denotes-integer w e) = integer-at refl refl w e
+  integer-of (denotes-string l) = other-at refl (λ u q. refl) (λ q. refl)
+  integer-of (denotes-array e f r) = other-at refl (λ u q. refl) (λ q. refl)
+  integer-of (denotes-object e f r) = other-at refl (λ u q. refl) (λ q. refl)
 
-  unit-of : {v : Value} {h : Handle} → Means (readAreas T B) 0 v h → asString v >>= unitNamed ≡ unitAt B h
-  unit-of means-null = refl
-  unit-of means-false = refl
-  unit-of means-true = refl
-  unit-of (means-integer w e) = refl
-  unit-of (means-instant w e) = refl
-  unit-of (means-string {area = area} l) = ap unitNamed (rule-part area l .is)
-  unit-of (means-items e f r) = refl
-  unit-of (means-members e f r) = refl
-  unit-of (means-list e b r) = refl
-  unit-of (means-context b i m n) = refl
+  unit-of : {v : Value} {h : Node} → Denotes T B v h → asString v >>= unitNamed ≡ unitAt B h
+  unit-of denotes-null = refl
+  unit-of denotes-false = refl
+  unit-of denotes-true = refl
+  unit-of (denotes-integer w e) = refl
+  unit-of (denotes-string l) = ap unitNamed (l .is)
+  unit-of (denotes-array e f r) = refl
+  unit-of (denotes-object e f r) = refl
 
-  bare : {a b : Value} {vs : Values} {q : Parts} → Means (readAreas T B) 0 (array (item a (item b vs))) (Compound q) → Bare T B a b vs q
+  bare : {a b : Value} {vs : Values} {q : Rows} → Denotes T B (array (item a (item b vs))) (Array q) → Bare T B a b vs q
   unfolding itemCount maxValues
-  bare {a} (means-items {row = row} e f (row-item l t m (row-item l′ t′ m′ r))) = record {
-    only = means-items {vs = item a no-items} {row = row} {count = 1} refl (omega arith) (row-item {vs = no-items} l t m (no-row-items {row = nextRow T row} l′));
+  bare {a} {q = q} (denotes-array e f (row-item l t m (row-item l′ t′ m′ r))) = record {
+    only = denotes-array {vs = item a no-items} {q = firstOf q} refl (omega arith) (row-item {vs = no-items} l t m (no-row-items {row = nextRow T (q .first)} l′));
     second = m′;
     rest = r;
   }
-  bare (means-list e b r) = absurd (omega arith)
 
-  third : {c : Value} {row : ℕ} → RowItems (readAreas T B) row (item c no-items) → Means (readAreas T B) 0 c (rowHandle T row)
+  third : {c : Value} {row : ℕ} → RowItems T B row (item c no-items) → Denotes T B c (nodeAt T row)
   third (row-item l t m r) = m
 
   -- An operation on the first item.
-  on-first : {v a : Value} (q : Parts) (op : Op) (o : Operation) → Means (readAreas T B) 0 (array (item a no-items)) (Compound (firstOf q)) → suc (itemsNesting (item a no-items)) ≤ nesting v → Stands op o 1
-      → shape v ≡ (shape a >>= λ r. some (apply o (rule r no-rules))) → Views T B v (Seen.Operation op (firstOf q))
+  on-first : {v a : Value} (q : Rows) (op : Op) (o : Operation) → Denotes T B (array (item a no-items)) (Array (firstOf q)) → suc (itemsNesting (item a no-items)) ≤ nesting v → Stands op o 1
+      → shape v ≡ (shape a >>= λ r. some (apply o (rule r no-rules))) → Shaped T B v (Seen.Rule (Views.Apply op (firstOf q)))
   unfolding operandsOf
-  on-first {v} {a} q op o m n s e = views-operation {op = op} {p = firstOf q} record {
+  on-first {v} {a} q op o m n s e = shaped-operation {w = Views.Apply op (firstOf q)} {q = firstOf q} record {
     operands = item a no-items;
-    means = m;
+    denotes = m;
     nests = n;
     refused = λ x. e ∙ one-refused (shape a) (λ r. apply o (rule r no-rules)) x;
     builds = λ rs x.
         let t = one-built (shape a) (λ r. apply o (rule r no-rules)) rs x in
-        record { whole = apply o (rule (t .only) no-rules); shaped = e ∙ t .chain; built = subst (λ (xs : Rules). Built op xs (apply o (rule (t .only) no-rules))) (sym (t .all)) (built-apply s) };
+        record { whole = apply o (rule (t .only) no-rules); shaped = e ∙ t .chain; built = subst (λ (xs : Rules). Built (Views.Apply op (firstOf q)) (firstOf q) xs (apply o (rule (t .only) no-rules))) (sym (t .all)) (built-apply s) };
   }
 
-  extract-by : {v a b : Value} {h : Handle} (q : Parts) → Means (readAreas T B) 0 (array (item a no-items)) (Compound (firstOf q)) → suc (itemsNesting (item a no-items)) ≤ nesting v
-      → IntegerAt b h → shape v ≡ extracted (shape a) (asInteger b) → Views T B v (extractBy h q)
+  extract-by : {v a b : Value} {h : Node} (q : Rows) → Denotes T B (array (item a no-items)) (Array (firstOf q)) → suc (itemsNesting (item a no-items)) ≤ nesting v
+      → IntegerAt b h → shape v ≡ extracted (shape a) (asInteger b) → Shaped T B v (extractBy h q)
   extract-by {a = a} q m n (integer-at {z = z} {n = k} i g w f) e =
       rw i (on-first q (Ops.ExtractFromUvci k) (Operation.extractFromUVCI z) m n (stands-extract refl w f) (e ∙ ap (extracted (shape a)) g))
   extract-by {a = a} q m n (other-at g x y) e =
-      rw (y q) (views-none (e ∙ ap (extracted (shape a)) g ∙ bind-none (shape a)))
+      rw (y q) (shaped-none (e ∙ ap (extracted (shape a)) g ∙ bind-none (shape a)))
 
-  plus-time-of : {v a : Value} (q : Parts) (z : ℤ) {k : ℕ} → Means (readAreas T B) 0 (array (item a no-items)) (Compound (firstOf q)) → suc (itemsNesting (item a no-items)) ≤ nesting v
-      → IsTrue (withinLimits z) → k ≡ biased z → (o : Option TimeUnit) → shape v ≡ (shape a >>= λ r. o >>= λ u. some (apply (Operation.plusTime z u) (rule r no-rules))) → Views T B v (plusTimeOf k o q)
-  plus-time-of {a = a} q z m n w f none e = views-none (e ∙ bind-none (shape a))
+  plus-time-of : {v a : Value} (q : Rows) (z : ℤ) {k : ℕ} → Denotes T B (array (item a no-items)) (Array (firstOf q)) → suc (itemsNesting (item a no-items)) ≤ nesting v
+      → IsTrue (withinLimits z) → k ≡ biased z → (o : Option TimeUnit) → shape v ≡ (shape a >>= λ r. o >>= λ u. some (apply (Operation.plusTime z u) (rule r no-rules))) → Shaped T B v (plusTimeOf k o q)
+  plus-time-of {a = a} q z m n w f none e = shaped-none (e ∙ bind-none (shape a))
   plus-time-of q z {k} m n w f (some u) e = on-first q (Ops.PlusTime k u) (Operation.plusTime z u) m n (stands-plus-time refl w f) e
 
-  plus-time-by : {v a b c : Value} {h g : Handle} (q : Parts) → Means (readAreas T B) 0 (array (item a no-items)) (Compound (firstOf q)) → suc (itemsNesting (item a no-items)) ≤ nesting v
-      → IntegerAt b h → Means (readAreas T B) 0 c g → shape v ≡ shifted (shape a) (asInteger b) (asString c) → Views T B v (plusTimeBy h (unitAt B g) q)
+  plus-time-by : {v a b c : Value} {h g : Node} (q : Rows) → Denotes T B (array (item a no-items)) (Array (firstOf q)) → suc (itemsNesting (item a no-items)) ≤ nesting v
+      → IntegerAt b h → Denotes T B c g → shape v ≡ shifted (shape a) (asInteger b) (asString c) → Shaped T B v (plusTimeBy h (unitAt B g) q)
   plus-time-by {a = a} {c = c} {g = g} q m n (integer-at {z = z} i x w f) y e =
       rw i (plus-time-of q z m n w f (unitAt B g)
       (e ∙ ap (λ (o : Option ℤ). shifted (shape a) o (asString c)) x
       ∙ unit-chain (shape a) (asString c) (λ r u. apply (Operation.plusTime z u) (rule r no-rules)) (unit-of y)))
   plus-time-by {a = a} {c = c} {g = g} q m n (other-at x y z) k e =
-      rw (y (unitAt B g) q) (views-none
+      rw (y (unitAt B g) q) (shaped-none
       (e ∙ ap (λ (o : Option ℤ). shifted (shape a) o (asString c)) x
       ∙ bind-none (shape a)))
 
 -- ---- all of them
 module _ {T B : Bytes} where
-  extract-views : {v : Value} {vs : Values} {q : Parts} → Means (readAreas T B) 0 (array vs) (Compound q) → suc (itemsNesting vs) ≤ nesting v
-      → shape v ≡ exactly2 (operandsOf vs) (λ a b. extracted (a .asRule) (asInteger (b .value))) → Views T B v (extractOn T q)
+  extract-views : {v : Value} {vs : Values} {q : Rows} → Denotes T B (array vs) (Array q) → suc (itemsNesting vs) ≤ nesting v
+      → shape v ≡ exactly2 (operandsOf vs) (λ a b. extracted (a .asRule) (asInteger (b .value))) → Shaped T B v (extractOn T q)
   unfolding operandsOf itemsNesting
   extract-views {v} {vs} {q} m n e =
       exact-views (q .count) 2
-      (λ x. e ∙ exactly2-none vs _ (λ y. x (MeansLaws.array-count m ∙ y)))
-      (λ x. go (two-of vs (sym (MeansLaws.array-count m) ∙ x)) m n e)
+      (λ x. e ∙ exactly2-none vs _ (λ y. x (DenotesLaws.array-count m ∙ y)))
+      (λ x. go (two-of vs (sym (DenotesLaws.array-count m) ∙ x)) m n e)
     where
-      go : {ws : Values} → Two ws → Means (readAreas T B) 0 (array ws) (Compound q) → suc (itemsNesting ws) ≤ nesting v
+      go : {ws : Values} → Two ws → Denotes T B (array ws) (Array q) → suc (itemsNesting ws) ≤ nesting v
           → shape v ≡ exactly2 (operandsOf ws) (λ a b. extracted (a .asRule) (asInteger (b .value)))
-          → Views T B v (extractBy (rowHandle T (nextRow T (q .first))) q)
+          → Shaped T B v (extractBy (nodeAt T (nextRow T (q .first))) q)
       go (two {a = a} {b = b}) m n e = let t = bare m in extract-by q (t .only) (omega arith) (integer-of (t .second)) e
 
-  plus-time-views : {v : Value} {vs : Values} {q : Parts} → Means (readAreas T B) 0 (array vs) (Compound q) → suc (itemsNesting vs) ≤ nesting v
+  plus-time-views : {v : Value} {vs : Values} {q : Rows} → Denotes T B (array vs) (Array q) → suc (itemsNesting vs) ≤ nesting v
       → shape v ≡ exactly3 (operandsOf vs) (λ a b c. shifted (a .asRule) (asInteger (b .value)) (asString (c .value)))
-      → Views T B v (plusTimeOn T B q)
+      → Shaped T B v (plusTimeOn T B q)
   unfolding operandsOf itemsNesting
   plus-time-views {v} {vs} {q} m n e =
       exact-views (q .count) 3
-      (λ x. e ∙ exactly3-none vs _ (λ y. x (MeansLaws.array-count m ∙ y)))
-      (λ x. go (three-of vs (sym (MeansLaws.array-count m) ∙ x)) m n e)
+      (λ x. e ∙ exactly3-none vs _ (λ y. x (DenotesLaws.array-count m ∙ y)))
+      (λ x. go (three-of vs (sym (DenotesLaws.array-count m) ∙ x)) m n e)
     where
-      go : {ws : Values} → ThreeItems ws → Means (readAreas T B) 0 (array ws) (Compound q) → suc (itemsNesting ws) ≤ nesting v
+      go : {ws : Values} → ThreeItems ws → Denotes T B (array ws) (Array q) → suc (itemsNesting ws) ≤ nesting v
           → shape v ≡ exactly3 (operandsOf ws) (λ a b c. shifted (a .asRule) (asInteger (b .value)) (asString (c .value)))
-          → Views T B v (plusTimeBy (rowHandle T (nextRow T (q .first))) (unitAt B (rowHandle T (nextRow T (nextRow T (q .first))))) q)
+          → Shaped T B v (plusTimeBy (nodeAt T (nextRow T (q .first))) (unitAt B (nodeAt T (nextRow T (nextRow T (q .first))))) q)
       go (three {a = a} {b = b} {c = c}) m n e = let t = bare m in plus-time-by q (t .only) (omega arith) (integer-of (t .second)) (third (t .rest)) e
 
   -- Any keyword.
-  pub operands-views : {vs : Values} {q : Parts} (k : Keyword) (name : Bytes) → keywordOf k ≡ keywordNamed name → Means (readAreas T B) 0 (array vs) (Compound q)
-      → Views T B (of name (array vs)) (operandsOn T B k q)
+  pub operands-views : {vs : Values} {q : Rows} (k : Keyword) (name : Bytes) → keywordOf k ≡ keywordNamed name → Denotes T B (array vs) (Array q)
+      → Shaped T B (of name (array vs)) (operandsOn T B k q)
   unfolding contentOf
-  operands-views {vs} Keywords.NoKeyword name e m = views-none (keyword-shape name (array vs) e)
-  operands-views {vs} Keywords.Var name e m = views-none (keyword-shape name (array vs) e)
-  operands-views {vs} Keywords.If name e m = three-views name m Ops.If Rule.if (λ a b c. built-if) (keyword-shape name (array vs) e)
-  operands-views {vs} Keywords.Reduce name e m = three-views name m Ops.Reduce Rule.reduce (λ a b c. built-reduce) (keyword-shape name (array vs) e)
+  operands-views {vs} Keywords.NoKeyword name e m = shaped-none (keyword-shape name (array vs) e)
+  operands-views {vs} Keywords.Var name e m = shaped-none (keyword-shape name (array vs) e)
+  operands-views {vs} Keywords.If name e m = three-views name m (Views.If _) Rule.if (λ a b c. built-if) (keyword-shape name (array vs) e)
+  operands-views {vs} Keywords.Reduce name e m = three-views name m (Views.Reduce _) Rule.reduce (λ a b c. built-reduce) (keyword-shape name (array vs) e)
   operands-views {vs} Keywords.And name e m = all-views name m (keyword-shape name (array vs) e)
   operands-views {vs} Keywords.PlusTime name e m = plus-time-views m (of-nests name vs) (keyword-shape name (array vs) e)
   operands-views {vs} Keywords.ExtractFromUvci name e m = extract-views m (of-nests name vs) (keyword-shape name (array vs) e)
   operands-views {vs} (Keywords.Counted least most op) name e m =
-      some-views name m least most op (countedOf op) (λ n. named-stands least most n op name (sym e)) (keyword-shape name (array vs) e)
+      some-views name m least most op (operationOf op) (λ n. named-stands least most n op name (sym e)) (keyword-shape name (array vs) e)

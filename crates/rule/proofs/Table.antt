@@ -12,7 +12,7 @@ use Rattle.model.specs.Rule.{Operation}
 use Rattle.model.specs.Shape.{Keyword, var, if, reduce, and, plusTime, extractFromUVCI, counted, keywords, keywordNamed}
 use Rattle.keywords.specs.declared.Op.{Op}
 use Rattle.keywords.specs.declared.Op.the-variants as Ops
-use Rattle.keywords.specs.Keyword.{countedOf, Stands, stands-equal, stands-member-of, stands-plus, stands-not, stands-date-of-birth, stands-compare}
+use Rattle.keywords.specs.Keyword.{operationOf, Stands, stands-equal, stands-member-of, stands-plus, stands-not, stands-date-of-birth, stands-compare}
 
 -- The numbers that the table has for an operation; an array is not in it.
 abbrev Allowed : ℕ → ℕ → Operation → Type 0
@@ -49,11 +49,8 @@ listed s =
     each-found Listed (sameBytes s) keywords
     (tt, (tt, (tt, ((refl, refl), ((refl, refl), ((refl, refl), (tt, ((refl, refl), ((refl, refl), ((refl, refl), ((refl, refl), ((refl, refl), ((refl, refl), ((refl, refl), ((refl, refl), ((refl, refl), ((refl, refl), (tt, (tt, tt)))))))))))))))))))
 
-stands-of : (least most n : ℕ) (op : Op) → Allowed least most (countedOf op) → least ≤ n → n ≤ most → Stands op (countedOf op) n
+stands-of : (least most n : ℕ) (op : Op) → Allowed least most (operationOf op) → least ≤ n → n ≤ most → Stands op (operationOf op) n
 stands-of least most n Ops.Array a l m = absurd a
-stands-of least most n Ops.If a l m = absurd a
-stands-of least most n Ops.And a l m = absurd a
-stands-of least most n Ops.Reduce a l m = absurd a
 stands-of least most n Ops.Equal a l m = stands-equal {n = n} (omega arith)
 stands-of least most n Ops.MemberOf a l m = stands-member-of {n = n} (omega arith)
 stands-of least most n Ops.Plus a l m = stands-plus {n = n} (omega arith)
@@ -64,5 +61,5 @@ stands-of least most n (Ops.PlusTime k u) a l m = absurd a
 stands-of least most n (Ops.ExtractFromUvci k) a l m = absurd a
 
 -- An operation that is named, with a right number of operands, stands for the model's.
-pub named-stands : (least most n : ℕ) (op : Op) (s : Bytes) → keywordNamed s ≡ some (counted least most (countedOf op)) → least ≤ n → n ≤ most → Stands op (countedOf op) n
+pub named-stands : (least most n : ℕ) (op : Op) (s : Bytes) → keywordNamed s ≡ some (counted least most (operationOf op)) → least ≤ n → n ≤ most → Stands op (operationOf op) n
 named-stands least most n op s k = stands-of least most n op (all-some Listed (listed s) k)

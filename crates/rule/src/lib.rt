@@ -1,2 +1,2 @@
-// The rule that a read table holds: what stands at a row of it.
+// The rule in a read table: what stands at each of its rows.
 pub mod view;

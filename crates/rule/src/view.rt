@@ -1,273 +1,260 @@
-// What stands at a row of a rule's table: a rule's own kind, and where its operands lie.
-use heap::handle::Area;
-use heap::handle::Form;
-use heap::handle::Handle;
-use heap::handle::Parts;
-use heap::handle::load;
-use heap::handle::next_row;
-use heap::handle::string;
-use heap::part::Label;
-use heap::part::name_of;
-use heap::string::part_of;
+// What stands at a row of a rule's table: the model's six cases, with the rows of the operands.
 use keywords::Keyword;
 use keywords::Op;
 use keywords::UnitAnswer;
 use keywords::keyword_named;
 use keywords::unit_named;
+use table::node::Node;
+use table::node::Rows;
+use table::node::name_at;
+use table::node::next_row;
+use table::node::node_at;
+use table::row::Span;
+use table::string::bytes_of;
 ghost use mathlib.Core.Path.{_≡_};
 ghost use Rattle.keywords.specs.Keyword.{unitOf};
-ghost use Rattle.rule.specs.Inner.{named, singleOf, countedOn, andOn, firstOf, unitAt, plusTimeOf, plusTimeOn, extractOn, pathOn, operandsOn, compoundOn, contentOn, ObjectViews};
-ghost use Rattle.rule.specs.View.{ViewsAs};
+ghost use Rattle.rule.specs.Inner.{singleOf, countedOn, andOn, firstOf, unitAt, plusTimeOf, plusTimeOn, extractOn, pathOn, operandsOn, contentOn, within, ObjectShapes};
+ghost use Rattle.rule.specs.View.{ShapesAs, ViewsAs};
 
-// A literal's handle, where a path's text lies, or an operation and its operands.
-pub enum View {
-    NotRule,
-    Literal(Handle),
-    Var { start: usize, size: usize },
-    Operation(Op, Parts),
+// A boolean, an integer to which 2^53 was added, or where a string lies in the rule's strings.
+pub enum Literal {
+    False,
+    True,
+    Integer(u64),
+    String(Span),
 }
 
-// The single member of an object: where its name lies, and its content.
+// The outermost part of a rule: a literal; where a path's text lies; or an operation and its operands.
+pub enum View {
+    Literal(Literal),
+    Var(Span),
+    If(Rows),
+    And(Rows),
+    Reduce(Rows),
+    Apply(Op, Rows),
+}
+
+// What a row has the shape of. The operands are not looked at.
+pub enum Shape {
+    NotRule,
+    Rule(View),
+}
+
+// The single member of an object: its name and its content.
 enum Single {
     NotSingle,
-    Member {
-        start: usize,
-        size: usize,
-        content: Handle,
-    },
-}
-
-// A member of this name and content.
-fn member(name: Label, content: Handle) -> Single
-    ensures { λ r. ⌜ r ≡ named name content ⌝ }
-{
-    match name {
-        Label::Nothing => Single::NotSingle,
-        Label::Name { start, size } => Single::Member {
-            start,
-            size,
-            content,
-        },
-        Label::Current => Single::NotSingle,
-        Label::Accumulator => Single::NotSingle,
-    }
+    Member(Span, Node),
 }
 
 // The single member, if there is no other.
-fn single_member(table: &[u8], p: Parts) -> Single
-    ensures { λ r. ⌜ r ≡ singleOf (now (table .entry)) p ⌝ }
+fn single_member(rule_table: &[u8], q: Rows) -> Single
+    ensures { λ r. ⌜ r ≡ singleOf (now («rule_table» .entry)) q ⌝ }
 {
-    if p.count != 1 {
+    if q.count != 1 {
         return Single::NotSingle;
     }
-    member(name_of(table, p), load(table, p.first))
+    Single::Member(name_at(rule_table, q.first), node_at(rule_table, q.first))
 }
 
-// From `least` to `most` operands.
-fn counted_operands(least: usize, most: usize, op: Op, q: Parts) -> View
-    ensures { λ r. ⌜ r ≡ countedOn least most op q ⌝ }
+// An operation with from `least` to `most` operands.
+fn counted_operands(least: usize, most: usize, view: View, q: Rows) -> Shape
+    ensures { λ r. ⌜ r ≡ countedOn least most view q ⌝ }
 {
     if q.count < least {
-        return View::NotRule;
+        return Shape::NotRule;
     }
     if most < q.count {
-        return View::NotRule;
+        return Shape::NotRule;
     }
-    View::Operation(op, q)
+    Shape::Rule(view)
 }
 
 // Two operands or more.
-fn and_operands(q: Parts) -> View
+fn and_operands(q: Rows) -> Shape
     ensures { λ r. ⌜ r ≡ andOn q ⌝ }
 {
     if q.count < 2 {
-        return View::NotRule;
+        return Shape::NotRule;
     }
-    View::Operation(Op::And, q)
+    Shape::Rule(View::And(q))
 }
 
-// The first part alone: the one rule among the operands of `plusTime` and `extractFromUVCI`.
-fn first_of(q: Parts) -> Parts
+// The first alone: the one rule among the operands of `plusTime` and `extractFromUVCI`.
+fn first_of(q: Rows) -> Rows
     ensures { λ r. ⌜ r ≡ firstOf q ⌝ }
 {
-    let form = q.form;
-    Parts {
-        form,
+    Rows {
         first: q.first,
         count: 1,
     }
 }
 
 // The unit that a string names.
-fn unit_at(strings: &[u8], h: Handle) -> UnitAnswer
-    ensures { λ r. ⌜ unitOf r ≡ unitAt (now (strings .entry)) h ⌝ }
+fn unit_at(rule_strings: &[u8], n: Node) -> UnitAnswer
+    ensures { λ r. ⌜ unitOf r ≡ unitAt (now («rule_strings» .entry)) n ⌝ }
 {
-    match h {
-        Handle::Null => UnitAnswer::NoUnit,
-        Handle::False => UnitAnswer::NoUnit,
-        Handle::True => UnitAnswer::NoUnit,
-        Handle::Integer(_) => UnitAnswer::NoUnit,
-        Handle::Instant(_) => UnitAnswer::NoUnit,
-        Handle::String(s) => unit_named(part_of(strings, s.start, s.size)),
-        Handle::Compound(_) => UnitAnswer::NoUnit,
+    match n {
+        Node::Null => UnitAnswer::NoUnit,
+        Node::False => UnitAnswer::NoUnit,
+        Node::True => UnitAnswer::NoUnit,
+        Node::Integer(_) => UnitAnswer::NoUnit,
+        Node::String(s) => unit_named(bytes_of(rule_strings, s)),
+        Node::Array(_) => UnitAnswer::NoUnit,
+        Node::Object(_) => UnitAnswer::NoUnit,
     }
 }
 
 // `plusTime` by this amount of this unit, if it is one.
-fn plus_time_of(amount: u64, unit: UnitAnswer, q: Parts) -> View
+fn plus_time_of(amount: u64, unit: UnitAnswer, q: Rows) -> Shape
     ensures { λ r. ⌜ r ≡ plusTimeOf amount (unitOf unit) q ⌝ }
 {
     match unit {
-        UnitAnswer::NoUnit => View::NotRule,
-        UnitAnswer::Unit(u) => View::Operation(Op::PlusTime { amount, unit: u }, first_of(q)),
+        UnitAnswer::NoUnit => Shape::NotRule,
+        UnitAnswer::Unit(u) => {
+            Shape::Rule(View::Apply(Op::PlusTime { amount, unit: u }, first_of(q)))
+        }
     }
 }
 
 // "a rule, an integer, one of "year" "month" "day" "hour""
-fn plus_time(table: &[u8], strings: &[u8], q: Parts) -> View
-    ensures { λ r. ⌜ r ≡ plusTimeOn (now (table .entry)) (now (strings .entry)) q ⌝ }
+fn plus_time(rule_table: &[u8], rule_strings: &[u8], q: Rows) -> Shape
+    ensures { λ r. ⌜ r ≡ plusTimeOn (now («rule_table» .entry)) (now («rule_strings» .entry)) q ⌝ }
 {
     if q.count != 3 {
-        return View::NotRule;
+        return Shape::NotRule;
     }
-    let second = next_row(table, q.first);
-    let unit = unit_at(strings, load(table, next_row(table, second)));
-    let amount = load(table, second);
+    let second = next_row(rule_table, q.first);
+    let unit = unit_at(
+        rule_strings,
+        node_at(rule_table, next_row(rule_table, second)),
+    );
+    let amount = node_at(rule_table, second);
     match amount {
-        Handle::Null => View::NotRule,
-        Handle::False => View::NotRule,
-        Handle::True => View::NotRule,
-        Handle::Integer(n) => plus_time_of(n, unit, q),
-        Handle::Instant(_) => View::NotRule,
-        Handle::String(_) => View::NotRule,
-        Handle::Compound(_) => View::NotRule,
+        Node::Null => Shape::NotRule,
+        Node::False => Shape::NotRule,
+        Node::True => Shape::NotRule,
+        Node::Integer(n) => plus_time_of(n, unit, q),
+        Node::String(_) => Shape::NotRule,
+        Node::Array(_) => Shape::NotRule,
+        Node::Object(_) => Shape::NotRule,
     }
 }
 
 // "a rule, an integer"
-fn extract(table: &[u8], q: Parts) -> View
-    ensures { λ r. ⌜ r ≡ extractOn (now (table .entry)) q ⌝ }
+fn extract(rule_table: &[u8], q: Rows) -> Shape
+    ensures { λ r. ⌜ r ≡ extractOn (now («rule_table» .entry)) q ⌝ }
 {
     if q.count != 2 {
-        return View::NotRule;
+        return Shape::NotRule;
     }
-    let index = load(table, next_row(table, q.first));
+    let index = node_at(rule_table, next_row(rule_table, q.first));
     match index {
-        Handle::Null => View::NotRule,
-        Handle::False => View::NotRule,
-        Handle::True => View::NotRule,
-        Handle::Integer(n) => View::Operation(Op::ExtractFromUvci(n), first_of(q)),
-        Handle::Instant(_) => View::NotRule,
-        Handle::String(_) => View::NotRule,
-        Handle::Compound(_) => View::NotRule,
+        Node::Null => Shape::NotRule,
+        Node::False => Shape::NotRule,
+        Node::True => Shape::NotRule,
+        Node::Integer(n) => Shape::Rule(View::Apply(Op::ExtractFromUvci(n), first_of(q))),
+        Node::String(_) => Shape::NotRule,
+        Node::Array(_) => Shape::NotRule,
+        Node::Object(_) => Shape::NotRule,
     }
 }
 
 // `var` takes "a string itself, not an array".
-fn path(k: Keyword, start: usize, size: usize) -> View
-    ensures { λ r. ⌜ r ≡ pathOn k start size ⌝ }
+fn path(k: Keyword, s: Span) -> Shape
+    ensures { λ r. ⌜ r ≡ pathOn k s ⌝ }
 {
     match k {
-        Keyword::NoKeyword => View::NotRule,
-        Keyword::Var => View::Var { start, size },
-        Keyword::If => View::NotRule,
-        Keyword::Reduce => View::NotRule,
-        Keyword::And => View::NotRule,
-        Keyword::PlusTime => View::NotRule,
-        Keyword::ExtractFromUvci => View::NotRule,
+        Keyword::NoKeyword => Shape::NotRule,
+        Keyword::Var => Shape::Rule(View::Var(s)),
+        Keyword::If => Shape::NotRule,
+        Keyword::Reduce => Shape::NotRule,
+        Keyword::And => Shape::NotRule,
+        Keyword::PlusTime => Shape::NotRule,
+        Keyword::ExtractFromUvci => Shape::NotRule,
         Keyword::Counted {
             least: _,
             most: _,
             op: _,
-        } => View::NotRule,
+        } => Shape::NotRule,
     }
 }
 
 // Every other operation takes operands in an array.
-fn operands(table: &[u8], strings: &[u8], k: Keyword, q: Parts) -> View
-    ensures { λ r. ⌜ r ≡ operandsOn (now (table .entry)) (now (strings .entry)) k q ⌝ }
+fn operands(rule_table: &[u8], rule_strings: &[u8], k: Keyword, q: Rows) -> Shape
+    ensures { λ r. ⌜ r ≡ operandsOn (now («rule_table» .entry)) (now («rule_strings» .entry)) k q ⌝ }
 {
     match k {
-        Keyword::NoKeyword => View::NotRule,
-        Keyword::Var => View::NotRule,
-        Keyword::If => counted_operands(3, 3, Op::If, q),
-        Keyword::Reduce => counted_operands(3, 3, Op::Reduce, q),
+        Keyword::NoKeyword => Shape::NotRule,
+        Keyword::Var => Shape::NotRule,
+        Keyword::If => counted_operands(3, 3, View::If(q), q),
+        Keyword::Reduce => counted_operands(3, 3, View::Reduce(q), q),
         Keyword::And => and_operands(q),
-        Keyword::PlusTime => plus_time(table, strings, q),
-        Keyword::ExtractFromUvci => extract(table, q),
-        Keyword::Counted { least, most, op } => counted_operands(least, most, op, q),
-    }
-}
-
-// An array holds operands; an object does not.
-fn compound_content(table: &[u8], strings: &[u8], k: Keyword, q: Parts) -> View
-    ensures { λ r. ⌜ r ≡ compoundOn (now (table .entry)) (now (strings .entry)) k q ⌝ }
-{
-    let form = q.form;
-    match form {
-        Form::Items => operands(table, strings, k, q),
-        Form::Members => View::NotRule,
-        Form::List => operands(table, strings, k, q),
-        Form::Context => View::NotRule,
+        Keyword::PlusTime => plus_time(rule_table, rule_strings, q),
+        Keyword::ExtractFromUvci => extract(rule_table, q),
+        Keyword::Counted { least, most, op } => {
+            counted_operands(least, most, View::Apply(op, q), q)
+        }
     }
 }
 
 // An operation with this content.
-fn content_view(table: &[u8], strings: &[u8], k: Keyword, content: Handle) -> View
-    ensures { λ r. ⌜ r ≡ contentOn (now (table .entry)) (now (strings .entry)) k content ⌝ }
+fn content_shape(rule_table: &[u8], rule_strings: &[u8], k: Keyword, content: Node) -> Shape
+    ensures { λ r. ⌜ r ≡ contentOn (now («rule_table» .entry)) (now («rule_strings» .entry)) k content ⌝ }
 {
     match content {
-        Handle::Null => View::NotRule,
-        Handle::False => View::NotRule,
-        Handle::True => View::NotRule,
-        Handle::Integer(_) => View::NotRule,
-        Handle::Instant(_) => View::NotRule,
-        Handle::String(s) => path(k, s.start, s.size),
-        Handle::Compound(q) => compound_content(table, strings, k, q),
+        Node::Null => Shape::NotRule,
+        Node::False => Shape::NotRule,
+        Node::True => Shape::NotRule,
+        Node::Integer(_) => Shape::NotRule,
+        Node::String(s) => path(k, s),
+        Node::Array(q) => operands(rule_table, rule_strings, k, q),
+        Node::Object(_) => Shape::NotRule,
     }
 }
 
 // 01, Shape: "An object must yield its single member, or else it is refused with 6."
-fn operation(table: &[u8], strings: &[u8], p: Parts) -> View
-    requires { ⌜ p .form ≡ Form.Members ⌝ }
-    ensures { λ r. ⌜ ObjectViews (now (table .entry)) (now (strings .entry)) p r ⌝ }
+fn operation(rule_table: &[u8], rule_strings: &[u8], q: Rows) -> Shape
+    ensures { λ r. ⌜ ObjectShapes (now («rule_table» .entry)) (now («rule_strings» .entry)) q r ⌝ }
 {
-    let Single::Member {
-        start,
-        size,
-        content,
-    } = single_member(table, p)
-    else {
-        return View::NotRule;
+    let Single::Member(name, content) = single_member(rule_table, q) else {
+        return Shape::NotRule;
     };
-    let k = keyword_named(part_of(strings, start, size));
-    content_view(table, strings, k, content)
+    let k = keyword_named(bytes_of(rule_strings, name));
+    content_shape(rule_table, rule_strings, k, content)
 }
 
-// An array is an operation itself.
-fn compound_view(table: &[u8], strings: &[u8], p: Parts) -> View
-    ensures { λ r. ⌜ ViewsAs (now (table .entry)) (now (strings .entry)) (Handle.Compound p) r ⌝ }
+// What an array or object has the shape of, where so many nestings are left.
+fn within_nesting(deep: usize, s: Shape) -> Shape
+    ensures { λ r. ⌜ r ≡ within deep s ⌝ }
 {
-    let form = p.form;
-    match form {
-        Form::Items => View::Operation(Op::Array, p),
-        Form::Members => operation(table, strings, p),
-        Form::List => View::Operation(Op::Array, p),
-        Form::Context => View::NotRule,
+    if deep == 0 {
+        return Shape::NotRule;
+    }
+    s
+}
+
+// What the value in a row has the shape of, if it nests no deeper than `deep`.
+pub fn shape_at(rule_table: &[u8], rule_strings: &[u8], row: usize, deep: usize) -> Shape
+    ensures { λ r. ⌜ ShapesAs (now («rule_table» .entry)) (now («rule_strings» .entry)) row deep r ⌝ }
+{
+    let node = node_at(rule_table, row);
+    match node {
+        Node::Null => Shape::NotRule,
+        Node::False => Shape::Rule(View::Literal(Literal::False)),
+        Node::True => Shape::Rule(View::Literal(Literal::True)),
+        Node::Integer(n) => Shape::Rule(View::Literal(Literal::Integer(n))),
+        Node::String(s) => Shape::Rule(View::Literal(Literal::String(s))),
+        Node::Array(q) => within_nesting(deep, Shape::Rule(View::Apply(Op::Array, q))),
+        Node::Object(q) => within_nesting(deep, operation(rule_table, rule_strings, q)),
     }
 }
 
-// What stands at a row of a rule's table.
-pub fn view_of(table: &[u8], strings: &[u8], h: Handle) -> View
-    ensures { λ r. ⌜ ViewsAs (now (table .entry)) (now (strings .entry)) h r ⌝ }
+// The view of the rule in a row, if it nests no deeper than `deep`. A row that holds no such rule is viewed as the literal false.
+pub fn view_at(rule_table: &[u8], rule_strings: &[u8], row: usize, deep: usize) -> View
+    ensures { λ r. ⌜ ViewsAs (now («rule_table» .entry)) (now («rule_strings» .entry)) row deep r ⌝ }
 {
-    match h {
-        Handle::Null => View::NotRule,
-        Handle::False => View::Literal(Handle::False),
-        Handle::True => View::Literal(Handle::True),
-        Handle::Integer(n) => View::Literal(Handle::Integer(n)),
-        Handle::Instant(_) => View::NotRule,
-        Handle::String(s) => View::Literal(string(Area::Rule, s.start, s.size)),
-        Handle::Compound(p) => compound_view(table, strings, p),
+    match shape_at(rule_table, rule_strings, row, deep) {
+        Shape::NotRule => View::Literal(Literal::False),
+        Shape::Rule(view) => view,
     }
 }

@@ -9,8 +9,8 @@ returns c = rw (ne-eqb _ _ (c .if1 .taken))
 next-row-requires : tie.Need-next-row-requires
 next-row-requires c κs = search needs
 
-load-requires : tie.Need-load-requires
-load-requires c κs = search needs
+node-at-requires : tie.Need-node-at-requires
+node-at-requires c κs = search needs
 
 enum-told : tie.Need-enum-told
 enum-told c = search needs
@@ -37,25 +37,25 @@ enum-told-6 : tie.Need-enum-told-6
 enum-told-6 c = search needs
 
 returns-2 : tie.Need-returns-2
-returns-2 c = rw (c .before .before .before .before .if1 .left, ← c .before .before .before .next-row .ensures, ← c .before .before .load .ensures, c .enum-told .given .1)
+returns-2 c = rw (c .before .before .before .before .if1 .left, ← c .before .before .before .next-row .ensures, ← c .before .before .node-at .ensures, c .enum-told .given .1)
 
 returns-3 : tie.Need-returns-3
-returns-3 c = rw (c .before .before .before .before .if1 .left, ← c .before .before .before .next-row .ensures, ← c .before .before .load .ensures, c .enum-told2 .given .1)
+returns-3 c = rw (c .before .before .before .before .if1 .left, ← c .before .before .before .next-row .ensures, ← c .before .before .node-at .ensures, c .enum-told2 .given .1)
 
 returns-4 : tie.Need-returns-4
-returns-4 c = rw (c .before .before .before .before .if1 .left, ← c .before .before .before .next-row .ensures, ← c .before .before .load .ensures, c .enum-told3 .given .1)
+returns-4 c = rw (c .before .before .before .before .if1 .left, ← c .before .before .before .next-row .ensures, ← c .before .before .node-at .ensures, c .enum-told3 .given .1)
 
 returns-5 : tie.Need-returns-5
-returns-5 c = rw (c .before .before .before .before .before .before .if1 .left, ← c .before .before .before .before .before .next-row .ensures, ← c .before .before .before .before .load .ensures, c .before .before .index .given .1, c .first-of .ensures)
+returns-5 c = rw (c .before .before .before .before .before .before .if1 .left, ← c .before .before .before .before .before .next-row .ensures, ← c .before .before .before .before .node-at .ensures, c .before .before .index .given .1, c .first-of .ensures)
 
 returns-6 : tie.Need-returns-6
-returns-6 c = rw (c .before .before .before .before .if1 .left, ← c .before .before .before .next-row .ensures, ← c .before .before .load .ensures, c .enum-told4 .given .1)
+returns-6 c = rw (c .before .before .before .before .if1 .left, ← c .before .before .before .next-row .ensures, ← c .before .before .node-at .ensures, c .enum-told4 .given .1)
 
 returns-7 : tie.Need-returns-7
-returns-7 c = rw (c .before .before .before .before .if1 .left, ← c .before .before .before .next-row .ensures, ← c .before .before .load .ensures, c .enum-told5 .given .1)
+returns-7 c = rw (c .before .before .before .before .if1 .left, ← c .before .before .before .next-row .ensures, ← c .before .before .node-at .ensures, c .enum-told5 .given .1)
 
 returns-8 : tie.Need-returns-8
-returns-8 c = rw (c .before .before .before .before .if1 .left, ← c .before .before .before .next-row .ensures, ← c .before .before .load .ensures, c .enum-told6 .given .1)
+returns-8 c = rw (c .before .before .before .before .if1 .left, ← c .before .before .before .next-row .ensures, ← c .before .before .node-at .ensures, c .enum-told6 .given .1)
 
 pub extract-spec : {M : Type 1} → statement M
 extract-spec =
@@ -63,7 +63,7 @@ extract-spec =
     (tie.spec
     returns
     next-row-requires
-    load-requires
+    node-at-requires
     enum-told
     enum-told-2
     enum-told-3

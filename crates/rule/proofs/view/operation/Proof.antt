@@ -6,36 +6,36 @@ use Rattle.rule.proofs.view.operation.Tie as tie
 single-member-requires : tie.Need-single-member-requires
 single-member-requires c κs = search needs
 
-enum-known-start : tie.Need-enum-known-start
-enum-known-start c = search needs
+enum-known-name : tie.Need-enum-known-name
+enum-known-name c = search needs
 
 enum-told : tie.Need-enum-told
 enum-told c = search needs
 
 returns : tie.Need-returns
-returns c = not-single (c .before .before .single-member .result) (c .before .before .single-member .ensures) (c .enum-told .given .1) (c .before .before .before .before .before .pre)
+returns c = not-single (c .before .before .single-member .result) (c .before .before .single-member .ensures) (c .enum-told .given .1)
 
-part-of-requires : tie.Need-part-of-requires
-part-of-requires c κs = search needs
+bytes-of-requires : tie.Need-bytes-of-requires
+bytes-of-requires c κs = search needs
 
 keyword-named-requires : tie.Need-keyword-named-requires
 keyword-named-requires c κs = search needs
 
-content-view-requires : tie.Need-content-view-requires
-content-view-requires c κs = search needs
+content-shape-requires : tie.Need-content-shape-requires
+content-shape-requires c κs = search needs
 
 returns-2 : tie.Need-returns-2
-returns-2 c = single (c .before .before .before .before .before .before .single-member .result) (c .before .keyword-named .result) (c .before .before .before .before .before .before .single-member .ensures) (c .before .before .before .before .start .given .1) (c .before .before .before .before .before .before .before .before .before .pre) (rw (c .before .before .part-of .ensures) at (c .before .keyword-named .ensures)) (c .content-view .ensures)
+returns-2 c = single (c .before .before .before .before .before .before .single-member .result) (c .before .keyword-named .result) (c .before .before .before .before .before .before .single-member .ensures) (c .before .before .before .before .name .given .1) (rw (c .before .before .bytes-of .ensures) at (c .before .keyword-named .ensures)) (c .content-shape .ensures)
 
 pub operation-spec : {M : Type 1} → statement M
 operation-spec =
     tie.close
     (tie.spec
     single-member-requires
-    enum-known-start
+    enum-known-name
     enum-told
     returns
-    part-of-requires
+    bytes-of-requires
     keyword-named-requires
-    content-view-requires
+    content-shape-requires
     returns-2)

@@ -14,17 +14,17 @@ enum-told-3 c = search needs
 enum-told-4 : tie.Need-enum-told-4
 enum-told-4 c = search needs
 
-enum-told-5 : tie.Need-enum-told-5
-enum-told-5 c = search needs
+enum-known-n : tie.Need-enum-known-n
+enum-known-n c = search needs
 
-enum-known-h : tie.Need-enum-known-h
-enum-known-h c = search needs
-
-part-of-requires : tie.Need-part-of-requires
-part-of-requires c κs = search needs
+bytes-of-requires : tie.Need-bytes-of-requires
+bytes-of-requires c κs = search needs
 
 unit-named-requires : tie.Need-unit-named-requires
 unit-named-requires c κs = search needs
+
+enum-told-5 : tie.Need-enum-told-5
+enum-told-5 c = search needs
 
 enum-told-6 : tie.Need-enum-told-6
 enum-told-6 c = search needs
@@ -42,10 +42,10 @@ returns-4 : tie.Need-returns-4
 returns-4 c = search needs
 
 returns-5 : tie.Need-returns-5
-returns-5 c = search needs
+returns-5 c = rw (c .before .before .before .n .given .1, c .unit-named .ensures, c .before .bytes-of .ensures)
 
 returns-6 : tie.Need-returns-6
-returns-6 c = rw (c .before .before .before .h .given .1, c .unit-named .ensures, c .before .part-of .ensures)
+returns-6 c = search needs
 
 returns-7 : tie.Need-returns-7
 returns-7 c = search needs
@@ -58,10 +58,10 @@ unit-at-spec =
     enum-told-2
     enum-told-3
     enum-told-4
-    enum-told-5
-    enum-known-h
-    part-of-requires
+    enum-known-n
+    bytes-of-requires
     unit-named-requires
+    enum-told-5
     enum-told-6
     returns
     returns-2

@@ -1,2 +1,0 @@
--- Laws: what is proved of the definitions, a file for each subject.
-pub mod Stands
