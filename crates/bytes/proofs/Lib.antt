@@ -1,2 +1,3 @@
 pub mod Bytewise
+pub mod Fragments
 pub mod Paths

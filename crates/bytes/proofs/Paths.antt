@@ -6,7 +6,6 @@ use mathlib.Core.Option.{some}
 use Prim.Native.Nat.{ℕ, _+_, _≤_, _<_}
 use native.Mathlib.Numerals.{add-one}
 use native.Mathlib.Omega.{arith}
-use borrow.Author.Tests.{eqb-true, eqb-false, eq-eqb, ne-eqb}
 use lib.Dec.{eqb}
 use lib.ListN.{length, drop, drop-of-length-le, getD}
 use lib.Seq.{drop-cons}
@@ -15,6 +14,7 @@ use Rattle.model.specs.Lists.{all}
 use Rattle.model.specs.Option.{isSome, when}
 use Rattle.model.specs.Path.{pathOf}
 use Rattle.bytes.specs.Inner.{fragments}
+use Rattle.bytes.specs.Laws.Fragment.{eqb-sym}
 
 -- ---- paths
 -- The fragments from the first or from the second on, by whether the first one may be empty.
@@ -59,13 +59,6 @@ no-path [] e = refl
 no-path (x ∷ s) e = absurd (omega arith)
 
 -- ---- byte by byte
-eqb-sym : (a b : ℕ) → eqb a b ≡ eqb b a
-eqb-sym a b = go (eqb b a) refl
-  where
-    go : (t : Bool) → eqb b a ≡ t → eqb a b ≡ t
-    go true e = eq-eqb a b (sym (eqb-true b a e))
-    go false e = ne-eqb a b (λ f. eqb-false b a e (sym f))
-
 module _ (s : Bytes) (i : ℕ) where
   fragments-on : (empty : Bool) → i < length s → fragments empty (drop i s) ≡ cond (eqb (byte ".") (getD s i 0)) (not empty && fragments true (drop (i + 1) s)) (fragments false (drop (i + 1) s))
   fragments-on empty h = rw (add-one, drop-cons s i 0 h)

@@ -1,2 +1,4 @@
--- What the private functions of this crate do.
+-- Where a fragment of a text ends; what the private functions of this crate do; then the laws.
+pub mod Fragment
 pub mod Inner
+pub mod Laws

@@ -1,7 +1,12 @@
-// The texts of paths (01, `var`).
+// The fragments of a text, and the texts of paths (01, `var`).
 ghost use mathlib.Core.Bool.{true};
 ghost use mathlib.Core.Path.{_≡_};
+ghost use Prim.Native.Nat.{_+_};
+ghost use lib.Dec.{eqb};
+ghost use lib.ListN.{drop};
+ghost use Rattle.bytes.specs.Fragment.{fragmentLength};
 ghost use Rattle.bytes.specs.Inner.{fragments};
+ghost use Rattle.model.specs.Lists.{any};
 ghost use Rattle.model.specs.Option.{isSome};
 ghost use Rattle.model.specs.Path.{pathOf};
 
@@ -30,4 +35,32 @@ pub fn is_path(text: &[u8]) -> bool
         return true;
     }
     has_fragments(text)
+}
+
+// Whether a byte is one of these.
+fn is_one_of(x: u8, bytes: &[u8]) -> bool
+    ensures { λ r. ⌜ r ≡ any (eqb x) (now (bytes .entry)) ⌝ }
+{
+    let mut i = 0;
+    while i < bytes.len() {
+        if x == bytes[i] {
+            return true;
+        }
+        i = i + 1;
+    }
+    false
+}
+
+// Where the fragment that begins at `at` ends: at a separator, or with the text.
+pub fn fragment_end(text: &[u8], at: usize, separators: &[u8]) -> usize
+    ensures { λ r. ⌜ r ≡ at + fragmentLength (now (separators .entry)) (drop at (now (text .entry))) ⌝ }
+{
+    let mut end = at;
+    while end < text.len() {
+        if is_one_of(text[end], separators) {
+            return end;
+        }
+        end = end + 1;
+    }
+    end
 }

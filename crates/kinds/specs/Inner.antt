@@ -2,15 +2,16 @@
 use mathlib.Core.Bool.{Bool, true, false, _&&_, cond}
 use mathlib.Core.List.{[], _∷_}
 use mathlib.Core.Path.{_≡_}
-use Prim.Native.Nat.{ℕ, suc}
+use Prim.Native.Nat.{ℕ}
 use lib.Dec.{eqb}
 use lib.ListN.{length, take}
-use Rattle.model.specs.Bytes.{Bytes, byte, sameBytes}
+use Rattle.model.specs.Bytes.{Bytes, ascii, sameBytes}
 use Rattle.model.specs.Eval.{current, accumulator}
 use Rattle.model.specs.Rule.{Literal, Rule, Rules}
 use Rattle.model.specs.TypeCheck.{Env as ModelEnv, literalTypes, domainType, union, typesFor, typesForAll, accepts, acceptsAll}
 use Rattle.model.specs.Types.{Types, passes, scalars, anyOfRecord, anyValue}
 use Rattle.model.specs.declared.Ty.the-variants as Ty
+use Rattle.bytes.specs.Fragment.{fragmentLength}
 use Rattle.heap.specs.declared.handle.Handle.{Handle}
 use Rattle.heap.specs.declared.handle.Handle.the-variants as Handles
 use Rattle.heap.specs.declared.handle.Parts.{Parts}
@@ -37,11 +38,6 @@ abbrev pub foundBy : Bool → Types → Found
 foundBy ok ts = acceptedAs ok (setOf ts)
 
 -- ---- variables in a lambda
--- How many bytes stand before a dot, or in all.
-unfoldable pub fragmentLength : Bytes → ℕ
-fragmentLength [] = 0
-fragmentLength (x ∷ s) = cond (eqb (byte ".") x) 0 (suc (fragmentLength s))
-
 -- Of a path that ends with its first fragment, or goes on.
 abbrev pub partBy : Bool → TypeSet → TypeSet
 partBy whole s = cond whole s (setOf anyValue)
@@ -57,7 +53,7 @@ firstBy f whole cur acc =
 abbrev pub lambdaBy : Bytes → TypeSet → TypeSet → TypeSet
 lambdaBy p cur acc =
     cond (eqb (length p) 0) (setOf (Ty.Object ∷ []))
-    (firstBy (take (fragmentLength p) p) (eqb (fragmentLength p) (length p)) cur acc)
+    (let size = fragmentLength (ascii ".") p in firstBy (take size p) (eqb size (length p)) cur acc)
 
 -- ---- literals and operations
 -- By a literal's handle. No literal is null, an instant, an array or an object.

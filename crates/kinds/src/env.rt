@@ -1,4 +1,5 @@
 // Where a rule stands, and the types of a variable there.
+use bytes::path::fragment_end;
 use bytes::same;
 use model::Ty;
 use sheet::listed::types_for;
@@ -7,26 +8,12 @@ use types::set::any_value;
 use types::set::only;
 ghost use mathlib.Core.Path.{_≡_};
 ghost use Rattle.kinds.specs.Contract.{VarTypes};
-ghost use Rattle.kinds.specs.Inner.{fragmentLength, partBy, lambdaBy};
+ghost use Rattle.kinds.specs.Inner.{partBy, lambdaBy};
 
 // Outside every lambda, or in one: the types of `current`, and of `accumulator`.
 pub enum Env {
     Outside,
     Lambda(TypeSet, TypeSet),
-}
-
-// Where the first fragment of a path ends.
-fn fragment_end(path: &[u8]) -> usize
-    ensures { λ r. ⌜ r ≡ fragmentLength (now (path .entry)) ⌝ }
-{
-    let mut end: usize = 0;
-    while end < path.len() {
-        if path[end] == b'.' {
-            return end;
-        }
-        end = end + 1;
-    }
-    end
 }
 
 // "`current` and `accumulator` have their sets"; "a longer path from either has those six and instant".
@@ -47,7 +34,7 @@ fn lambda_types(path: &[u8], current: TypeSet, accumulator: TypeSet) -> TypeSet
     if n == 0 {
         return only(Ty::Object);
     }
-    let end = fragment_end(path);
+    let end = fragment_end(path, 0, b".");
     let first = &path[..end];
     if same(first, b"current") {
         return part_types(end == n, current);

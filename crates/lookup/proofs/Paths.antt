@@ -1,23 +1,24 @@
 -- Paths: the fragments of a path from a place on, and the loop over them.
-use mathlib.Core.Path.{_≡_, refl, sym, ap, _∙_}
-use mathlib.Core.Bool.{Bool, true, false, _&&_, cond, false≢true}
+use mathlib.Core.Path.{_≡_, refl, ap, _∙_}
+use mathlib.Core.Bool.{Bool, true, false, _&&_, false≢true}
 use mathlib.Core.List.{[], _∷_}
 use mathlib.Core.Option.{some}
-use Prim.Native.Nat.{ℕ, suc, _+_, _-_, _≤_, _<_}
+use Prim.Native.Nat.{ℕ, _+_, _-_, _≤_, _<_}
 use native.Mathlib.Decide.{decLt}
 use native.Mathlib.Numerals.{add-one}
 use native.Mathlib.Omega.{arith}
-use borrow.Author.Tests.{ne-eqb}
 use lib.Dec.{eqb}
-use lib.ListN.{length, getD, take, drop, drop-of-length-le}
+use lib.ListN.{length, take, drop, drop-of-length-le}
 use lib.Seq.{drop-cons, drop-drop}
-use Rattle.model.specs.Bytes.{Bytes, byte, consHead, splitOn}
+use Rattle.model.specs.Bytes.{Bytes, ascii, byte, splitOn}
 use Rattle.model.specs.Limits.{heapCells}
 use Rattle.model.specs.Lists.{all}
 use Rattle.model.specs.Path.{Path, pathOf, part, valueAt}
 use Rattle.model.specs.Value.{Value}
 use Rattle.model.specs.Laws.Logic.{clash}
 use Rattle.model.specs.Laws.Option.{when-some}
+use Rattle.bytes.specs.Fragment.{fragmentLength}
+use Rattle.bytes.specs.Laws.Fragment.{is-dot, others, first-fragment}
 use Rattle.heap.specs.declared.handle.Handle.{Handle}
 use Rattle.heap.specs.declared.handle.Handle.the-variants.{Null}
 use Rattle.heap.specs.Means.{Means, means-null}
@@ -25,54 +26,15 @@ use Rattle.heap.specs.Unfold.{Areas, areas}
 use Rattle.lookup.specs.Contract.{Leads}
 use Rattle.lookup.specs.declared.Found.{Found}
 use Rattle.lookup.specs.declared.Found.the-variants.{Absent, Part}
-use Rattle.lookup.specs.Inner.{Finds, present, absent, PartNamed, fragmentLength, EndsAt}
+use Rattle.lookup.specs.Inner.{Finds, present, absent, PartNamed}
 
 -- ---- where a fragment ends
--- No dot stands before `end`.
-pub record Within (s : Bytes) (at end : ℕ) : Type 0 where
-  pub inside : end ≤ length s
-  pub is : at + fragmentLength (drop at s) ≡ end + fragmentLength (drop end s)
+-- How many bytes stand before a dot, or in all.
+abbrev pub size : Bytes → ℕ
+size = fragmentLength (ascii ".")
 
-module _ {s : Bytes} {at end : ℕ} (within : Within s at end) where
-  pub fragment-ends : length s ≤ end → EndsAt s at end
-  unfolding fragmentLength
-  fragment-ends l =
-      let e : fragmentLength (drop end s) ≡ 0 = rw (drop-of-length-le s l) in
-      record { is = omega arith; inside = omega arith }
-
-  module _ (more : end < length s) where
-    pub dot-here : getD s end 0 ≡ 46 → EndsAt s at end
-    unfolding fragmentLength
-    dot-here d =
-        let e : fragmentLength (drop end s) ≡ 0 = rw (drop-cons s end 0 more, d) in
-        record { is = omega arith; inside = omega arith }
-
-    pub no-dot : (getD s end 0 ≡ 46 → ⊥) → Within s at (end + 1)
-    unfolding fragmentLength
-    no-dot d =
-        let n : eqb 46 (getD s end 0) ≡ false = ne-eqb 46 (getD s end 0) (λ e. d (sym e)) in
-        let e : fragmentLength (drop end s) ≡ suc (fragmentLength (drop (end + 1) s)) = rw (add-one, drop-cons s end 0 more, n) in
-        record { inside = omega arith; is = omega arith }
-
--- ---- the first fragment, and the others
 abbrev fragments : Bytes → Path
 fragments = splitOn (eqb (byte "."))
-
--- Of what follows the first, a dot and the others.
-abbrev others : Bytes → Path
-others [] = []
-others (x ∷ t) = fragments t
-
-first-fragment : (t : Bytes) → fragments t ≡ take (fragmentLength t) t ∷ others (drop (fragmentLength t) t)
-unfolding fragmentLength
-first-fragment [] = refl
-first-fragment (x ∷ t) = go (eqb (byte ".") x) (first-fragment t)
-  where
-    go : (b : Bool) → fragments t ≡ take (fragmentLength t) t ∷ others (drop (fragmentLength t) t)
-        → cond b ([] ∷ fragments t) (consHead x (fragments t))
-        ≡ take (cond b 0 (suc (fragmentLength t))) (x ∷ t) ∷ others (drop (cond b 0 (suc (fragmentLength t))) (x ∷ t))
-    go true e = refl
-    go false e = ap (consHead x) e
 
 -- ---- what is left of a path
 -- What pathOf asks of each fragment.
@@ -106,20 +68,20 @@ and-true : (a b : Bool) → a && b ≡ true → b ≡ true
 and-true true b e = e
 and-true false b e = clash cc
 
-left-first : {s : Bytes} {at end : ℕ} {q : Path} → Left s at q → at < length s → EndsAt s at end → First s at end q
+left-first : {s : Bytes} {at end : ℕ} {q : Path} → Left s at q → at < length s → end ≡ at + size (drop at s) → First s at end q
 left-first (none-left l e) h x = absurd (omega arith)
-left-first {s} {at} {end} {q} (some-left e n) h x = record { rest = others (drop end s); is = is; behind = behind (decLt end (length s)) }
+left-first {s} {at} {end} {q} (some-left e n) h x = record { rest = others (eqb (byte ".")) (drop end s); is = is; behind = behind (decLt end (length s)) }
   where
-    size : end - at ≡ fragmentLength (drop at s)
-    size = omega (arith, x .is)
+    sized : end - at ≡ size (drop at s)
+    sized = omega (arith, x)
 
-    is : q ≡ take (end - at) (drop at s) ∷ others (drop end s)
-    is = e ∙ first-fragment (drop at s) ∙ rw (size, drop-drop (fragmentLength (drop at s)) at s, ← x .is)
+    is : q ≡ take (end - at) (drop at s) ∷ others (eqb (byte ".")) (drop end s)
+    is = e ∙ first-fragment (ascii ".") is-dot (drop at s) ∙ rw (sized, drop-drop (size (drop at s)) at s, ← x)
 
-    non-empty : all nonEmpty (others (drop end s)) ≡ true
+    non-empty : all nonEmpty (others (eqb (byte ".")) (drop end s)) ≡ true
     non-empty = and-true (nonEmpty (take (end - at) (drop at s))) _ (rw is at n)
 
-    behind : Dec (end < length s) → Left s (end + 1) (others (drop end s))
+    behind : Dec (end < length s) → Left s (end + 1) (others (eqb (byte ".")) (drop end s))
     behind (yes l) = some-left (rw (add-one, drop-cons s end 0 l)) non-empty
     behind (no l) = none-left (omega arith) (rw (drop-of-length-le s {i = end} (omega arith)))
 
@@ -147,7 +109,7 @@ module _ {s B T C : Bytes} {context h : Handle} {at : ℕ} (walked : Walked s B 
       go : {a : Areas} {top : ℕ} {w : Value} → Stands a top s at w h → Means a top w h
       go x = rw (x .leads, left-none (x .left) b) (x .means)
 
-  module _ {end : ℕ} {r : Found} (more : at < length s) (ends : EndsAt s at end) (named : PartNamed (take (end - at) (drop at s)) B T C h r) where
+  module _ {end : ℕ} {r : Found} (more : at < length s) (ends : end ≡ at + size (drop at s)) (named : PartNamed (take (end - at) (drop at s)) B T C h r) where
     -- The fragment names nothing.
     pub walk-stops : r ≡ Absent → Leads s B T C context Null
     walk-stops f = record { leads = λ A top q c e l m. go l (walked .stands A top q c e l m) }

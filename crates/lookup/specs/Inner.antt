@@ -3,9 +3,8 @@ use mathlib.Core.Path.{_≡_}
 use mathlib.Core.Bool.{Bool, true, false, cond, not}
 use mathlib.Core.List.{[], _∷_}
 use mathlib.Core.Option.{Option, none, some}
-use Prim.Native.Nat.{ℕ, zero, suc, _+_, _≤_}
+use Prim.Native.Nat.{ℕ, zero, suc, _≤_}
 use lib.Dec.{eqb, ltb}
-use lib.ListN.{length, drop}
 use Rattle.model.specs.Bytes.{Bytes, byte, sameBytes}
 use Rattle.model.specs.Limits.{heapCells}
 use Rattle.model.specs.Option.{_>>=_}
@@ -64,12 +63,3 @@ pub record ItemNamed (f T C : Bytes) (p : Parts) (r : Found) : Type 0 where
 -- ---- a fragment
 pub record PartNamed (f B T C : Bytes) (h : Handle) (r : Found) : Type 0 where
   pub finds : (A : Bytes) (top : ℕ) (v : Value) → top ≤ heapCells → Means (areas A B T C) top v h → Finds (areas A B T C) top (part f v) r
-
--- How many bytes stand before a dot, or in all.
-unfoldable pub fragmentLength : Bytes → ℕ
-fragmentLength [] = 0
-fragmentLength (x ∷ s) = cond (eqb (byte ".") x) 0 (suc (fragmentLength s))
-
-pub record EndsAt (s : Bytes) (at end : ℕ) : Type 0 where
-  pub is : end ≡ at + fragmentLength (drop at s)
-  pub inside : end ≤ length s

@@ -1,4 +1,5 @@
 // `var`: the value at a path, by handles.
+use bytes::path::fragment_end;
 use bytes::same;
 use heap::handle::Form;
 use heap::handle::Handle;
@@ -9,12 +10,10 @@ use heap::part::name_of;
 use heap::part::tail;
 use heap::string::part_of;
 ghost use mathlib.Core.Path.{_≡_};
-ghost use Prim.Native.Nat.{_≤_};
-ghost use lib.ListN.{length};
 ghost use Rattle.model.specs.Bytes.{sameBytes};
 ghost use Rattle.heap.specs.Parts.{labelBytes};
 ghost use Rattle.lookup.specs.Contract.{Leads};
-ghost use Rattle.lookup.specs.Inner.{memberOf, plain, IndexIs, itemOf, ItemNamed, PartNamed, EndsAt};
+ghost use Rattle.lookup.specs.Inner.{memberOf, plain, IndexIs, itemOf, ItemNamed, PartNamed};
 
 // A part, or that there is none.
 enum Found {
@@ -140,21 +139,6 @@ fn part(strings: &[u8], table: &[u8], cells: &[u8], h: Handle, fragment: &[u8]) 
     }
 }
 
-// Where the fragment that begins at `at` ends: at a dot, or with the path.
-fn fragment_end(path: &[u8], at: usize) -> usize
-    requires { ⌜ at ≤ length (now path) ⌝ }
-    ensures { λ r. ⌜ EndsAt (now (path .entry)) at r ⌝ }
-{
-    let mut end = at;
-    while end < path.len() {
-        if path[end] == b'.' {
-            return end;
-        }
-        end = end + 1;
-    }
-    end
-}
-
 // The value at a path, which has the form that 01 wants of `var`, in a context; null where there is none.
 pub fn value_at(path: &[u8], strings: &[u8], table: &[u8], cells: &[u8], context: Handle) -> Handle
     ensures { λ r. ⌜ Leads (now (path .entry)) (now (strings .entry)) (now (table .entry)) (now (cells .entry)) context r ⌝ }
@@ -162,7 +146,7 @@ pub fn value_at(path: &[u8], strings: &[u8], table: &[u8], cells: &[u8], context
     let mut h = context;
     let mut at: usize = 0;
     while at < path.len() {
-        let end = fragment_end(path, at);
+        let end = fragment_end(path, at, b".");
         let Found::Part(inner) = part(strings, table, cells, h, &path[at..end]) else {
             return Handle::Null;
         };

@@ -1,74 +1,41 @@
 -- Fragments: the first fragment of a text and the others, from a place on.
 use mathlib.Core.Path.{_≡_, refl, sym, ap, _∙_}
-use mathlib.Core.Bool.{Bool, true, false, cond}
+use mathlib.Core.Bool.{Bool, true, false, _||_, or-false}
 use mathlib.Core.List.{List, [], _∷_}
 use Prim.Native.Nat.{ℕ, suc, _+_, _-_, _≤_, _<_}
 use native.Mathlib.Decide.{decLt}
 use native.Mathlib.Nat.{sub-zero}
 use native.Mathlib.Numerals.{add-one}
 use native.Mathlib.Omega.{arith}
-use borrow.Author.Tests.{ne-eqb, le-leb, lt-leb}
+use borrow.Author.Tests.{le-leb, lt-leb}
 use lib.Dec.{eqb}
-use lib.ListN.{getD, length, take, drop, drop-of-length-le}
+use lib.ListN.{length, take, drop, drop-of-length-le}
 use lib.Seq.{drop-cons, drop-drop}
-use Rattle.model.specs.Bytes.{Bytes, ascii, consHead, sameBytes, splitOn}
+use Rattle.model.specs.Bytes.{Bytes, ascii, byte, sameBytes, splitOn}
+use Rattle.model.specs.Lists.{any}
 use Rattle.model.specs.Operations.{isUvciSeparator, nthString}
 use Rattle.model.specs.Value.{Value}
+use Rattle.bytes.specs.Laws.Fragment.{end-inside, others, first-fragment}
 use Rattle.heap.specs.Strings.{part}
 use Rattle.uvci.specs.declared.Fragment.{Fragment}
 use Rattle.uvci.specs.declared.Fragment.the-variants.{Absent, At}
 use Rattle.uvci.specs.Inner.{fragmentSize, fragmentsFrom, numbered, Ends, Finds, finds-none, finds-part}
 
-pub separator-last : (x : ℕ) → ¬ (x ≡ 47) → ¬ (x ≡ 35) → eqb x 58 ≡ isUvciSeparator x
-separator-last x p q = rw (ne-eqb x 47 p, ne-eqb x 35 q)
-
--- ---- the end of a fragment
-size-on : (s : Bytes) (i : ℕ) → i < length s → isUvciSeparator (getD s i 0) ≡ false → fragmentSize (drop i s) ≡ suc (fragmentSize (drop (i + 1) s))
-unfolding fragmentSize
-size-on s i h e = rw (add-one, drop-cons s i 0 h, e)
-
-size-stops : (s : Bytes) (i : ℕ) → i < length s → isUvciSeparator (getD s i 0) ≡ true → fragmentSize (drop i s) ≡ 0
-unfolding fragmentSize
-size-stops s i h e = rw (drop-cons s i 0 h, e)
-
-size-ends : (s : Bytes) (i : ℕ) → length s ≤ i → fragmentSize (drop i s) ≡ 0
-unfolding fragmentSize
-size-ends s i h = rw (drop-of-length-le s h)
-
--- The fragment that begins at `at` goes on to `end`: it ends where the one from there on does.
-pub record Ending (s : Bytes) (at end : ℕ) : Type 0 where
-  pub same-end : end + fragmentSize (drop end s) ≡ at + fragmentSize (drop at s)
-  pub inside : end ≤ length s
-
-pub ending-start : (s : Bytes) (at : ℕ) → at ≤ length s → Ending s at at
-ending-start s at h = record { same-end = refl; inside = h }
-
-module _ {s : Bytes} {at end : ℕ} (g : Ending s at end) where
-  pub ending-on : end < length s → isUvciSeparator (getD s end 0) ≡ false → Ending s at (end + 1)
-  ending-on h e = record { same-end = omega (arith, size-on s end h e, g .same-end); inside = omega arith }
-
-  pub ending-stops : end < length s → isUvciSeparator (getD s end 0) ≡ true → Ends s at end
-  ending-stops h e = record { is = omega (arith, size-stops s end h e, g .same-end); inside = g .inside }
-
-  pub ending-ends : length s ≤ end → Ends s at end
-  ending-ends h = record { is = omega (arith, size-ends s end h, g .same-end); inside = g .inside }
-
 -- ---- the first fragment, and the others after its separator
+-- 01: "Split on / # :".
+is-separator : (x : ℕ) → any (eqb x) (ascii "/#:") ≡ isUvciSeparator x
+is-separator x = go (eqb x (byte "/")) (eqb x (byte "#")) (eqb x (byte ":"))
+  where
+    go : (a b c : Bool) → a || (b || (c || false)) ≡ (a || b) || c
+    go true b c = refl
+    go false true c = refl
+    go false false c = or-false c
+
 abbrev afterSeparator : Bytes → List Bytes
-afterSeparator [] = []
-afterSeparator (x ∷ s) = splitOn isUvciSeparator s
+afterSeparator = others isUvciSeparator
 
 first : (s : Bytes) → splitOn isUvciSeparator s ≡ take (fragmentSize s) s ∷ afterSeparator (drop (fragmentSize s) s)
-unfolding fragmentSize
-first [] = refl
-first (x ∷ s) = go (isUvciSeparator x) (first s)
-  where
-    go : (b : Bool)
-        → splitOn isUvciSeparator s ≡ take (fragmentSize s) s ∷ afterSeparator (drop (fragmentSize s) s)
-        → cond b ([] ∷ splitOn isUvciSeparator s) (consHead x (splitOn isUvciSeparator s))
-        ≡ take (cond b 0 (suc (fragmentSize s))) (x ∷ s) ∷ afterSeparator (drop (cond b 0 (suc (fragmentSize s))) (x ∷ s))
-    go true e = refl
-    go false e = ap (consHead x) e
+first = first-fragment (ascii "/#:") is-separator
 
 after-end : (s : Bytes) (end : ℕ) → afterSeparator (drop end s) ≡ fragmentsFrom s (end + 1)
 after-end s end = go (decLt end (length s))
@@ -78,6 +45,9 @@ after-end s end = go (decLt end (length s))
     go (no p) = rw (lt-leb (end + 1) (length s) (omega arith), drop-of-length-le s {i = end} (omega arith))
 
 module _ (s : Bytes) (at end : ℕ) (inside : at ≤ length s) (e : Ends s at end) where
+  pub ends-inside : end ≤ length s
+  ends-inside = omega (arith, e .is, end-inside (ascii "/#:") s at inside)
+
   -- From a place of the text on.
   pub first-from : fragmentsFrom s at ≡ part s at (end - at) ∷ fragmentsFrom s (end + 1)
   first-from =
@@ -99,7 +69,7 @@ module _ {s : Bytes} {v : Value} {start left : ℕ} (g : Seeking s v start left)
 
   module _ {end : ℕ} (inside : start ≤ length s) (e : Ends s start end) where
     pub seek-here : {r : Fragment} → left ≡ 0 → r ≡ At start (end - start) → Finds s v r
-    seek-here z f = rw (← g .is, first-from s start end inside e, z) (finds-part f (omega (arith, e .is, e .inside)))
+    seek-here z f = rw (← g .is, first-from s start end inside e, z) (finds-part f (omega (arith, e .is, ends-inside s start end inside e)))
 
     pub seek-on : ¬ (left ≡ 0) → Seeking s v (end + 1) (left - 1)
     seek-on z =
@@ -120,7 +90,7 @@ module _ {s : Bytes} {one : ℕ} (e : Ends s 0 one) where
 
   module _ {two : ℕ} (more : ¬ (one ≡ length s)) (f : Ends s (one + 1) two) where
     next-split : splitOn isUvciSeparator s ≡ part s 0 one ∷ part s (one + 1) (two - (one + 1)) ∷ fragmentsFrom s (two + 1)
-    next-split = start-split ∙ ap (λ (l : List Bytes). part s 0 one ∷ l) (first-from s (one + 1) two (omega (arith, e .inside)) f)
+    next-split = start-split ∙ ap (λ (l : List Bytes). part s 0 one ∷ l) (first-from s (one + 1) two (omega (arith, ends-inside s 0 one (omega arith) e)) f)
 
     -- The first two fragments p and q are compared.
     module _ {p : Bytes} (is-first : p ≡ part s 0 one) where

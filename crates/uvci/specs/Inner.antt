@@ -1,27 +1,26 @@
 -- Inner: what the private functions of this crate are about.
 use mathlib.Core.Path.{_≡_}
 use mathlib.Core.Bool.{cond}
-use mathlib.Core.List.{List, [], _∷_}
-use Prim.Native.Nat.{ℕ, suc, _+_, _≤_}
+use mathlib.Core.List.{List, []}
+use Prim.Native.Nat.{ℕ, _+_, _≤_}
 use lib.Dec.{leb}
 use lib.ListN.{length, drop}
-use Rattle.model.specs.Bytes.{Bytes, splitOn}
+use Rattle.model.specs.Bytes.{Bytes, ascii, splitOn}
 use Rattle.model.specs.Operations.{dropPrefix, fragment, isUvciSeparator}
 use Rattle.model.specs.Value.{Value, scalar, null, string}
 use Rattle.syntax.specs.Layout.{unbiased}
+use Rattle.bytes.specs.Fragment.{fragmentLength}
 use Rattle.heap.specs.Strings.{part}
 use Rattle.uvci.specs.declared.Fragment.{Fragment}
 use Rattle.uvci.specs.declared.Fragment.the-variants.{Absent, At}
 
 -- The bytes of a text before its first separator.
-unfoldable pub fragmentSize : Bytes → ℕ
-fragmentSize [] = 0
-fragmentSize (x ∷ s) = cond (isUvciSeparator x) 0 (suc (fragmentSize s))
+abbrev pub fragmentSize : Bytes → ℕ
+fragmentSize = fragmentLength (ascii "/#:")
 
 -- The fragment that begins at a place of a text ends at another.
 pub record Ends (s : Bytes) (at end : ℕ) : Type 0 where
   pub is : end ≡ at + fragmentSize (drop at s)
-  pub inside : end ≤ length s
 
 -- The fragments of a text from a place on; none past its end.
 abbrev pub fragmentsFrom : Bytes → ℕ → List Bytes

@@ -1,4 +1,5 @@
 // `extractFromUVCI`.
+use bytes::path::fragment_end;
 use bytes::same;
 use heap::handle::Handle;
 use heap::handle::Span;
@@ -8,9 +9,7 @@ use heap::string::part_of;
 use result::Operated;
 use syntax::BIAS;
 ghost use mathlib.Core.Path.{_≡_};
-ghost use Prim.Native.Nat.{_≤_};
-ghost use lib.ListN.{length};
-ghost use Rattle.model.specs.Operations.{isUvciSeparator, nthString};
+ghost use Rattle.model.specs.Operations.{nthString};
 ghost use Rattle.uvci.specs.Inner.{Ends, fragmentsFrom, numbered, named, Finds};
 ghost use Rattle.uvci.specs.Contract.{Extracts};
 
@@ -20,32 +19,11 @@ enum Fragment {
     At { start: usize, size: usize },
 }
 
-// 01: "Split on / # :".
-fn is_separator(x: u8) -> bool
-    ensures { λ r. ⌜ r ≡ isUvciSeparator x ⌝ }
-{
-    if x == b'/' {
-        return true;
-    }
-    if x == b'#' {
-        return true;
-    }
-    x == b':'
-}
-
-// Where the fragment that begins at `at` ends.
-fn fragment_end(text: &[u8], at: usize) -> usize
-    requires { ⌜ at ≤ length (now text) ⌝ }
+// Where the fragment that begins at `at` ends. 01: "Split on / # :".
+fn end_of(text: &[u8], at: usize) -> usize
     ensures { λ r. ⌜ Ends (now (text .entry)) at r ⌝ }
 {
-    let mut end = at;
-    while end < text.len() {
-        if is_separator(text[end]) {
-            return end;
-        }
-        end = end + 1;
-    }
-    end
+    fragment_end(text, at, b"/#:")
 }
 
 // The fragment so many after the one that begins at `at`.
@@ -55,7 +33,7 @@ fn nth(text: &[u8], at: usize, index: u64) -> Fragment
     let mut start = at;
     let mut left = index;
     while start <= text.len() {
-        let end = fragment_end(text, start);
+        let end = end_of(text, start);
         if left == 0 {
             return Fragment::At {
                 start,
@@ -72,12 +50,12 @@ fn nth(text: &[u8], at: usize, index: u64) -> Fragment
 fn numbered_from(text: &[u8]) -> usize
     ensures { λ r. ⌜ fragmentsFrom (now (text .entry)) r ≡ numbered (now (text .entry)) ⌝ }
 {
-    let first = fragment_end(text, 0);
+    let first = end_of(text, 0);
     if first == text.len() {
         return 0;
     }
     let rest = first + 1;
-    let second = fragment_end(text, rest);
+    let second = end_of(text, rest);
     if !same(part_of(text, 0, first), b"URN") {
         return 0;
     }
