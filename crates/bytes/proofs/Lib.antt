@@ -1,3 +1,4 @@
 pub mod Bytewise
 pub mod Fragments
 pub mod Paths
+pub mod Search

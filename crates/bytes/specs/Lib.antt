@@ -1,4 +1,5 @@
--- Where a fragment of a text ends; what the private functions of this crate do; then the laws.
+-- Where a fragment of a text ends; names in a list; what the private functions of this crate do; then the laws.
 pub mod Fragment
+pub mod Names
 pub mod Inner
 pub mod Laws

@@ -1,7 +1,8 @@
-// Bytes compared with bytes; the texts of paths.
+// Bytes compared with bytes; names in a list; the fragments of texts.
 ghost use mathlib.Core.Path.{_≡_};
 ghost use Rattle.model.specs.Bytes.{sameBytes};
 
+pub mod names;
 pub mod path;
 
 // 01, Reading: "Names and strings are equal when their decoded UTF-8 bytes are."

@@ -1,0 +1,30 @@
+// A name among others that lie in one byte string.
+use crate::same;
+ghost use Rattle.bytes.specs.Names.{IsPosition};
+
+pub enum Position {
+    Nowhere,
+    At(usize),
+}
+
+// The first place of a name among those of a list, each of them after a byte that is its length.
+pub fn position_of(names: &[u8], name: &[u8]) -> Position
+    ensures { λ r. ⌜ IsPosition (now (names .entry)) (now (name .entry)) r ⌝ }
+{
+    let mut at: usize = 0;
+    let mut i: usize = 0;
+    while at < names.len() {
+        let size = names[at] as usize;
+        let start = at + 1;
+        if names.len() - start < size {
+            return Position::Nowhere;
+        }
+        let end = start + size;
+        if same(name, &names[start..end]) {
+            return Position::At(i);
+        }
+        at = end;
+        i = i + 1;
+    }
+    Position::Nowhere
+}
