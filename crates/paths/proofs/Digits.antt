@@ -1,0 +1,96 @@
+-- Digits: the loop over the digits of an index.
+use mathlib.Core.Path.{_≡_, refl, sym, _∙_}
+use mathlib.Core.Bool.{true, false, not}
+use mathlib.Core.List.{[], _∷_}
+use mathlib.Core.Option.{none, some}
+use Prim.Native.Nat.{ℕ, _+_, _*_, _-_, _≤_, _<_}
+use native.Mathlib.Numerals.{add-one}
+use native.Mathlib.Omega.{arith}
+use borrow.Author.Tests.{le-leb, lt-leb}
+use lib.Dec.{eqb}
+use lib.ListN.{length, getD, drop, drop-of-length-le}
+use lib.Seq.{drop-cons}
+use Rattle.model.specs.Bytes.{Bytes, isDigit, digitValue}
+use Rattle.model.specs.Option.{when}
+use Rattle.model.specs.Path.{indexOf, decimalFrom}
+use Rattle.model.specs.Laws.Logic.{clash}
+use Rattle.model.specs.Laws.Option.{when-some}
+use Rattle.paths.specs.declared.index.Index.the-variants.{Outside, At}
+use Rattle.paths.specs.Contract.{limit, IndexIs, inside, outside}
+use Rattle.paths.specs.Inner.{plain}
+
+-- ---- no leading zero
+pub plain-none : (f : Bytes) → length f ≡ 0 → false ≡ plain f
+unfolding plain
+plain-none [] e = refl
+plain-none (x ∷ f) e = absurd (omega arith)
+
+pub plain-one : (f : Bytes) → length f ≡ 1 → true ≡ plain f
+unfolding plain
+plain-one [] e = absurd (omega arith)
+plain-one (x ∷ []) e = refl
+plain-one (x ∷ y ∷ f) e = absurd (omega arith)
+
+pub plain-more : (f : Bytes) → 1 < length f → not (eqb (getD f 0 0) 48) ≡ plain f
+unfolding plain
+plain-more [] l = absurd (omega arith)
+plain-more (x ∷ []) l = absurd (omega arith)
+plain-more (x ∷ y ∷ f) l = refl
+
+index-plain : (f : Bytes) → indexOf f ≡ when (plain f) (decimalFrom 0 f)
+unfolding plain
+index-plain [] = refl
+index-plain (x ∷ []) = refl
+index-plain (x ∷ y ∷ f) = refl
+
+-- ---- the loop
+no-index : {f : Bytes} → indexOf f ≡ none → IndexIs f Outside
+no-index e = outside (λ k g. clash cc)
+
+pub index-zero : (f : Bytes) → plain f ≡ false → IndexIs f Outside
+index-zero f e = no-index (index-plain f ∙ rw e)
+
+-- The digits before place i make the number `at`.
+pub record ReadTo (f : Bytes) (at i : ℕ) : Type 0 where
+  pub within : i ≤ length f
+  pub small : at < limit
+  pub is : indexOf f ≡ decimalFrom at (drop i f)
+
+pub index-begins : (f : Bytes) → plain f ≡ true → ReadTo f 0 0
+index-begins f e = record { within = omega arith; small = omega arith; is = index-plain f ∙ rw e }
+
+-- Further digits make a number no smaller.
+decimal-grows : (t : Bytes) (n k : ℕ) → decimalFrom n t ≡ some k → n ≤ k
+decimal-grows [] n k e = let s : n ≡ k = cc in omega arith
+decimal-grows (x ∷ t) n k e =
+    omega (arith, decimal-grows t (n * 10 + digitValue x) k (when-some (isDigit x) (decimalFrom (n * 10 + digitValue x) t) e .1))
+
+module _ {f : Bytes} {at i : ℕ} (read : ReadTo f at i) where
+  pub index-ends : length f ≤ i → IndexIs f (At at)
+  index-ends l = inside {k = at} (read .is ∙ rw (drop-of-length-le f l))
+
+  module _ (more : i < length f) where
+    abbrev byte-here : ℕ
+    byte-here = getD f i 0
+
+    stops : isDigit byte-here ≡ false → IndexIs f Outside
+    stops e = no-index (read .is ∙ rw (drop-cons f i 0 more, e))
+
+    pub index-low : byte-here < 48 → IndexIs f Outside
+    index-low l = stops (rw (lt-leb 48 byte-here l))
+
+    pub index-high : 57 < byte-here → IndexIs f Outside
+    index-high l = stops (rw (le-leb 48 byte-here (omega arith), lt-leb byte-here 57 l))
+
+    module _ (low : 48 ≤ byte-here) (high : byte-here ≤ 57) where
+      abbrev next : ℕ
+      next = at * 10 + (byte-here - 48)
+
+      goes-on : indexOf f ≡ decimalFrom next (drop (i + 1) f)
+      goes-on = read .is ∙ rw (add-one, drop-cons f i 0 more, le-leb 48 byte-here low, le-leb byte-here 57 high)
+
+      pub index-past : limit ≤ next → IndexIs f Outside
+      index-past l = outside (λ k h. omega (arith, decimal-grows (drop (i + 1) f) next k (sym goes-on ∙ h)))
+
+      pub index-on : next < limit → ReadTo f next (i + 1)
+      index-on l = record { within = omega arith; small = l; is = goes-on }

@@ -1,0 +1,4 @@
+-- Laws for the proofs of paths.
+pub mod Digits
+pub mod Parts
+pub mod Walk
