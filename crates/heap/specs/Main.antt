@@ -11,6 +11,10 @@ use Rattle.model.specs.Limits.{maxNesting, heapCells}
 use Rattle.model.specs.Value.{Value, array, object, Values, item, Members as ValueMembers, member, memberCount}
 use Rattle.syntax.specs.Layout.{itemCount, stringsAreaOf, tableOf}
 use Rattle.syntax.specs.Read.{done, read}
+use Rattle.table.specs.declared.node.Node.{Node}
+use Rattle.table.specs.Denotes.{Denotes}
+use Rattle.table.specs.Main as TableTheorems
+use Rattle.table.specs.Node.{nodeAt}
 use Rattle.heap.specs.declared.handle.Handle.{Handle}
 use Rattle.heap.specs.declared.handle.Handle.the-variants.{Compound}
 use Rattle.heap.specs.declared.handle.Form.the-variants as forms
@@ -18,14 +22,14 @@ use Rattle.heap.specs.declared.handle.Form.the-variants.{Members, Contex
 use Rattle.heap.specs.declared.handle.Parts.{Parts}
 use Rattle.heap.specs.Blocks.{storedFrom, MeansEach}
 use Rattle.heap.specs.Cells.{cellBytes, Small, cellHandle, stored}
-use Rattle.heap.specs.Handles.{parts, rowHandle}
+use Rattle.heap.specs.Handles.{parts, recordHandle, rowHandle}
 use Rattle.heap.specs.Means.{Means}
 use Rattle.heap.specs.Parts.{headOf, tailOf, labelOf, labelBytes}
 use Rattle.heap.specs.Unfold.{Areas, areas, withCells, unfolded}
 use Rattle.heap.specs.Laws.Cells as CellsLaws
 use Rattle.heap.specs.Laws.Made as MadeLaws
 use Rattle.heap.specs.Laws.Means as MeansLaws
-use Rattle.heap.specs.Laws.ReadForm as ReadFormLaws
+use Rattle.heap.specs.Laws.Rows as RowsLaws
 
 -- A handle means one value.
 pub one-value : (a : Areas) (top : ℕ) (v w : Value) (h : Handle) → Means a top v h → Means a top w h → v ≡ w
@@ -118,14 +122,27 @@ pub written :
     → writtenWithin room (unfolded a maxNesting h) ≡ writtenWithin room v
 written a top v h room m = MeansLaws.means-written m room
 
--- What reading leaves in its areas means the value that was read: the handle is that of the first row.
+-- A node of the record's table that denotes a value has a handle that means it; and the other way round.
+pub node-means :
+    (a : Areas) (top : ℕ) (v : Value) (n : Node)
+    → Denotes (a .table) (a .strings) v n
+    → Means a top v (recordHandle n)
+node-means a top v n d = RowsLaws.node-means d
+
+pub node-denotes :
+    (a : Areas) (top : ℕ) (v : Value) (n : Node)
+    → Means a top v (recordHandle n)
+    → Denotes (a .table) (a .strings) v n
+node-denotes a top v n m = RowsLaws.node-denotes n m
+
+-- So what reading leaves in its areas means the value that was read: the handle is that of the first row.
 pub what-was-read :
     (s : Bytes) (v : Value) (a : Areas) (n m : ℕ)
     → read s ≡ done v
     → a .table ≡ tableOf v n
     → a .strings ≡ stringsAreaOf v m
     → Means a 0 v (rowHandle (a .table) 0)
-what-was-read = ReadFormLaws.text-means
+what-was-read s v a n m e t b = node-means a 0 v (nodeAt (a .table) 0) (TableTheorems.what-was-read s v (a .table) (a .strings) n m e t b)
 
 -- So what is written from the first row is the text of what was read.
 pub read-written :

@@ -1,13 +1,13 @@
 -- Parts: the parts of an array or object: the first, its name, and the others.
 use mathlib.Core.Bool.{cond}
 use mathlib.Core.List.{[]}
-use Prim.Native.Nat.{ℕ, _+_, _*_, _-_, _/_}
+use Prim.Native.Nat.{ℕ, _+_, _-_, _/_}
 use lib.Dec.{eqb, ltb}
 use lib.ListN.{length}
-use Rattle.area.specs.Words.{wordAt}
 use Rattle.model.specs.Bytes.{Bytes}
 use Rattle.model.specs.Eval.{current, accumulator}
-use Rattle.syntax.specs.Layout.{rowBytes}
+use Rattle.table.specs.Node.{nextRow, nameAt}
+use Rattle.table.specs.Strings.{bytesOf}
 use Rattle.heap.specs.declared.handle.Form.{Form}
 use Rattle.heap.specs.declared.handle.Form.the-variants.{Items, Members, List, Context}
 use Rattle.heap.specs.declared.handle.Handle.{Handle}
@@ -15,8 +15,7 @@ use Rattle.heap.specs.declared.handle.Parts.{Parts}
 use Rattle.heap.specs.declared.part.Label.{Label}
 use Rattle.heap.specs.declared.part.Label.the-variants.{Nothing, Name, Current, Accumulator}
 use Rattle.heap.specs.Cells.{cellBytes, cellHandle}
-use Rattle.heap.specs.Handles.{parts, rowHandle, nextRow}
-use Rattle.heap.specs.Strings.{part}
+use Rattle.heap.specs.Handles.{parts, rowHandle}
 
 -- The first part: in a row of the table T, or in a cell of the heap C.
 abbrev pub headAt : Bytes → Bytes → Form → ℕ → Handle
@@ -46,20 +45,13 @@ abbrev pub tailOf : Bytes → Bytes → Parts → Parts
 tailOf T C p = parts (p .form) (nextOf T C p) (p .count - 1)
 
 -- ---- names
--- Of the member in a row.
-unfoldable pub rowLabel : Bytes → ℕ → Label
-rowLabel T i =
-    cond (ltb i (length T / rowBytes))
-    (Name (wordAt T (i * rowBytes + 4)) (wordAt T (i * rowBytes) / 256))
-    (Name 0 0)
-
 -- 01, Evaluation: "an object with `current` and `accumulator` in that order"; the last of them is left where the count is 1.
 abbrev pub contextLabel : ℕ → Label
 contextLabel n = cond (eqb n 1) Accumulator Current
 
 abbrev pub labelAt : Bytes → Form → ℕ → ℕ → Label
 labelAt T Items i n = Nothing
-labelAt T Members i n = rowLabel T i
+labelAt T Members i n = Name (nameAt T i)
 labelAt T List j n = Nothing
 labelAt T Context j n = contextLabel n
 
@@ -69,6 +61,6 @@ labelOf T p = labelAt T (p .form) (p .first) (p .count)
 -- A name's bytes: a part of the record's strings B, or a constant.
 abbrev pub labelBytes : Bytes → Label → Bytes
 labelBytes B Nothing = []
-labelBytes B (Name start size) = part B start size
+labelBytes B (Name s) = bytesOf B s
 labelBytes B Current = current
 labelBytes B Accumulator = accumulator

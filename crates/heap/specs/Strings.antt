@@ -1,14 +1,9 @@
 -- Strings: where the bytes of a string lie.
-use Prim.Native.Nat.{ℕ}
-use lib.ListN.{take, drop}
 use Rattle.model.specs.Bytes.{Bytes}
+use Rattle.table.specs.Strings.{part}
 use Rattle.heap.specs.declared.handle.Area.{Area}
 use Rattle.heap.specs.declared.handle.Area.the-variants.{Rule, Record}
 use Rattle.heap.specs.declared.handle.Span.{Span}
-
--- So many bytes of an area from a place on; fewer where it ends before.
-abbrev pub part : Bytes → ℕ → ℕ → Bytes
-part A start size = take size (drop start A)
 
 -- Of the rule's strings A and the record's strings B.
 abbrev pub areaBytes : Bytes → Bytes → Area → Bytes

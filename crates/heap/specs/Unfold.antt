@@ -1,7 +1,6 @@
 -- Unfold: the value that a handle stands for, down to some nesting, whatever the areas hold. Of a handle that means a value (Means.antt)
 -- it is that value, if it nests no deeper.
 use mathlib.Core.Bool.{true, false}
-use mathlib.Core.List.{[]}
 use Prim.Native.Nat.{ℕ, zero, suc, _-_}
 use Rattle.model.specs.Bytes.{Bytes}
 use Rattle.model.specs.Instant.{inRange, fromYear0}
@@ -24,10 +23,6 @@ pub record Areas : Type 0 where
 
 abbrev pub areas : Bytes → Bytes → Bytes → Bytes → Areas
 areas A B T C = record { rule = A; strings = B; table = T; cells = C }
-
--- A read text's own table T and strings B, as the handles of its rows see them: there are no cells.
-abbrev pub readAreas : Bytes → Bytes → Areas
-readAreas T B = areas [] B T []
 
 -- The same areas with other cells.
 abbrev pub withCells : Areas → Bytes → Areas

@@ -12,6 +12,29 @@ ghost use Rattle.heap.specs.Cells.{Packs, spanTag, partsTag, packedOf, o
 
 pub const CELL_BYTES: usize = 8;
 
+// Tags: of a scalar or an instant, of a string by its area, of an array or object by the form of its parts.
+const NULL_TAG: usize = 0;
+
+const FALSE_TAG: usize = 1;
+
+const TRUE_TAG: usize = 2;
+
+const INTEGER_TAG: usize = 3;
+
+const INSTANT_TAG: usize = 4;
+
+const RULE_STRING_TAG: usize = 5;
+
+const RECORD_STRING_TAG: usize = 6;
+
+const ITEMS_TAG: usize = 7;
+
+const MEMBERS_TAG: usize = 8;
+
+const LIST_TAG: usize = 9;
+
+const CONTEXT_TAG: usize = 10;
+
 // A handle as three numbers: its tag, a number of 32 bits and one of 24.
 pub struct Packed {
     pub tag: usize,
@@ -29,8 +52,8 @@ fn span_tag(area: Area) -> usize
     ensures { λ r. ⌜ (r ≡ spanTag area) × (r < 16) ⌝ }
 {
     match area {
-        Area::Rule => 5,
-        Area::Record => 6,
+        Area::Rule => RULE_STRING_TAG,
+        Area::Record => RECORD_STRING_TAG,
     }
 }
 
@@ -38,10 +61,10 @@ fn parts_tag(form: Form) -> usize
     ensures { λ r. ⌜ (r ≡ partsTag form) × (r < 16) ⌝ }
 {
     match form {
-        Form::Items => 7,
-        Form::Members => 8,
-        Form::List => 9,
-        Form::Context => 10,
+        Form::Items => ITEMS_TAG,
+        Form::Members => MEMBERS_TAG,
+        Form::List => LIST_TAG,
+        Form::Context => CONTEXT_TAG,
     }
 }
 
@@ -49,11 +72,19 @@ fn pack(h: Handle) -> Packed
     ensures { λ r. ⌜ r ≡ packedOf h ⌝ }
 {
     match h {
-        Handle::Null => numbers(0, 0, 0),
-        Handle::False => numbers(1, 0, 0),
-        Handle::True => numbers(2, 0, 0),
-        Handle::Integer(n) => numbers(3, (n % 4294967296) as usize, (n / 4294967296) as usize),
-        Handle::Instant(n) => numbers(4, (n % 4294967296) as usize, (n / 4294967296) as usize),
+        Handle::Null => numbers(NULL_TAG, 0, 0),
+        Handle::False => numbers(FALSE_TAG, 0, 0),
+        Handle::True => numbers(TRUE_TAG, 0, 0),
+        Handle::Integer(n) => numbers(
+            INTEGER_TAG,
+            (n % 4294967296) as usize,
+            (n / 4294967296) as usize,
+        ),
+        Handle::Instant(n) => numbers(
+            INSTANT_TAG,
+            (n % 4294967296) as usize,
+            (n / 4294967296) as usize,
+        ),
         Handle::String(s) => {
             let area = s.area;
             numbers(span_tag(area), s.start, s.size)
@@ -80,34 +111,34 @@ fn unpack(p: Packed) -> Handle
     let tag = p.tag;
     let low = p.low;
     let high = p.high;
-    if tag == 1 {
+    if tag == FALSE_TAG {
         return Handle::False;
     }
-    if tag == 2 {
+    if tag == TRUE_TAG {
         return Handle::True;
     }
-    if tag == 3 {
+    if tag == INTEGER_TAG {
         return Handle::Integer(joined(low, high));
     }
-    if tag == 4 {
+    if tag == INSTANT_TAG {
         return Handle::Instant(joined(low, high));
     }
-    if tag == 5 {
+    if tag == RULE_STRING_TAG {
         return string(Area::Rule, low, high);
     }
-    if tag == 6 {
+    if tag == RECORD_STRING_TAG {
         return string(Area::Record, low, high);
     }
-    if tag == 7 {
+    if tag == ITEMS_TAG {
         return compound(Form::Items, low, high);
     }
-    if tag == 8 {
+    if tag == MEMBERS_TAG {
         return compound(Form::Members, low, high);
     }
-    if tag == 9 {
+    if tag == LIST_TAG {
         return compound(Form::List, low, high);
     }
-    if tag == 10 {
+    if tag == CONTEXT_TAG {
         return compound(Form::Context, low, high);
     }
     Handle::Null

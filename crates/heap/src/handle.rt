@@ -1,9 +1,8 @@
-// Handles, and the handle of a row of a read text.
-use area::get_word;
-use syntax::ROW_BYTES;
+// Handles, and the handle of a value of the record.
+use table::node::Node;
+use table::node::node_at;
 ghost use mathlib.Core.Path.{_≡_};
-ghost use Prim.Native.Nat.{_<_};
-ghost use Rattle.heap.specs.Handles.{span, parts, ofRow, rowHandle, nextRow};
+ghost use Rattle.heap.specs.Handles.{span, parts, recordHandle, rowHandle};
 
 // Which strings area: the rule's or the record's.
 pub enum Area {
@@ -58,57 +57,24 @@ pub fn compound(form: Form, first: usize, count: usize) -> Handle
     Handle::Compound(Parts { form, first, count })
 }
 
-// By the kind of a row, the row after it, and its last two numbers.
-fn of_row(kind: usize, next: usize, a: usize, b: usize) -> Handle
-    requires { ⌜ (a < 4294967296) × (b < 4294967296) ⌝ }
-    ensures { λ r. ⌜ r ≡ ofRow kind next a b ⌝ }
+// The handle of a value of the record.
+pub fn of_node(n: Node) -> Handle
+    ensures { λ r. ⌜ r ≡ recordHandle n ⌝ }
 {
-    if kind == 2 {
-        return Handle::False;
+    match n {
+        Node::Null => Handle::Null,
+        Node::False => Handle::False,
+        Node::True => Handle::True,
+        Node::Integer(i) => Handle::Integer(i),
+        Node::String(s) => string(Area::Record, s.start, s.size),
+        Node::Array(q) => compound(Form::Items, q.first, q.count),
+        Node::Object(q) => compound(Form::Members, q.first, q.count),
     }
-    if kind == 3 {
-        return Handle::True;
-    }
-    if kind == 4 {
-        return Handle::Integer(a as u64 + b as u64 * 4294967296);
-    }
-    if kind == 5 {
-        return string(Area::Record, a, b);
-    }
-    if kind == 6 {
-        return compound(Form::Items, next, a);
-    }
-    if kind == 7 {
-        return compound(Form::Members, next, a);
-    }
-    Handle::Null
 }
 
-// The value in a row; null where the table has no such row.
-pub fn load(table: &[u8], row: usize) -> Handle
-    ensures { λ r. ⌜ r ≡ rowHandle (now (table .entry)) row ⌝ }
+// The value in a row of the record; null where its table has no such row.
+pub fn load(record_table: &[u8], row: usize) -> Handle
+    ensures { λ r. ⌜ r ≡ rowHandle (now («record_table» .entry)) row ⌝ }
 {
-    if row >= table.len() / ROW_BYTES {
-        return Handle::Null;
-    }
-    let at = row * ROW_BYTES;
-    let kind = get_word(table, at) % 256;
-    let a = get_word(table, at + 8);
-    let b = get_word(table, at + 12);
-    of_row(kind, row + 1, a, b)
-}
-
-// The row after a value and all that it holds; the row itself where the table has no such row.
-pub fn next_row(table: &[u8], row: usize) -> usize
-    ensures { λ r. ⌜ r ≡ nextRow (now (table .entry)) row ⌝ }
-{
-    if row >= table.len() / ROW_BYTES {
-        return row;
-    }
-    let at = row * ROW_BYTES;
-    let kind = get_word(table, at) % 256;
-    if kind < 6 {
-        return row + 1;
-    }
-    get_word(table, at + 12)
+    of_node(node_at(record_table, row))
 }

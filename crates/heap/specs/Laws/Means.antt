@@ -1,7 +1,7 @@
 -- Means: a handle's meaning is kept while the heap grows, is what unfolding gives, is one value, and fits into a cell; the parts of a handle
 -- mean the parts of its value.
 -- antt's `mutual` clauses do not match where a constructor's target has a record in it: so an induction here is an `elim`, with a motive for
--- each of Means, RowItems, RowMembers and CellItems.
+-- each of Means and CellItems.
 use mathlib.Core.Path.{_≡_, refl, sym, ap, ap₂, _∙_}
 use Prim.Native.Nat.{ℕ, zero, suc, _+_, _-_, _/_, max, _≤_, _<_, suc-le-suc}
 use native.Mathlib.Decide.{decLt}
@@ -13,24 +13,27 @@ use Rattle.model.specs.Bytes.{Bytes}
 use Rattle.model.specs.Eval.{context}
 use Rattle.model.specs.Judgement.{writtenWithin}
 use Rattle.model.specs.Laws.DateText.{since-bound}
-use Rattle.model.specs.Limits.{maxNesting, maxValues, heapCells}
-use Rattle.model.specs.Size.{nesting, itemsNesting, membersNesting}
-use Rattle.model.specs.Value.{Value, scalar, array, object, null, integer, string, Values, item, Members, member, memberCount}
+use Rattle.model.specs.Limits.{maxNesting, heapCells}
+use Rattle.model.specs.Size.{nesting, itemsNesting}
+use Rattle.model.specs.Value.{Value, scalar, array, object, integer, string, Values, item, Members, member, memberCount}
 use Rattle.model.specs.Laws.Logic.{clash}
 use Rattle.syntax.specs.Layout.{itemCount, unbiased}
 use Rattle.syntax.specs.Laws.Biased.{biased-small, unbiased-biased}
 use Rattle.syntax.specs.Laws.Widths.{text-small, values-small}
+use Rattle.table.specs.Denotes.{row-item, row-member}
+use Rattle.table.specs.Laws.Denotes.{items-row, members-row}
 use Rattle.heap.specs.declared.handle.Handle.{Handle}
 use Rattle.heap.specs.declared.handle.Handle.the-variants as variants
 use Rattle.heap.specs.declared.handle.Form.the-variants as forms
 use Rattle.heap.specs.declared.handle.Parts.{Parts}
 use Rattle.heap.specs.Cells.{Packs, packedOf, cellHandle, cellBytes, stored}
 use Rattle.heap.specs.Handles.{parts}
-use Rattle.heap.specs.Means.{Means, means-null, means-false, means-true, means-integer, means-instant, means-string, means-items, means-members, means-list, means-context, RowItems, no-row-items, row-item, RowMembers, no-row-members, row-member, CellItems, no-cell-items, cell-item}
+use Rattle.heap.specs.Means.{Means, means-null, means-false, means-true, means-integer, means-instant, means-string, means-items, means-members, means-list, means-context, CellItems, no-cell-items, cell-item}
 use Rattle.heap.specs.Parts.{headOf, tailOf, nextCell, labelOf, labelBytes}
-use Rattle.heap.specs.Unfold.{Areas, withCells, instantAt, itemsBy, membersBy, valueBy, unfolded}
+use Rattle.heap.specs.Unfold.{Areas, withCells, instantAt, itemsBy, membersBy, unfolded}
 use Rattle.heap.specs.Laws.Cells.{length-stored, stored-other}
 use Rattle.heap.specs.Laws.Numbers.{instantAt-sinceYear0, heap-small}
+use Rattle.heap.specs.Laws.Rows.{node-means, unfolded-is, items-unfolded, members-unfolded, deeper-max, items-deeper, members-deeper}
 
 -- ---- while the heap grows
 -- The cells below `top` hold the same.
@@ -43,8 +46,6 @@ module _ {a : Areas} (C : Bytes) (longer : length (a .cells) ≤ length C) where
   grown m =
       elim m as
       (λ top v h x. Agree (a .cells) C top → Means (withCells a C) top v h)
-      (λ row vs x. RowItems (withCells a C) row vs)
-      (λ row ms x. RowMembers (withCells a C) row ms)
       (λ cell vs x. Agree (a .cells) C (cell + itemCount vs) → CellItems (withCells a C) cell vs) [
         | means-null ↦ λ g. means-null
         | means-false ↦ λ g. means-false
@@ -52,17 +53,13 @@ module _ {a : Areas} (C : Bytes) (longer : length (a .cells) ≤ length C) where
         | means-integer w e ↦ λ g. means-integer w e
         | means-instant w e ↦ λ g. means-instant w e
         | means-string l ↦ λ g. means-string l
-        | means-items e f (r → k) ↦ λ g. means-items e f k
-        | means-members e f (r → k) ↦ λ g. means-members e f k
+        | means-items e f r ↦ λ g. means-items e f r
+        | means-members e f r ↦ λ g. means-members e f r
         | means-list e b (r → k) ↦ λ g. means-list e b (k (λ j l. g j (omega arith)))
         | means-context {cell = cell} b i (m → k) (n → l) ↦ λ g.
             means-context b (omega arith)
             (rw (g cell (omega arith)) at (k (λ j l. g j (omega arith))))
             (rw (g (suc cell) (omega arith)) at (l (λ j l. g j (omega arith))))
-        | no-row-items b ↦ no-row-items b
-        | row-item b t (m → k) (r → ks) ↦ row-item b t (k (λ j l. absurd (omega arith))) ks
-        | no-row-members b ↦ no-row-members b
-        | row-member b t e (m → k) (r → ks) ↦ row-member b t e (k (λ j l. absurd (omega arith))) ks
         | no-cell-items ↦ λ g. no-cell-items
         | cell-item {cell = cell} i (m → k) (r → ks) ↦ λ g.
             cell-item {cell = cell} (omega arith) (rw (g cell (omega arith)) at (k (λ j l. g j (omega arith)))) (ks (λ j l. g j (omega arith)))
@@ -88,16 +85,6 @@ stored-kept {a} j x l m =
     (λ i b. sym (stored-other (a .cells) i j x (λ e. omega arith)))
 
 -- ---- what unfolding gives
--- How unfolding goes on with the parts.
-abbrev inner : Areas → ℕ → Handle → Value
-inner a zero = λ x. scalar null
-inner a (suc deep) = unfolded a deep
-
-unfolded-is : (a : Areas) (deep : ℕ) (h : Handle) → unfolded a deep h ≡ valueBy a (inner a deep) h
-unfolding unfolded
-unfolded-is a zero h = refl
-unfolded-is a (suc deep) h = refl
-
 -- A cell of the heap is followed by the next.
 next-cell : (C : Bytes) (j : ℕ) → j < length C / cellBytes → nextCell C j ≡ suc j
 unfolding nextCell
@@ -109,8 +96,6 @@ module _ {a : Areas} where
   unfolded-means m =
       elim m as
       (λ top v h x. (deep : ℕ) → nesting v ≤ deep → unfolded a deep h ≡ v)
-      (λ row vs x. (count deep : ℕ) → itemsNesting vs ≤ deep → itemsBy a (unfolded a deep) (itemCount vs) (parts forms.Items row count) ≡ vs)
-      (λ row ms x. (count deep : ℕ) → membersNesting ms ≤ deep → membersBy a (unfolded a deep) (memberCount ms) (parts forms.Members row count) ≡ ms)
       (λ cell vs x. (count deep : ℕ) → itemsNesting vs ≤ deep → itemsBy a (unfolded a deep) (itemCount vs) (parts forms.List cell count) ≡ vs) [
         | means-null ↦ λ deep n. unfolded-is a deep variants.Null
         | means-false ↦ λ deep n. unfolded-is a deep variants.False
@@ -118,20 +103,13 @@ module _ {a : Areas} where
         | means-integer {z = z} p e ↦ λ deep n. unfolded-is a deep (variants.Integer _) ∙ ap (λ x. scalar (integer x)) (ap unbiased e ∙ unbiased-biased z p)
         | means-instant {t = t} p e ↦ λ deep n. unfolded-is a deep (variants.Instant _) ∙ ap instantAt e ∙ instantAt-sinceYear0 t p
         | means-string p ↦ λ deep n. unfolded-is a deep (variants.String _) ∙ ap (λ x. scalar (string x)) (sym (p .is))
-        | means-items e f (r → k) ↦ elim [ zero ↦ λ n. absurd (omega arith) | suc deep ↦ λ n. ap array (rw e (k _ deep (omega arith))) ]
-        | means-members e f (r → k) ↦ elim [ zero ↦ λ n. absurd (omega arith) | suc deep ↦ λ n. ap object (rw e (k _ deep (omega arith))) ]
+        | means-items e f r ↦ elim [ zero ↦ λ n. absurd (omega arith) | suc deep ↦ λ n. ap array (rw e (items-unfolded a r _ deep (omega arith))) ]
+        | means-members e f r ↦ elim [ zero ↦ λ n. absurd (omega arith) | suc deep ↦ λ n. ap object (rw e (members-unfolded a r _ deep (omega arith))) ]
         | means-list e b (r → k) ↦ elim [ zero ↦ λ n. absurd (omega arith) | suc deep ↦ λ n. ap array (rw e (k _ deep (omega arith))) ]
         | means-context {cell = cell} b i (m → k) (n → l) ↦ elim [
           | zero ↦ λ n. absurd (omega arith)
           | suc deep ↦ λ n. rw (k deep (omega arith), next-cell (a .cells) cell (omega arith), l deep (omega arith))
         ]
-        | no-row-items b ↦ λ count deep n. refl
-        | row-item b t (m → k) (r → ks) ↦ λ count deep n. ap₂ item (k deep (omega arith)) (ks (count - 1) deep (omega arith))
-        | no-row-members b ↦ λ count deep n. refl
-        | row-member b t e (m → k) (r → ks) ↦ λ count deep n.
-            let y = k deep (omega arith) in
-            let z = ks (count - 1) deep (omega arith) in
-            λ i. member (sym e i) (y i) (z i)
         | no-cell-items ↦ λ count deep n. refl
         | cell-item {cell = cell} i (m → k) (r → ks) ↦ λ count deep n.
             ap₂ item (k deep (omega arith)) (rw (next-cell (a .cells) cell i) (ks (count - 1) deep (omega arith)))
@@ -142,21 +120,12 @@ pub one : {a : Areas} {top : ℕ} {v w : Value} {h : Handle} → Means a top v h
 one {v = v} {w = w} m n = sym (unfolded-means m (max (nesting v) (nesting w)) (omega arith)) ∙ unfolded-means n (max (nesting v) (nesting w)) (omega arith)
 
 -- ---- and what it gives of a value that nests deeper
-deeper-max : (d x y x′ y′ : ℕ) → (d < x → d < x′) → (d < y → d < y′) → d < max x y → d < max x′ y′
-deeper-max d x y x′ y′ f g h = go (decLt d x)
-  where
-    go : Dec (d < x) → d < max x′ y′
-    go (yes p) = let q = f p in omega arith
-    go (no p) = let q = g (omega arith) in omega arith
-
 module _ {a : Areas} where
   pub unfolded-deeper : {top : ℕ} {v : Value} {h : Handle} → Means a top v h → (deep : ℕ) → deep < nesting v → deep < nesting (unfolded a deep h)
   unfolding itemCount nesting itemsBy membersBy unfolded
   unfolded-deeper m =
       elim m as
       (λ top v h x. (deep : ℕ) → deep < nesting v → deep < nesting (unfolded a deep h))
-      (λ row vs x. (count deep : ℕ) → deep < itemsNesting vs → deep < itemsNesting (itemsBy a (unfolded a deep) (itemCount vs) (parts forms.Items row count)))
-      (λ row ms x. (count deep : ℕ) → deep < membersNesting ms → deep < membersNesting (membersBy a (unfolded a deep) (memberCount ms) (parts forms.Members row count)))
       (λ cell vs x. (count deep : ℕ) → deep < itemsNesting vs → deep < itemsNesting (itemsBy a (unfolded a deep) (itemCount vs) (parts forms.List cell count))) [
         | means-null ↦ λ deep n. absurd (omega arith)
         | means-false ↦ λ deep n. absurd (omega arith)
@@ -164,8 +133,8 @@ module _ {a : Areas} where
         | means-integer p e ↦ λ deep n. absurd (omega arith)
         | means-instant p e ↦ λ deep n. absurd (omega arith)
         | means-string p ↦ λ deep n. absurd (omega arith)
-        | means-items e f (r → k) ↦ elim [ zero ↦ λ n. omega arith | suc deep ↦ λ n. rw e (suc-le-suc (k _ deep (omega arith))) ]
-        | means-members e f (r → k) ↦ elim [ zero ↦ λ n. omega arith | suc deep ↦ λ n. rw e (suc-le-suc (k _ deep (omega arith))) ]
+        | means-items e f r ↦ elim [ zero ↦ λ n. omega arith | suc deep ↦ λ n. rw e (suc-le-suc (items-deeper a r _ deep (omega arith))) ]
+        | means-members e f r ↦ elim [ zero ↦ λ n. omega arith | suc deep ↦ λ n. rw e (suc-le-suc (members-deeper a r _ deep (omega arith))) ]
         | means-list e b (r → k) ↦ elim [ zero ↦ λ n. omega arith | suc deep ↦ λ n. rw e (suc-le-suc (k _ deep (omega arith))) ]
         | means-context {cur = cur} {acc = acc} {cell = cell} b i (m → k) (n → l) ↦ elim [
           | zero ↦ λ n. omega arith
@@ -176,10 +145,6 @@ module _ {a : Areas} where
               (deeper-max deep (nesting acc) 0 _ _ (l deep) (λ q. q))
               (omega arith)))
         ]
-        | no-row-items b ↦ λ count deep n. n
-        | row-item {v = v} {vs = vs} b t (m → k) (r → ks) ↦ λ count deep n. deeper-max deep (nesting v) (itemsNesting vs) _ _ (k deep) (ks (count - 1) deep) n
-        | no-row-members b ↦ λ count deep n. n
-        | row-member {v = v} {ms = ms} b t e (m → k) (r → ks) ↦ λ count deep n. deeper-max deep (nesting v) (membersNesting ms) _ _ (k deep) (ks (count - 1) deep) n
         | no-cell-items ↦ λ count deep n. n
         | cell-item {cell = cell} {v = v} {vs = vs} i (m → k) (r → ks) ↦ λ count deep n.
             rw (next-cell (a .cells) cell i) (deeper-max deep (nesting v) (itemsNesting vs) _ _ (k deep) (ks (count - 1) deep) n)
@@ -195,14 +160,6 @@ means-written {a} {top} {v} {h} m room = go (decLt maxNesting (nesting v))
     go (no p) = ap (writtenWithin room) (unfolded-means m maxNesting (omega arith))
 
 -- ---- what a cell can hold
-items-row : {a : Areas} {row : ℕ} {vs : Values} → RowItems a row vs → row ≤ maxValues
-items-row (no-row-items b) = b
-items-row (row-item b t m r) = b
-
-members-row : {a : Areas} {row : ℕ} {ms : Members} → RowMembers a row ms → row ≤ maxValues
-members-row (no-row-members b) = b
-members-row (row-member b t e m r) = b
-
 pub means-small : {a : Areas} {top : ℕ} {v : Value} {h : Handle} → Means a top v h → top ≤ heapCells → Packs (packedOf h)
 means-small means-null l = omega arith
 means-small means-false l = omega arith
@@ -227,7 +184,7 @@ array-count (means-list e b r) = e
 
 pub array-parts : {a : Areas} {top : ℕ} {v : Value} {vs : Values} {p : Parts} → Means a top (array (item v vs)) (variants.Compound p) → ArrayParts a top v vs p
 unfolding itemCount
-array-parts {vs = vs} (means-items {count = count} e f (row-item b t m r)) = record { head = raised m (omega arith); rest = means-items {vs = vs} {count = count - 1} (omega arith) (omega arith) r }
+array-parts {vs = vs} (means-items {count = count} e f (row-item b t m r)) = record { head = node-means m; rest = means-items {vs = vs} {count = count - 1} (omega arith) (omega arith) r }
 array-parts {a} {top} {vs = vs} (means-list {cell = cell} {count = count} e b (cell-item i m r)) = record {
   head = raised m (omega arith);
   rest = rw (next-cell (a .cells) cell i) (means-list {top = top} {vs = vs} {cell = suc cell} {count = count - 1} (omega arith) (omega arith) r);
@@ -244,7 +201,7 @@ object-count (means-members e f r) = e
 object-count (means-context b i m n) = refl
 
 pub object-parts : {a : Areas} {top : ℕ} {n : Bytes} {v : Value} {ms : Members} {p : Parts} → Means a top (object (member n v ms)) (variants.Compound p) → p .form ≡ forms.Members → ObjectParts a top n v ms p
-object-parts {ms = ms} (means-members {count = count} e f (row-member b t w m r)) q = record { name = w; head = raised m (omega arith); rest = means-members {ms = ms} {count = count - 1} (omega arith) (omega arith) r }
+object-parts {ms = ms} (means-members {count = count} e f (row-member b t w m r)) q = record { name = w; head = node-means m; rest = means-members {ms = ms} {count = count - 1} (omega arith) (omega arith) r }
 object-parts (means-context b i m n) q = clash cc
 
 -- The two parts of a context.

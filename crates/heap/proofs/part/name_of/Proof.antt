@@ -1,3 +1,5 @@
+use mathlib.Core.Path.{ap}
+use Rattle.heap.specs.declared.part.Label.the-variants.{Name}
 use borrow.Author.Needs.{needs}
 use Rattle.heap.proofs.part.name_of.Statement.{statement}
 use Rattle.heap.proofs.part.name_of.Tie as tie
@@ -8,8 +10,8 @@ enum-told c = search needs
 enum-told-2 : tie.Need-enum-told-2
 enum-told-2 c = search needs
 
-row-label-requires : tie.Need-row-label-requires
-row-label-requires c κs = search needs
+name-at-requires : tie.Need-name-at-requires
+name-at-requires c κs = search needs
 
 enum-told-3 : tie.Need-enum-told-3
 enum-told-3 c = search needs
@@ -24,7 +26,7 @@ returns : tie.Need-returns
 returns c = search needs
 
 returns-2 : tie.Need-returns-2
-returns-2 c = rw (c .before .enum-told2 .given .1) (c .row-label .ensures)
+returns-2 c = rw (c .before .enum-told2 .given .1) (ap Name (c .name-at .ensures))
 
 returns-3 : tie.Need-returns-3
 returns-3 c = search needs
@@ -38,7 +40,7 @@ name-of-spec =
     (tie.spec
     enum-told
     enum-told-2
-    row-label-requires
+    name-at-requires
     enum-told-3
     enum-told-4
     context-label-requires
