@@ -92,8 +92,8 @@ pub fn next_row(table: &[u8], row: usize) -> usize
 pub fn name_at(table: &[u8], row: usize) -> Span
     ensures { λ r. ⌜ r ≡ nameAt (now (table .entry)) row ⌝ }
 {
-    let r = row_at(table, row);
-    r.name
+    let named = row_at(table, row);
+    named.name
 }
 
 // One less; 0 of 0.
