@@ -36,7 +36,7 @@ use Rattle.rule.specs.declared.view.View.{View}
 use Rattle.rule.specs.declared.view.View.the-variants as Views
 use Rattle.rule.specs.Holds.{ruleCount}
 use Rattle.rule.specs.Inner.{countedOn, andOn, firstOf, unitAt, plusTimeOf, plusTimeBy, plusTimeOn, extractBy, extractOn, operandsOn}
-use Rattle.rule.specs.View.{Built, built-if, built-and, built-reduce, built-apply, Builds, Operates, Shaped, shaped-none, shaped-operation}
+use Rattle.rule.specs.View.{Built, built-if, built-and, built-reduce, built-apply, Builds, has-if, has-and, has-reduce, has-apply, Has, Operates, Shaped, shaped-none, shaped-operation}
 use Rattle.rule.specs.Laws.Holds.{rules-count}
 use Rattle.rule.proofs.Chains.{bind-none, one-refused, one-built, three-refused, three-built, unit-chain, operands-length, chain3, Two, two, two-of, ThreeItems, three, three-of, exactly2-none, exactly3-none}
 use Rattle.rule.proofs.Table.{named-stands}
@@ -92,11 +92,11 @@ module _ {T B : Bytes} {vs : Values} {q : Rows} (name : Bytes) (m : Denotes T B 
   nests = of-nests name vs
 
   -- Three rules.
-  three-views : (w : View) (f : Rule → Rule → Rule → Rule) → ((r₀ r₁ r₂ : Rule) → Built w q (rule r₀ (rule r₁ (rule r₂ no-rules))) (f r₀ r₁ r₂))
+  three-views : (w : View) (f : Rule → Rule → Rule → Rule) → Has w q → ((r₀ r₁ r₂ : Rule) → Built w q (rule r₀ (rule r₁ (rule r₂ no-rules))) (f r₀ r₁ r₂))
       → shape (of name (array vs)) ≡ exactly3 (operandsOf vs) (λ a b c. chain3 (a .asRule) (b .asRule) (c .asRule) f)
       → Shaped T B (of name (array vs)) (countedOn 3 3 w q)
   unfolding operandsOf
-  three-views w f b e =
+  three-views w f x b e =
       counted-views 3 3 w
       (λ l. e ∙ exactly3-none vs _ (λ x. omega (arith, count-is)))
       (λ l. e ∙ exactly3-none vs _ (λ x. omega (arith, count-is)))
@@ -105,18 +105,20 @@ module _ {T B : Bytes} {vs : Values} {q : Rows} (name : Bytes) (m : Denotes T B 
       operates : {ws : Values} → ThreeItems ws → shape (of name (array vs)) ≡ exactly3 (operandsOf ws) (λ a b c. chain3 (a .asRule) (b .asRule) (c .asRule) f)
           → Denotes T B (array ws) (Array q) → suc (itemsNesting ws) ≤ nesting (of name (array vs)) → Operates T B (of name (array vs)) w q
       operates (three {a = a} {b = b′} {c = c}) e m n = record {
+        has = x;
         operands = item a (item b′ (item c no-items));
         denotes = m;
         nests = n;
-        refused = λ x. e ∙ three-refused (shape a) (shape b′) (shape c) f x;
-        builds = λ rs x.
-            let t = three-built (shape a) (shape b′) (shape c) f rs x in
+        refused = λ z. e ∙ three-refused (shape a) (shape b′) (shape c) f z;
+        builds = λ rs z.
+            let t = three-built (shape a) (shape b′) (shape c) f rs z in
             record { whole = f (t .first) (t .second) (t .third); shaped = e ∙ t .chain; built = subst (λ (xs : Rules). Built w q xs (f (t .first) (t .second) (t .third))) (sym (t .all)) (b (t .first) (t .second) (t .third)) };
       }
 
   -- Two rules or more.
   and-operates : 2 ≤ q .count → shape (of name (array vs)) ≡ when (leb 2 (length (operandsOf vs))) (rulesOf (operandsOf vs) >>= andOf) → Operates T B (of name (array vs)) (Views.And q) q
   and-operates l e = record {
+    has = has-and;
     operands = vs;
     denotes = m;
     nests = nests;
@@ -162,6 +164,7 @@ module _ {T B : Bytes} {vs : Values} {q : Rows} (name : Bytes) (m : Denotes T B 
       where
         operates : least ≤ q .count → q .count ≤ most → shape (of name (array vs)) ≡ (rulesOf (operandsOf vs) >>= λ rs. some (apply o rs)) → Operates T B (of name (array vs)) (Views.Apply op q) q
         operates l k f = record {
+          has = has-apply;
           operands = vs;
           denotes = m;
           nests = nests;
@@ -236,6 +239,7 @@ module _ {T B : Bytes} where
       → shape v ≡ (shape a >>= λ r. some (apply o (rule r no-rules))) → Shaped T B v (Seen.Rule (Views.Apply op (firstOf q)))
   unfolding operandsOf
   on-first {v} {a} q op o m n s e = shaped-operation {w = Views.Apply op (firstOf q)} {q = firstOf q} record {
+    has = has-apply;
     operands = item a no-items;
     denotes = m;
     nests = n;
@@ -303,8 +307,8 @@ module _ {T B : Bytes} where
   unfolding contentOf
   operands-views {vs} Keywords.NoKeyword name e m = shaped-none (keyword-shape name (array vs) e)
   operands-views {vs} Keywords.Var name e m = shaped-none (keyword-shape name (array vs) e)
-  operands-views {vs} Keywords.If name e m = three-views name m (Views.If _) Rule.if (λ a b c. built-if) (keyword-shape name (array vs) e)
-  operands-views {vs} Keywords.Reduce name e m = three-views name m (Views.Reduce _) Rule.reduce (λ a b c. built-reduce) (keyword-shape name (array vs) e)
+  operands-views {vs} Keywords.If name e m = three-views name m (Views.If _) Rule.if has-if (λ a b c. built-if) (keyword-shape name (array vs) e)
+  operands-views {vs} Keywords.Reduce name e m = three-views name m (Views.Reduce _) Rule.reduce has-reduce (λ a b c. built-reduce) (keyword-shape name (array vs) e)
   operands-views {vs} Keywords.And name e m = all-views name m (keyword-shape name (array vs) e)
   operands-views {vs} Keywords.PlusTime name e m = plus-time-views m (of-nests name vs) (keyword-shape name (array vs) e)
   operands-views {vs} Keywords.ExtractFromUvci name e m = extract-views m (of-nests name vs) (keyword-shape name (array vs) e)

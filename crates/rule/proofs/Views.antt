@@ -32,7 +32,7 @@ use Rattle.rule.specs.declared.view.View.{View}
 use Rattle.rule.specs.declared.view.View.the-variants as Views
 use Rattle.rule.specs.Holds.{Holds, HoldsAll}
 use Rattle.rule.specs.Inner.{ObjectShapes, within}
-use Rattle.rule.specs.View.{Viewed, viewed-literal, viewed-var, viewed-if, viewed-and, viewed-reduce, viewed-apply, nested, nestedShape, ViewsAs, Built, built-if, built-and, built-reduce, built-apply, Operates, Shaped, shaped-none, shaped-literal, shaped-var, shaped-operation, ShapesAs, spells-false, spells-true, spells-integer, spells-string}
+use Rattle.rule.specs.View.{Viewed, viewed-literal, viewed-var, viewed-if, viewed-and, viewed-reduce, viewed-apply, nested, nestedShape, ViewsAs, Built, built-if, built-and, built-reduce, built-apply, has-apply, Operates, Shaped, shaped-none, shaped-literal, shaped-var, shaped-operation, ShapesAs, spells-false, spells-true, spells-integer, spells-string}
 use Rattle.rule.specs.Laws.Holds.{rules-count}
 
 -- Nothing is seen where no nesting is left.
@@ -106,6 +106,7 @@ module _ {T B : Bytes} where
   array-operates : {vs : Values} {q : Rows} → Denotes T B (array vs) (Array q) → Shaped T B (array vs) (Shapes.Rule (Views.Apply Ops.Array q))
   unfolding shape nesting
   array-operates {vs} {q} m = shaped-operation {w = Views.Apply Ops.Array q} {q = q} record {
+    has = has-apply;
     operands = vs;
     denotes = m;
     nests = omega arith;

@@ -72,8 +72,16 @@ pub record Builds (v : Value) (w : View) (q : Rows) (rs : Rules) : Type 0 where
   pub shaped : shape v ≡ some whole
   pub built : Built w q rs whole
 
+-- The operands of a view.
+pub data Has : View → Rows → Type 0 where
+  has-if : {q : Rows} → Has (Views.If q) q
+  has-and : {q : Rows} → Has (Views.And q) q
+  has-reduce : {q : Rows} → Has (Views.Reduce q) q
+  has-apply : {op : Op} {q : Rows} → Has (Views.Apply op q) q
+
 -- The value is a rule exactly when its operands, less deep, all are.
 pub record Operates (T B : Bytes) (v : Value) (w : View) (q : Rows) : Type 0 where
+  pub has : Has w q
   pub operands : Values
   pub denotes : Denotes T B (array operands) (Array q)
   pub nests : suc (itemsNesting operands) ≤ nesting v

@@ -7,15 +7,14 @@ use Rattle.model.specs.Option.{isSome}
 use Rattle.model.specs.Shape.{shape, rulesOf, operandsOf}
 use Rattle.model.specs.Size.{nesting, itemsNesting}
 use Rattle.model.specs.Value.{Value, array, Values}
-use Rattle.heap.specs.declared.handle.Handle.{Handle}
-use Rattle.heap.specs.declared.handle.Handle.the-variants.{Compound}
-use Rattle.heap.specs.declared.handle.Parts.{Parts}
-use Rattle.heap.specs.Means.{Means}
-use Rattle.heap.specs.Unfold.{readAreas}
+use Rattle.table.specs.declared.node.Node.the-variants.{Array}
+use Rattle.table.specs.declared.node.Rows.{Rows}
+use Rattle.table.specs.Denotes.{Denotes}
+use Rattle.table.specs.Node.{nodeAt}
 
--- The value of the handle h nests no deeper than `deep`.
-pub record RuleAt (T B : Bytes) (h : Handle) (deep : ℕ) (r : Bool) : Type 0 where
-  pub is : (v : Value) → Means (readAreas T B) 0 v h → nesting v ≤ deep → r ≡ isSome (shape v)
+-- The value in a row, if it nests no deeper than `deep`.
+pub record RuleAt (T B : Bytes) (row deep : ℕ) (r : Bool) : Type 0 where
+  pub is : (v : Value) → Denotes T B v (nodeAt T row) → nesting v ≤ deep → r ≡ isSome (shape v)
 
-pub record AllRules (T B : Bytes) (p : Parts) (deep : ℕ) (r : Bool) : Type 0 where
-  pub is : (vs : Values) → Means (readAreas T B) 0 (array vs) (Compound p) → itemsNesting vs ≤ deep → r ≡ isSome (rulesOf (operandsOf vs))
+pub record AllRules (T B : Bytes) (q : Rows) (deep : ℕ) (r : Bool) : Type 0 where
+  pub is : (vs : Values) → Denotes T B (array vs) (Array q) → itemsNesting vs ≤ deep → r ≡ isSome (rulesOf (operandsOf vs))

@@ -1,55 +1,51 @@
 // The shape check over a read table.
 use bytes::path::is_path;
-use heap::handle::Handle;
-use heap::handle::Parts;
-use heap::handle::load;
-use heap::handle::next_row;
-use heap::string::part_of;
 use model::MAX_NESTING;
+use rule::view::Shape;
 use rule::view::View;
-use rule::view::view_of;
-ghost use Rattle.shape.specs.Check.{Readable, Checks};
+use rule::view::shape_at;
+use table::node::Rows;
+use table::node::next_row;
+use table::string::bytes_of;
+ghost use Rattle.shape.specs.Contract.{Checks};
 ghost use Rattle.shape.specs.Inner.{RuleAt, AllRules};
 
-// Whether the value, which nests no deeper than `deep`, is a rule.
-fn rule_at(table: &[u8], strings: &[u8], h: Handle, deep: usize) -> bool
-    ensures { λ r. ⌜ RuleAt (now (table .entry)) (now (strings .entry)) h deep r ⌝ }
+// Whether the value in a row, which nests no deeper than `deep`, is a rule.
+fn rule_at(rule_table: &[u8], rule_strings: &[u8], row: usize, deep: usize) -> bool
+    ensures { λ r. ⌜ RuleAt (now («rule_table» .entry)) (now («rule_strings» .entry)) row deep r ⌝ }
 {
-    let seen = view_of(table, strings, h);
-    match seen {
-        View::NotRule => false,
+    let Shape::Rule(view) = shape_at(rule_table, rule_strings, row, deep) else {
+        return false;
+    };
+    match view {
         View::Literal(_) => true,
-        View::Var { start, size } => is_path(part_of(strings, start, size)),
-        View::Operation(_, p) => {
-            if deep == 0 {
-                return false;
-            }
-            all_rules(table, strings, p, deep - 1)
-        }
+        View::Var(p) => is_path(bytes_of(rule_strings, p)),
+        View::If(q) => all_rules(rule_table, rule_strings, q, deep - 1),
+        View::And(q) => all_rules(rule_table, rule_strings, q, deep - 1),
+        View::Reduce(q) => all_rules(rule_table, rule_strings, q, deep - 1),
+        View::Apply(_, q) => all_rules(rule_table, rule_strings, q, deep - 1),
     }
 }
 
 // Whether all items of an array are rules.
-fn all_rules(table: &[u8], strings: &[u8], p: Parts, deep: usize) -> bool
-    ensures { λ r. ⌜ AllRules (now (table .entry)) (now (strings .entry)) p deep r ⌝ }
+fn all_rules(rule_table: &[u8], rule_strings: &[u8], q: Rows, deep: usize) -> bool
+    ensures { λ r. ⌜ AllRules (now («rule_table» .entry)) (now («rule_strings» .entry)) q deep r ⌝ }
 {
-    let mut row = p.first;
-    let mut left = p.count;
+    let mut row = q.first;
+    let mut left = q.count;
     while left > 0 {
-        let ok = rule_at(table, strings, load(table, row), deep);
-        if !ok {
+        if !rule_at(rule_table, rule_strings, row, deep) {
             return false;
         }
-        row = next_row(table, row);
+        row = next_row(rule_table, row);
         left = left - 1;
     }
     true
 }
 
 // Whether the text that was read into the table and the strings is a rule; 6 where it is not.
-pub fn is_rule(table: &[u8], strings: &[u8]) -> bool
-    requires { ⌜ Readable (now table) (now strings) ⌝ }
-    ensures { λ r. ⌜ Checks (now (table .entry)) (now (strings .entry)) r ⌝ }
+pub fn is_rule(rule_table: &[u8], rule_strings: &[u8]) -> bool
+    ensures { λ r. ⌜ Checks (now («rule_table» .entry)) (now («rule_strings» .entry)) r ⌝ }
 {
-    rule_at(table, strings, load(table, 0), MAX_NESTING)
+    rule_at(rule_table, rule_strings, 0, MAX_NESTING)
 }
