@@ -1,5 +1,5 @@
 -- A character or an escape as a whole: what was decoded, or the fault. Assumes nothing.
-use mathlib.Core.Path.{_≡_, refl, sym, ap, _∙_}
+use mathlib.Core.Path.{_≡_, refl, ap, _∙_, subst⁻¹}
 use mathlib.Core.List.{[], _∷_}
 use Prim.Native.Nat.{ℕ, suc, _+_, _-_, _≤_, _<_}
 use native.Mathlib.Omega.{arith}
@@ -7,7 +7,7 @@ use native.Mathlib.Numerals.{add-one}
 use lib.ListN.{length, getD, drop, take, length-drop}
 use lib.Seq.{sets, drop-cons, length-take-le}
 use Rattle.model.specs.Bytes.{Bytes}
-use Rattle.model.specs.Refusal.{ReadFault, notJson, repeatedName, loneSurrogate, badNumber, tooLarge, readNumber}
+use Rattle.model.specs.Refusal.{ReadFault, notJson, loneSurrogate}
 use Rattle.syntax.specs.declared.Lead.the-variants.{Backslash, Char}
 use Rattle.syntax.specs.declared.Escape.the-variants.{Letter, Unicode, NoEscape}
 use Rattle.syntax.specs.declared.Unit as units
@@ -16,62 +16,61 @@ use Rattle.syntax.specs.Laws.Utf8.{utf8-most}
 use Rattle.syntax.specs.Read.{ok, bad, then, give, bytes, unit, hexes, char, chars, clear, high}
 use Rattle.syntax.specs.Tokens.{escapeOf}
 use Rattle.syntax.specs.Utf8.{unitOf, utf8, pairOf}
+use Rattle.scan.specs.declared.Fault.{Fault}
+use Rattle.scan.specs.Contract.{faultOf}
 use Rattle.chars.specs.declared.Decoded.{Decoded}
-use Rattle.chars.specs.Pieces.{Taken, Stopped, Pieced, Leads, Tailed, UnitRead, Unicodes, Escaped, Put}
+use Rattle.chars.specs.declared.Decoded.the-variants.{Chars, NoChars}
+use Rattle.chars.specs.Pieces.{Taken, Stopped, PieceMeets, Pieced, Leads, Tailed, UnitRead, Unicodes, Escaped, Put}
 use Rattle.chars.proofs.Steps.{chars-bytes, chars-bad, chars-plain, chars-high, chars-low, chars-pair, reads-one}
 use Rattle.chars.proofs.Read.{char-escape, char-lead, escape-end, escape-letter, escape-not, escape-unicode}
 
 -- ---- a piece that was read, and one that was not
-number-some : (k : ReadFault) → readNumber k ≡ 0 → ⊥
-number-some notJson e = omega arith
-number-some repeatedName e = omega arith
-number-some loneSurrogate e = omega arith
-number-some badNumber e = omega arith
-number-some tooLarge e = omega arith
+pub gives : {s : Bytes} {at used : ℕ} {A : Bytes} {q to : ℕ} {B : Bytes} → Taken s at used A q to B → at < q → Pieced s at used A (Chars q to) B
+gives t h = record { meets = record { taken = t; on = h } }
 
 module _ {s : Bytes} {at used : ℕ} {A : Bytes} {r : Decoded} where
-  pub gives : {B : Bytes} → Taken s at used A (r .at) (r .used) B → at < r .at → r .fault ≡ 0 → Pieced s at used A r B
-  gives t h z = record { well = λ e. t; on = λ e. h; ill = λ n. absurd (n z); same = λ n. absurd (n z) }
+  stops : {x : Fault} → r ≡ NoChars x → Stopped s at A x A → Pieced s at used A r A
+  stops e t = record { meets = subst⁻¹ (λ (y : Decoded). PieceMeets s at used A y A) e t }
 
-  stops : Stopped s at (r .fault) (r .at) → Pieced s at used A r A
-  stops t =
-      let n : r .fault ≡ 0 → ⊥ = λ e. number-some (t .kind) (sym (t .number) ∙ e) in
-      record { well = λ e. absurd (n e); on = λ e. absurd (n e); ill = λ e. t; same = λ e. refl }
-
-  pub stops-at : (k : ReadFault) {p : ℕ} → at ≤ length s → char (drop at s) at ≡ bad k p → r .fault ≡ readNumber k → r .at ≡ p → Pieced s at used A r A
-  stops-at k {p} l e n q =
-      stops
+  pub stops-at : (k : ReadFault) {p : ℕ} → at ≤ length s → char (drop at s) at ≡ bad k p → r ≡ NoChars (faultOf k p) → Pieced s at used A r A
+  stops-at k {p} l e n =
+      stops n
       (record {
         kind = k;
-        number = n;
+        place = p;
+        fault = refl;
         run = λ f h.
             let z : f ≡ suc (f - 1) = omega arith in
-            ap (λ g. chars g clear (drop at s) at) z ∙ chars-bad (f - 1) (drop at s) at k p e ∙ ap (bad k) (sym q);
+            ap (λ g. chars g clear (drop at s) at) z ∙ chars-bad (f - 1) (drop at s) at k p e;
+        same = refl;
       })
 
   -- A surrogate without a partner: a second half, or a first one that no second half follows.
-  pub stops-low : {u : ℕ} → Escaped s at u Low → r .fault ≡ 3 → r .at ≡ at → Pieced s at used A r A
-  stops-low {u} x n q =
-      stops
+  pub stops-low : {u : ℕ} → Escaped s at u Low → r ≡ NoChars (faultOf loneSurrogate at) → Pieced s at used A r A
+  stops-low {u} x n =
+      stops n
       (record {
         kind = loneSurrogate;
-        number = n;
+        place = at;
+        fault = refl;
         run = λ f h.
             let z : f ≡ suc (f - 1) = omega arith in
-            ap (λ g. chars g clear (drop at s) at) z ∙ chars-low (f - 1) (drop at s) at u _ _ (x .is) (x .of) ∙ ap (bad loneSurrogate) (sym q);
+            ap (λ g. chars g clear (drop at s) at) z ∙ chars-low (f - 1) (drop at s) at u _ _ (x .is) (x .of);
+        same = refl;
       })
 
   pub stops-high : {u : ℕ} → Escaped s at u High → ((h p f : ℕ) → chars (suc f) (high h p) (drop (at + 6) s) (at + 6) ≡ bad loneSurrogate p)
-      → r .fault ≡ 3 → r .at ≡ at → Pieced s at used A r A
-  stops-high {u} x a n q =
-      stops
+      → r ≡ NoChars (faultOf loneSurrogate at) → Pieced s at used A r A
+  stops-high {u} x a n =
+      stops n
       (record {
         kind = loneSurrogate;
-        number = n;
+        place = at;
+        fault = refl;
         run = λ f h.
             let z : f ≡ suc (suc (f - 2)) = omega arith in
-            ap (λ g. chars g clear (drop at s) at) z ∙ chars-high (suc (f - 2)) (drop at s) at u _ _ (x .is) (x .of) ∙ a u at (f - 2)
-            ∙ ap (bad loneSurrogate) (sym q);
+            ap (λ g. chars g clear (drop at s) at) z ∙ chars-high (suc (f - 2)) (drop at s) at u _ _ (x .is) (x .of) ∙ a u at (f - 2);
+        same = refl;
       })
 
 -- ---- a character of several bytes

@@ -1,21 +1,24 @@
 -- The whole reading of a string's characters: its turns, and its ends. Assumes nothing.
-use mathlib.Core.Path.{_≡_, refl, ap, _∙_, subst⁻¹}
+use mathlib.Core.Path.{_≡_, refl, ap, _∙_, subst, subst⁻¹}
 use mathlib.Core.Bool.{Bool, true}
 use mathlib.Core.List.{[], append-nil}
-use Prim.Native.Nat.{ℕ, suc, _+_, _-_, _≤_, _<_}
+use Prim.Native.Nat.{ℕ, zero, suc, _+_, _-_, _≤_, _<_}
 use native.Mathlib.Omega.{arith}
 use lib.ListN.{length, drop, take}
 use lib.Seq.{length-sets}
 use Rattle.model.specs.Bytes.{Bytes}
+use Rattle.model.specs.Refusal.{notJson}
 use Rattle.area.specs.Laws.{take-sets-before}
-use Rattle.syntax.specs.Read.{ok, then, give, chars, clear, grow}
+use Rattle.syntax.specs.Read.{ok, bad, then, give, chars, clear, grow}
 use Rattle.syntax.specs.Utf8.{leadOf}
-use Rattle.scan.specs.Contract.{Stands}
+use Rattle.scan.specs.declared.Fault.{Fault}
+use Rattle.scan.specs.Contract.{faultOf, Stands}
 use Rattle.chars.specs.declared.Decoded.{Decoded}
+use Rattle.chars.specs.declared.Decoded.the-variants.{Chars, NoChars}
 use Rattle.chars.specs.Contract.{CharsMeets, CharsPromise}
-use Rattle.chars.specs.Pieces.{Room, Taken, Stopped}
-use Rattle.chars.proofs.Steps.{chars-closing}
-use Rattle.chars.proofs.Read.{char-closing}
+use Rattle.chars.specs.Pieces.{Room, Taken, Stopped, Advanced, PieceMeets, Pieced}
+use Rattle.chars.proofs.Steps.{chars-closing, chars-bad}
+use Rattle.chars.proofs.Read.{char-closing, char-end}
 use Rattle.chars.proofs.Loops.{taken-length}
 use Rattle.chars.proofs.Halves.{stands-is}
 
@@ -46,19 +49,17 @@ module _ {s A B : Bytes} {at used i to : ℕ} (t : Taken s at used A i to B) whe
         kept = ap (take used) (e ∙ t .area) ∙ take-sets-before used (t .bs) A used (omega arith);
       }
 
-  pub promise-closed : (r : Decoded) → r .fault ≡ 0 → r .at ≡ i → r .used ≡ to → {q : Bool} → Stands s i 34 q → q ≡ true → CharsPromise s at used A r B
+  pub promise-closed : {q : Bool} → Stands s i 34 q → q ≡ true → CharsPromise s at used A (Chars i to) B
   unfolding rest grow then give
-  promise-closed r z p u x e =
-      promise r refl
+  promise-closed x e =
+      promise (Chars i to) refl
       (λ f h.
       let k : rest f ≡ suc (rest f - 1) = omega (arith, t .reads .few, t .reads .inside) in
-      subst⁻¹ (λ g. CharsMeets s at used A g r B)
+      subst⁻¹ (λ g. CharsMeets s at used A g (Chars i to) B)
       (on f h ∙ ap (λ n. grow (t .bs) (chars n clear (drop i s) i)) k ∙ ap (grow (t .bs)) (closing x e (rest f - 1))
       ∙ ap (λ bs. ok bs (drop i s) i) (append-nil (t .bs)))
       (record {
-        number = z;
-        place = p;
-        text = u ∙ t .next;
+        answer = ap (Chars i) (t .next);
         area = t .area;
         left = refl;
         on = t .reads .short;
@@ -66,10 +67,27 @@ module _ {s A B : Bytes} {at used i to : ℕ} (t : Taken s at used A i to B) whe
         quote = stands-is x e;
       }))
 
-  pub promise-stopped : (r : Decoded) {C : Bytes} → C ≡ B → Stopped s i (r .fault) (r .at) → CharsPromise s at used A r C
+  pub promise-stopped : {y : Fault} {C : Bytes} → Stopped s i B y C → CharsPromise s at used A (NoChars y) C
   unfolding rest grow then
-  promise-stopped r {C} e x =
-      promise r e
+  promise-stopped {y} {C} x =
+      promise (NoChars y) (x .same)
       (λ f h.
       let l : length s < i + rest f = omega (arith, t .reads .few) in
-      subst⁻¹ (λ g. CharsMeets s at used A g r C) (on f h ∙ ap (grow (t .bs)) (x .run (rest f) l)) (record { number = x .number; place = refl }))
+      subst⁻¹ (λ g. CharsMeets s at used A g (NoChars y) C) (on f h ∙ ap (grow (t .bs)) (x .run (rest f) l)) (ap NoChars (x .fault)))
+
+-- ---- what `chars` says where no byte is left, and of a piece
+pub promise-end : {s : Bytes} {at used : ℕ} {A : Bytes} {r : Decoded} → length s ≤ at → r ≡ NoChars (faultOf notJson at) → CharsPromise s at used A r A
+unfolding chars
+promise-end {s} {at} {used} {A} {r} l e =
+    record { run = λ f h. subst⁻¹ (λ g. CharsMeets s at used A g r A) (none f) e; size = refl; kept = refl }
+  where
+    none : (f : ℕ) → chars f clear (drop at s) at ≡ bad notJson at
+    none zero = refl
+    none (suc f) = chars-bad f (drop at s) at notJson at (char-end s at l)
+
+module _ {s : Bytes} {at used : ℕ} {A : Bytes} {r : Decoded} {A′ : Bytes} (k : Pieced s at used A r A′) where
+  pub advanced : {q to : ℕ} → r ≡ Chars q to → Advanced s at used A q to A′
+  advanced e = subst (λ (x : Decoded). PieceMeets s at used A x A′) e (k .meets)
+
+  pub stopped : {x : Fault} → r ≡ NoChars x → Stopped s at A x A′
+  stopped e = subst (λ (x : Decoded). PieceMeets s at used A x A′) e (k .meets)

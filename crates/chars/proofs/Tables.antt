@@ -2,7 +2,7 @@
 use mathlib.Core.Path.{_≡_, refl, sym, subst}
 use mathlib.Core.Bool.{Bool, true, false, _&&_, true≢false}
 use lib.Dec.{leb, ltb, eqb}
-use Prim.Native.Nat.{ℕ, _-_, _≤_, _<_}
+use Prim.Native.Nat.{ℕ, _+_, _-_, _≤_, _<_}
 use native.Mathlib.Omega.{arith}
 use borrow.Author.Tests.{le-leb, lt-leb, ne-eqb, leb-true, ltb-true, eqb-true}
 use Rattle.syntax.specs.declared.Lead.{Lead}
@@ -13,7 +13,7 @@ use Rattle.syntax.specs.declared.Hex.{Hex}
 use Rattle.syntax.specs.declared.Hex.the-variants.{HexDigit, NoHex}
 use Rattle.syntax.specs.declared.Unit as units
 use Rattle.syntax.specs.declared.Unit.the-variants.{Plain, High, Low}
-use Rattle.syntax.specs.Tokens.{within, escapeOf, hexOf}
+use Rattle.syntax.specs.Tokens.{within, isDigit, digitValue, escapeOf, hexOf}
 use Rattle.syntax.specs.Utf8.{leadOf, unitOf}
 
 -- ---- tests of a number that is at least m, or below m
@@ -96,25 +96,21 @@ escape-none b h1 h2 h3 h4 h5 h6 h7 h8 h9 =
 
 -- ---- hexadecimal digits
 module _ (b : ℕ) where
-  pub hex-digit : 48 ≤ b → b ≤ 57 → hexOf b ≡ HexDigit (b - 48)
-  unfolding hexOf
-  hex-digit h l = simp (hexOf, inside 48 57 b h l)
+  pub hex-digit : {d : ℕ} → isDigit b ≡ true → d ≡ digitValue b → hexOf b ≡ HexDigit d
+  unfolding hexOf isDigit
+  hex-digit h e = simp (hexOf, h, e)
 
-  pub hex-upper : 65 ≤ b → b ≤ 70 → hexOf b ≡ HexDigit (b - 55)
+  pub hex-upper : 65 ≤ b → b ≤ 70 → hexOf b ≡ HexDigit (b - 65 + 10)
   unfolding hexOf
-  hex-upper h l = simp (hexOf, past-in 65 b h, inside 65 70 b h l)
+  hex-upper h l = let e : b - 55 ≡ b - 65 + 10 = omega arith in rw (← e) (simp (hexOf, past-in 65 b h, inside 65 70 b h l))
 
-  pub hex-lower : 97 ≤ b → b ≤ 102 → hexOf b ≡ HexDigit (b - 87)
+  pub hex-lower : 97 ≤ b → b ≤ 102 → hexOf b ≡ HexDigit (b - 97 + 10)
   unfolding hexOf
-  hex-lower h l = simp (hexOf, past-in 97 b h, inside 97 102 b h l)
+  hex-lower h l = let e : b - 87 ≡ b - 97 + 10 = omega arith in rw (← e) (simp (hexOf, past-in 97 b h, inside 97 102 b h l))
 
-  pub hex-first : b < 48 → hexOf b ≡ NoHex
-  unfolding hexOf
-  hex-first h = simp (hexOf, before-in 48 b h)
-
-  pub hex-second : 57 < b → b < 65 → hexOf b ≡ NoHex
-  unfolding hexOf
-  hex-second h l = simp (hexOf, past-in 58 b h, before-in 65 b l)
+  pub hex-second : isDigit b ≡ false → b < 65 → hexOf b ≡ NoHex
+  unfolding hexOf isDigit
+  hex-second h l = simp (hexOf, h, before-in 65 b l)
 
   pub hex-third : 70 < b → b < 97 → hexOf b ≡ NoHex
   unfolding hexOf

@@ -5,23 +5,23 @@ use lib.ListN.{length, getD, drop, take}
 use lib.Seq.{sets}
 use Rattle.model.specs.Bytes.{Bytes}
 use Rattle.syntax.specs.Read.{Parsed, ok, bad, chars, clear}
-use Rattle.scan.specs.Contract.{Failed}
+use Rattle.scan.specs.Contract.{faultOf}
 use Rattle.chars.specs.declared.Decoded.{Decoded}
+use Rattle.chars.specs.declared.Decoded.the-variants.{Chars, NoChars}
 
 -- The characters bs from `at` up to the closing quote at q, decoded to `used`.
 pub record CharsRead (s : Bytes) (at used : ℕ) (A bs u : Bytes) (q : ℕ) (r : Decoded) (A′ : Bytes) : Type 0 where
-  pub number : r .fault ≡ 0
-  pub place : r .at ≡ q
-  pub text : r .used ≡ used + length bs
+  pub answer : r ≡ Chars q (used + length bs)
   pub area : A′ ≡ sets A used bs
   pub left : u ≡ drop q s
   pub on : at + length bs ≤ q
   pub inside : q < length s
   pub quote : getD s q 0 ≡ 0x22
 
+-- The answer, by what the parser gives.
 abbrev pub CharsMeets : Bytes → ℕ → ℕ → Bytes → Parsed Bytes → Decoded → Bytes → Type 0
 CharsMeets s at used A (ok bs u q) r A′ = CharsRead s at used A bs u q r A′
-CharsMeets s at used A (bad k p) r A′ = Failed k p (r .fault) (r .at)
+CharsMeets s at used A (bad k p) r A′ = r ≡ NoChars (faultOf k p)
 
 -- After a fault the area from `used` on is free: a caller clears it or reads over it.
 pub record CharsPromise (s : Bytes) (at used : ℕ) (A : Bytes) (r : Decoded) (A′ : Bytes) : Type 0 where

@@ -4,13 +4,16 @@ use Prim.Native.Nat.{ℕ, suc, _+_, _≤_, _<_}
 use lib.ListN.{length, getD, drop, take}
 use lib.Seq.{sets}
 use Rattle.model.specs.Bytes.{Bytes}
-use Rattle.model.specs.Refusal.{ReadFault, notJson, loneSurrogate, readNumber}
+use Rattle.model.specs.Refusal.{ReadFault, notJson, loneSurrogate}
 use Rattle.syntax.specs.declared.Lead.{Lead}
 use Rattle.syntax.specs.declared.Unit as units
 use Rattle.syntax.specs.declared.Unit.the-variants.{Low}
 use Rattle.syntax.specs.Read.{ok, bad, then, give, unit, hexes, tails, char, chars, clear, high, grow}
 use Rattle.syntax.specs.Utf8.{leadOf, unitOf, utf8}
+use Rattle.scan.specs.declared.Fault.{Fault}
+use Rattle.scan.specs.Contract.{faultOf}
 use Rattle.chars.specs.declared.Decoded.{Decoded}
+use Rattle.chars.specs.declared.Decoded.the-variants.{Chars, NoChars}
 use Rattle.chars.specs.declared.CodeUnit.{CodeUnit}
 use Rattle.chars.specs.declared.CodeUnit.the-variants.{Code, NoCode}
 use Rattle.chars.specs.declared.LowHalf.{LowHalf}
@@ -38,18 +41,25 @@ pub record Taken (s : Bytes) (at used : ℕ) (A : Bytes) (i to : ℕ) (A′ : By
   pub next : to ≡ used + length bs
   pub area : A′ ≡ sets A used bs
 
--- What stands at `at` ends the reading in a fault.
-pub record Stopped (s : Bytes) (at fault p : ℕ) : Type 0 where
+-- What stands at `at` ends the reading in the fault x, and leaves the area as it was.
+pub record Stopped (s : Bytes) (at : ℕ) (A : Bytes) (x : Fault) (A′ : Bytes) : Type 0 where
   pub kind : ReadFault
-  pub number : fault ≡ readNumber kind
-  pub run : (f : ℕ) → length s < at + f → chars f clear (drop at s) at ≡ bad kind p
+  pub place : ℕ
+  pub fault : x ≡ faultOf kind place
+  pub run : (f : ℕ) → length s < at + f → chars f clear (drop at s) at ≡ bad kind place
+  pub same : A′ ≡ A
 
--- One character or escape at `at`; a fault leaves the area as it was.
+-- One character or escape at `at`, which ends at q.
+pub record Advanced (s : Bytes) (at used : ℕ) (A : Bytes) (q to : ℕ) (A′ : Bytes) : Type 0 where
+  pub taken : Taken s at used A q to A′
+  pub on : at < q
+
+abbrev pub PieceMeets : Bytes → ℕ → ℕ → Bytes → Decoded → Bytes → Type 0
+PieceMeets s at used A (Chars q to) A′ = Advanced s at used A q to A′
+PieceMeets s at used A (NoChars x) A′ = Stopped s at A x A′
+
 pub record Pieced (s : Bytes) (at used : ℕ) (A : Bytes) (r : Decoded) (A′ : Bytes) : Type 0 where
-  pub well : r .fault ≡ 0 → Taken s at used A (r .at) (r .used) A′
-  pub on : r .fault ≡ 0 → at < r .at
-  pub ill : (r .fault ≡ 0 → ⊥) → Stopped s at (r .fault) (r .at)
-  pub same : (r .fault ≡ 0 → ⊥) → A′ ≡ A
+  pub meets : PieceMeets s at used A r A′
 
 -- ---- characters
 -- What stands at `at`, by its first byte.

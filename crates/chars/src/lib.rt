@@ -1,4 +1,7 @@
 // Strings: characters decoded into a strings area.
+use scan::Fault;
+use scan::token::Decimal;
+use scan::token::decimal_of;
 use scan::token::stands;
 use syntax::Escape;
 use syntax::Hex;
@@ -13,37 +16,32 @@ ghost use Rattle.syntax.specs.declared.Lead.the-variants.{Backslash, Char};
 ghost use Rattle.syntax.specs.declared.Unit.the-variants as units;
 ghost use Rattle.syntax.specs.Tokens.{escapeOf, hexOf};
 ghost use Rattle.syntax.specs.Utf8.{leadOf, unitOf};
-ghost use Rattle.scan.specs.Contract.{Stands};
+ghost use Rattle.scan.specs.Contract.{faultAt, Stands};
 ghost use Rattle.chars.specs.Contract.{CharsPromise};
 ghost use Rattle.chars.specs.Pieces.{Room, Taken, Pieced, Leads, Tailed, Coded, Unicodes, Escaped, Halved, Put};
 
-// How the reading of characters ended: `at` is the offset reached or the fault's, `used` the end of what is decoded.
-pub struct Decoded {
-    pub fault: u32,
-    pub at: usize,
-    pub used: usize,
+// Characters read up to the offset `at` and decoded up to `used`; or a fault.
+pub enum Decoded {
+    Chars { at: usize, used: usize },
+    NoChars(Fault),
 }
 
 // The least byte of a character: what is below it are control characters.
-const LEAST: u8 = 32;
+const LEAST: u8 = b' ';
 
 fn fault(number: u32, at: usize) -> Decoded
-    ensures { λ r. ⌜ (r .fault ≡ number) × (r .at ≡ at) ⌝ }
+    ensures { λ r. ⌜ r ≡ Decoded.NoChars (faultAt number at) ⌝ }
 {
-    Decoded {
-        fault: number,
-        at,
-        used: 0,
-    }
+    Decoded::NoChars(Fault { number, at })
 }
 
 fn lead_of(b: u8) -> Lead
     ensures { λ r. ⌜ r ≡ leadOf b ⌝ }
 {
-    if b == 34 {
+    if b == b'"' {
         return Lead::Closing;
     }
-    if b == 92 {
+    if b == b'\\' {
         return Lead::Backslash;
     }
     if b < LEAST {
@@ -99,10 +97,10 @@ fn is_plain(b: u8) -> bool
     if 127 < b {
         return false;
     }
-    if b == 34 {
+    if b == b'"' {
         return false;
     }
-    b != 92
+    b != b'\\'
 }
 
 // Copies the run of plain bytes at `at`, and gives its end.
@@ -180,8 +178,7 @@ fn character(
         return fault(2, at + 1 + found);
     }
     copy(text, at, n + 1, strings, used);
-    Decoded {
-        fault: 0,
+    Decoded::Chars {
         at: at + 1 + n,
         used: used + 1 + n,
     }
@@ -190,31 +187,31 @@ fn character(
 fn escape_of(b: u8) -> Escape
     ensures { λ r. ⌜ r ≡ escapeOf b ⌝ }
 {
-    if b == 34 {
-        return Escape::Letter(34);
+    if b == b'"' {
+        return Escape::Letter(b'"');
     }
-    if b == 92 {
-        return Escape::Letter(92);
+    if b == b'\\' {
+        return Escape::Letter(b'\\');
     }
-    if b == 47 {
-        return Escape::Letter(47);
+    if b == b'/' {
+        return Escape::Letter(b'/');
     }
-    if b == 98 {
-        return Escape::Letter(8);
+    if b == b'b' {
+        return Escape::Letter(b'\x08');
     }
-    if b == 102 {
-        return Escape::Letter(12);
+    if b == b'f' {
+        return Escape::Letter(b'\x0C');
     }
-    if b == 110 {
-        return Escape::Letter(10);
+    if b == b'n' {
+        return Escape::Letter(b'\n');
     }
-    if b == 114 {
-        return Escape::Letter(13);
+    if b == b'r' {
+        return Escape::Letter(b'\r');
     }
-    if b == 116 {
-        return Escape::Letter(9);
+    if b == b't' {
+        return Escape::Letter(b'\t');
     }
-    if b == 117 {
+    if b == b'u' {
         return Escape::Unicode;
     }
     Escape::NoEscape
@@ -223,23 +220,20 @@ fn escape_of(b: u8) -> Escape
 fn hex_of(b: u8) -> Hex
     ensures { λ r. ⌜ r ≡ hexOf b ⌝ }
 {
-    if b < 48 {
+    if let Decimal::DecimalDigit(d) = decimal_of(b) {
+        return Hex::HexDigit(d);
+    }
+    if b < b'A' {
         return Hex::NoHex;
     }
-    if b <= 57 {
-        return Hex::HexDigit(b - 48);
+    if b <= b'F' {
+        return Hex::HexDigit(b - b'A' + 10);
     }
-    if b < 65 {
+    if b < b'a' {
         return Hex::NoHex;
     }
-    if b <= 70 {
-        return Hex::HexDigit(b - 55);
-    }
-    if b < 97 {
-        return Hex::NoHex;
-    }
-    if b <= 102 {
-        return Hex::HexDigit(b - 87);
+    if b <= b'f' {
+        return Hex::HexDigit(b - b'a' + 10);
     }
     Hex::NoHex
 }
@@ -327,10 +321,10 @@ fn low_half(text: &[u8], at: usize) -> LowHalf
     requires { ⌜ at ≤ length (now text) ⌝ }
     ensures { λ r. ⌜ Halved (now (text .entry)) at r ⌝ }
 {
-    if !stands(text, at, 92) {
+    if !stands(text, at, b'\\') {
         return LowHalf::NoHalf;
     }
-    if !stands(text, at + 1, 117) {
+    if !stands(text, at + 1, b'u') {
         return LowHalf::NoHalf;
     }
     let CodeUnit::Code(u) = code_unit(text, at + 2) else {
@@ -353,8 +347,7 @@ fn pair(text: &[u8], at: usize, h: u32, strings: &mut [u8], used: usize) -> Deco
     let half = low_half(text, next);
     match half {
         LowHalf::NoHalf => fault(3, at),
-        LowHalf::Half(l) => Decoded {
-            fault: 0,
+        LowHalf::Half(l) => Decoded::Chars {
             at: next + 6,
             used: put_utf8(strings, used, 65536 + (h - 55296) * 1024 + (l - 56320)),
         },
@@ -368,8 +361,7 @@ fn unit(text: &[u8], at: usize, u: u32, strings: &mut [u8], used: usize) -> Deco
 {
     let kind = unit_of(u);
     match kind {
-        Unit::Plain => Decoded {
-            fault: 0,
+        Unit::Plain => Decoded::Chars {
             at: at + 6,
             used: put_utf8(strings, used, u),
         },
@@ -402,8 +394,7 @@ fn escape(text: &[u8], at: usize, strings: &mut [u8], used: usize) -> Decoded
     match kind {
         Escape::Letter(d) => {
             strings[used] = d;
-            Decoded {
-                fault: 0,
+            Decoded::Chars {
                 at: at + 2,
                 used: used + 1,
             }
@@ -432,26 +423,32 @@ fn piece(text: &[u8], at: usize, strings: &mut [u8], used: usize) -> Decoded
 
 // The characters from `at` up to the closing quote, which stays.
 pub fn chars(text: &[u8], at: usize, strings: &mut [u8], used: usize) -> Decoded
-    requires { ⌜ (at ≤ length (now text)) × (used ≤ at) × (length (now text) ≤ length (now strings)) ⌝ }
+    requires { ⌜ (used ≤ at) × (length (now text) ≤ length (now strings)) ⌝ }
     ensures { λ r. ⌜ CharsPromise (now (text .entry)) at used (now (strings .entry)) r (now (strings .exit)) ⌝ }
 {
+    if text.len() <= at {
+        return fault(2, at);
+    }
     let mut i = at;
     let mut to = used;
     loop {
         let end = plain_run(text, i, strings, to);
         to += end - i;
-        if stands(text, end, 34) {
-            return Decoded {
-                fault: 0,
-                at: end,
-                used: to,
-            };
+        if stands(text, end, b'"') {
+            return Decoded::Chars { at: end, used: to };
         }
-        let e = piece(text, end, strings, to);
-        if e.fault != 0 {
-            return e;
+        let one = piece(text, end, strings, to);
+        match one {
+            Decoded::NoChars(f) => {
+                return Decoded::NoChars(f);
+            }
+            Decoded::Chars {
+                at: next,
+                used: done,
+            } => {
+                i = next;
+                to = done;
+            }
         }
-        i = e.at;
-        to = e.used;
     }
 }

@@ -1,5 +1,5 @@
 -- The whole text: a law for each return of `read_text` and of `read`. Over plain values.
-use mathlib.Core.Path.{_≡_, refl, sym, ap, _∙_, subst⁻¹}
+use mathlib.Core.Path.{_≡_, refl, sym, ap, _∙_, subst, subst⁻¹}
 use mathlib.Core.Bool.{Bool, true, false}
 use mathlib.Core.List.{_++_}
 use Prim.Native.Nat.{ℕ, _+_, _*_, _-_, _≤_, _<_}
@@ -13,18 +13,23 @@ use Rattle.model.specs.Bytes.{Bytes}
 use Rattle.model.specs.Limits.{maxTextBytes, maxValues}
 use Rattle.model.specs.Refusal.{ReadFault, notJson, repeatedName, loneSurrogate, badNumber, tooLarge, readNumber, number, invalidArgument}
 use Rattle.model.specs.Value.{Value}
-use Rattle.scan.specs.Contract.{Skipped}
-use Rattle.scan.specs.Laws.{white-by, ended-in, ended-end, some-fault}
+use Rattle.scan.specs.declared.Fault.{Fault}
+use Rattle.scan.specs.Contract.{faultOf, Skipped}
+use Rattle.scan.specs.Laws.{white-by, ended-in, ended-end}
 use Rattle.syntax.specs.Entry.{ReadAnswer, tooShort, readInto, readEntry}
 use Rattle.syntax.specs.Layout.{rowBytes, tableBytes, stringsBytes, unnamed, rowsOf, stringsOf, padded}
 use Rattle.syntax.specs.Laws.Layout.{length-rows}
 use Rattle.syntax.specs.Read.{Parsed, then, _>>=_, white, value, ended, text, Read, done, refuse, answer, read}
 use Rattle.json.specs.declared.Answer.{Answer}
+use Rattle.json.specs.declared.step.Cursor.{Cursor}
 use Rattle.json.specs.declared.step.Step.{Step}
+use Rattle.json.specs.declared.step.Step.the-variants.{Reached, Failed}
+use Rattle.json.specs.declared.TextStep.{TextStep}
+use Rattle.json.specs.declared.TextStep.the-variants.{Whole, NoText}
 use Rattle.json.specs.Contract.{answerOf, AllRead}
-use Rattle.json.specs.Inner.{rowsPart, valueForm, ValueRead, Whole, TextMeets, TextRead}
+use Rattle.json.specs.Inner.{rowsPart, valueForm, ValueRead, TextWrote, TextMeets, TextRead}
 use Rattle.json.proofs.Rows.{take-rows, length-rowsPart}
-use Rattle.json.proofs.Form.{Got, got-at, gone-at}
+use Rattle.json.proofs.Form.{Got, got-at, gone-at, read-as}
 use Rattle.json.proofs.Items.{bare}
 
 -- ---- a law for each return of `read_text`
@@ -41,55 +46,59 @@ module _ (s : Bytes) where
   unfolding text _>>=_
   text-as f sk = white-by (value f 0 0 >>= λ v. white (ended v)) sk
 
-meets-refused : {s T A : Bytes} {r : Step} {T′ A′ : Bytes} (k : ReadFault) (p : ℕ) → read s ≡ refuse k p → r .fault ≡ readNumber k → r .at ≡ p → TextRead s T A r T′ A′
-meets-refused {s} {T} {A} {r} {T′} {A′} k p e n q =
-    record { meets = subst⁻¹ (λ (g : Read). TextMeets g T A r T′ A′) e (record { number = n; place = q }) }
+meets-refused : {s T A : Bytes} {T′ A′ : Bytes} (k : ReadFault) (p : ℕ) {x : Fault} → read s ≡ refuse k p → x ≡ faultOf k p → TextRead s T A (NoText x) T′ A′
+meets-refused {s} {T} {A} {T′} {A′} k p {x} e q =
+    record { meets = subst⁻¹ (λ (g : Read). TextMeets g T A (NoText x) T′ A′) e q }
 
 module _ {s T A : Bytes} where
-  pub law-long : {r : Step} {T′ A′ : Bytes} → maxTextBytes < length s → r .fault ≡ 5 → r .at ≡ maxTextBytes → TextRead s T A r T′ A′
-  law-long h n q = meets-refused tooLarge maxTextBytes (read-long s h) n q
+  pub law-long : {T′ A′ : Bytes} → maxTextBytes < length s → TextRead s T A (NoText (faultOf tooLarge maxTextBytes)) T′ A′
+  law-long h = meets-refused tooLarge maxTextBytes (read-long s h) refl
 
-  module _ (short : length s ≤ maxTextBytes) {at : ℕ} (sk : Skipped s 0 at) {r : Step} {T′ A′ : Bytes} (h : ValueRead bare (λ f. value f 0 0) 0 s at 0 0 T A r T′ A′) where
-    pub law-fault : (r .fault ≡ 0 → ⊥) → TextRead s T A r T′ A′
-    unfolding then answer
-    law-fault z =
-        let g = gone-at (h .reads) z (2 * length s + 1) (omega arith) in
-        meets-refused (g .k) (r .at)
-        (read-short s short ∙ ap answer (text-as s (2 * length s + 1) sk ∙ ap (λ (p : Parsed Value). then p (λ v. white (ended v))) (g .is)))
-        (g .number) refl
+  module _ (short : length s ≤ maxTextBytes) {at : ℕ} (sk : Skipped s 0 at) {r : Step} {T′ A′ : Bytes} where
+    module _ (v : ValueRead bare (λ f. value f 0 0) 0 s at 0 0 T A r T′ A′) where
+      pub law-fault : {x : Fault} → r ≡ Failed x → TextRead s T A (NoText x) T′ A′
+      unfolding then answer
+      law-fault e =
+          let h = read-as v e in
+          let g = gone-at (h .reads) (2 * length s + 1) (omega arith) in
+          meets-refused (g .k) (g .p)
+          (read-short s short ∙ ap answer (text-as s (2 * length s + 1) sk ∙ ap (λ (p : Parsed Value). then p (λ v. white (ended v))) (g .is)))
+          (g .fault)
 
-    module _ (z : r .fault ≡ 0) {end : ℕ} (sk₁ : Skipped s (r .at) end) where
-      got : Got (valueForm unnamed) s 0 0 T A (value (2 * length s + 1) 0 0 (drop at s) at) r T′ A′
-      got = got-at (h .reads) z (2 * length s + 1) (omega arith)
+      module _ {c : Cursor} (e : r ≡ Reached c) {end : ℕ} (sk₁ : Skipped s (c .at) end) where
+        reads : ValueRead bare (λ f. value f 0 0) 0 s at 0 0 T A (Reached c) T′ A′
+        reads = read-as v e
 
-      read-end : read s ≡ answer (ended (got .x) (drop end s) end)
-      unfolding then
-      read-end =
-          read-short s short
-          ∙ ap answer (text-as s (2 * length s + 1) sk ∙ ap (λ (p : Parsed Value). then p (λ v. white (ended v))) (got .is) ∙ white-by (ended (got .x)) sk₁)
+        got : Got (valueForm unnamed) s 0 0 T A (value (2 * length s + 1) 0 0 (drop at s) at) c T′ A′
+        got = got-at (reads .reads) (2 * length s + 1) (omega arith)
 
-      pub law-more : {t : Step} {T₂ A₂ : Bytes} → end < length s → t .fault ≡ 2 → t .at ≡ end → TextRead s T A t T₂ A₂
-      unfolding answer
-      law-more l n q = meets-refused notJson end (read-end ∙ ap answer (ended-in (got .x) s end l)) n q
+        read-end : read s ≡ answer (ended (got .x) (drop end s) end)
+        unfolding then
+        read-end =
+            read-short s short
+            ∙ ap answer (text-as s (2 * length s + 1) sk ∙ ap (λ (p : Parsed Value). then p (λ v. white (ended v))) (got .is) ∙ white-by (ended (got .x)) sk₁)
 
-      pub law-whole : length s ≤ end → TextRead s T A r T′ A′
-      unfolding answer rowBytes
-      law-whole l =
-          let w = got .wrote in
-          let safe = h .reads .safe z in
-          record {
-            meets = subst⁻¹ (λ (g : Read). TextMeets g T A r T′ A′)
-                (read-end ∙ ap answer (ended-end (got .x) s end l))
-                (record {
-                  number = z;
-                  rows = w .rows ∙ zero-add _;
-                  text = w .text ∙ zero-add _;
-                  table = w .table;
-                  area = w .area;
-                  few = safe .rows;
-                  fits = omega arith;
-                });
-          }
+        pub law-more : {T₂ A₂ : Bytes} → end < length s → TextRead s T A (NoText (faultOf notJson end)) T₂ A₂
+        unfolding answer
+        law-more l = meets-refused notJson end (read-end ∙ ap answer (ended-in (got .x) s end l)) refl
+
+        pub law-whole : length s ≤ end → TextRead s T A (Whole (c .row) (c .used)) T′ A′
+        unfolding answer rowBytes
+        law-whole l =
+            let w = got .wrote in
+            let safe = reads .reads .safe in
+            record {
+              meets = subst⁻¹ (λ (g : Read). TextMeets g T A (Whole (c .row) (c .used)) T′ A′)
+                  (read-end ∙ ap answer (ended-end (got .x) s end l))
+                  (record {
+                    count = w .rows ∙ zero-add _;
+                    text = w .text ∙ zero-add _;
+                    table = w .table;
+                    area = w .area;
+                    few = safe .rows;
+                    fits = omega (arith, safe);
+                  });
+            }
 
 -- ---- the entry, by whether an area is too short
 module _ (s T A : Bytes) (p : ℕ) where
@@ -106,28 +115,32 @@ not-one loneSurrogate e = omega arith
 not-one badNumber e = omega arith
 not-one tooLarge e = omega arith
 
--- ---- what the contract of `read_text` says, by the fault
-record Refused (g : Read) (r : Step) : Type 0 where
+-- ---- what the contract of `read_text` says, by the answer
+record Refused (g : Read) (x : Fault) : Type 0 where
   k : ReadFault
-  number : r .fault ≡ readNumber k
-  is : g ≡ refuse k (r .at)
+  p : ℕ
+  is : g ≡ refuse k p
+  fault : x ≡ faultOf k p
 
-record Done (g : Read) (T A : Bytes) (r : Step) (T′ A′ : Bytes) : Type 0 where
+record Done (g : Read) (T A : Bytes) (rows used : ℕ) (T′ A′ : Bytes) : Type 0 where
   v : Value
   is : g ≡ done v
-  whole : Whole v T A r T′ A′
+  wrote : TextWrote v T A rows used T′ A′
 
-module _ (T A : Bytes) (r : Step) (T′ A′ : Bytes) where
-  refused-of : (g : Read) → TextMeets g T A r T′ A′ → (r .fault ≡ 0 → ⊥) → Refused g r
-  refused-of (done v) m z = absurd (z (m .number))
-  refused-of (refuse k p) m z = record { k = k; number = m .number; is = ap (refuse k) (sym (m .place)) }
+module _ (T A : Bytes) (T′ A′ : Bytes) where
+  refused-of : (x : Fault) (g : Read) → TextMeets g T A (NoText x) T′ A′ → Refused g x
+  refused-of x (done v) m = absurd m
+  refused-of x (refuse k p) m = record { k = k; p = p; is = refl; fault = m }
 
-  done-of : (g : Read) → TextMeets g T A r T′ A′ → r .fault ≡ 0 → Done g T A r T′ A′
-  done-of (done v) m z = record { v = v; is = refl; whole = m }
-  done-of (refuse k p) m z = absurd (some-fault k (sym (m .number) ∙ z))
+  done-of : (rows used : ℕ) (g : Read) → TextMeets g T A (Whole rows used) T′ A′ → Done g T A rows used T′ A′
+  done-of rows used (done v) m = record { v = v; is = refl; wrote = m }
+  done-of rows used (refuse k p) m = absurd m
 
-pub rows-few : {s T A : Bytes} {r : Step} {T′ A′ : Bytes} → TextRead s T A r T′ A′ → r .fault ≡ 0 → r .row ≤ maxValues
-rows-few {s} {T} {A} {r} {T′} {A′} m z = done-of T A r T′ A′ (read s) (m .meets) z .whole .few
+pub told : {s T A : Bytes} {r x : TextStep} {T′ A′ : Bytes} → TextRead s T A r T′ A′ → r ≡ x → TextRead s T A x T′ A′
+told {s} {T} {A} {T′ = T′} {A′} h e = subst (λ (x : TextStep). TextRead s T A x T′ A′) e h
+
+pub rows-few : {s T A : Bytes} {rows used : ℕ} {T′ A′ : Bytes} → TextRead s T A (Whole rows used) T′ A′ → rows ≤ maxValues
+rows-few {s} {T} {A} {rows} {used} {T′} {A′} m = done-of T A T′ A′ rows used (read s) (m .meets) .wrote .few
 
 -- ---- a law for each return of `read`
 long-enough : (T A : Bytes) → tableBytes ≤ length T → stringsBytes ≤ length A → tooShort T A ≡ false
@@ -170,25 +183,27 @@ module _ {s T A : Bytes} where
           strings = λ p. u ∙ ap (λ (x : ReadAnswer). x .strings) (c p);
         }
 
-    module _ {r : Step} {T₁ A₁ T₂ A₂ : Bytes} (m : TextRead s T A r T₁ A₁) (lt : length T₁ ≡ length T) (la : length A₁ ≡ length A) where
-      pub law-refused : (r .fault ≡ 0 → ⊥) → T₂ ≡ zeroFrom 0 T₁ → A₂ ≡ zeroFrom 0 A₁ → AllRead s T A (reply (r .fault) (r .at) 0) T₂ A₂
-      law-refused z t a =
-          let o = refused-of T A r T₁ A₁ (read s) (m .meets) z in
-          met (refuse (o .k) (r .at)) (o .is) (ap (λ (n : ℕ). reply n (r .at) 0) (o .number)) (λ y. not-one (o .k) (sym (o .number) ∙ y)) (o .number) refl
+    module _ {T₁ A₁ T₂ A₂ : Bytes} (lt : length T₁ ≡ length T) (la : length A₁ ≡ length A) where
+      pub law-refused : {x : Fault} → TextRead s T A (NoText x) T₁ A₁ → T₂ ≡ zeroFrom 0 T₁ → A₂ ≡ zeroFrom 0 A₁ → AllRead s T A (reply (x .number) (x .at) 0) T₂ A₂
+      law-refused {x} m t a =
+          let o = refused-of T A T₁ A₁ x (read s) (m .meets) in
+          let n : x .number ≡ readNumber (o .k) = ap (λ (y : Fault). y .number) (o .fault) in
+          let q : x .at ≡ o .p = ap (λ (y : Fault). y .at) (o .fault) in
+          met (refuse (o .k) (o .p)) (o .is) (λ i. reply (n i) (q i) 0) (λ y. not-one (o .k) (sym n ∙ y)) n q
           (t ∙ zeroFrom-all T₁ ∙ ap (λ (n : ℕ). replicate n 0) lt) (a ∙ zeroFrom-all A₁ ∙ ap (λ (n : ℕ). replicate n 0) la)
 
-      pub law-done : r .fault ≡ 0 → T₂ ≡ zeroFrom (r .row * rowBytes) T₁ → A₂ ≡ zeroFrom (r .used) A₁ → AllRead s T A (reply 0 0 (r .row)) T₂ A₂
+      pub law-done : {rows used : ℕ} → TextRead s T A (Whole rows used) T₁ A₁ → T₂ ≡ zeroFrom (rows * rowBytes) T₁ → A₂ ≡ zeroFrom used A₁ → AllRead s T A (reply 0 0 rows) T₂ A₂
       unfolding zeroFrom padded rowBytes
-      law-done z t a =
-          let o = done-of T A r T₁ A₁ (read s) (m .meets) z in
-          let w = o .whole in
+      law-done {rows} {used} m t a =
+          let o = done-of T A T₁ A₁ rows used (read s) (m .meets) in
+          let w = o .wrote in
           let v = o .v in
           let rs = rowsOf v 0 0 unnamed in
           let ts = stringsOf v in
-          let n : r .row * 16 ≡ length rs = omega (arith, w .rows, length-rows v 0 0 unnamed) in
-          let i : take (r .row * 16) T₁ ≡ rs =
-          sym (take-rows T₁ (r .row * 16) (omega (arith, w .few))) ∙ (λ k. take (n k) (w .table k))
+          let n : rows * 16 ≡ length rs = omega (arith, w .count, length-rows v 0 0 unnamed) in
+          let i : take (rows * 16) T₁ ≡ rs =
+          sym (take-rows T₁ (rows * 16) (omega (arith, w .few))) ∙ (λ k. take (n k) (w .table k))
           ∙ part-sets rs (rowsPart T) 0 (omega (arith, n, w .few, length-rowsPart T h)) in
-          met (done v) (o .is) (ap (reply 0 0) (w .rows)) (λ y. omega arith) refl refl
+          met (done v) (o .is) (ap (reply 0 0) (w .count)) (λ y. omega arith) refl refl
           (t ∙ (λ k. i k ++ replicate (lt k - n k) 0))
           (a ∙ (λ k. zeroFrom (w .text k) (w .area k)) ∙ zeroFrom-sets ts A (omega (arith, w .text, w .fits)))

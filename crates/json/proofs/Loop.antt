@@ -9,11 +9,15 @@ use Rattle.area.specs.Laws.{sets-append}
 use Rattle.model.specs.Bytes.{Bytes}
 use Rattle.model.specs.Limits.{maxValues}
 use Rattle.names.specs.Index.{entry}
+use Rattle.scan.specs.declared.Fault.{Fault}
+use Rattle.scan.specs.Laws.{Gone}
 use Rattle.syntax.specs.Layout.{rowBytes}
 use Rattle.syntax.specs.Read.{Parsed, ok, Parser, then, give}
+use Rattle.json.specs.declared.step.Cursor.{Cursor}
 use Rattle.json.specs.declared.step.Step.{Step}
-use Rattle.json.specs.Inner.{rowsPart, Form, Wrote, Reads, step}
-use Rattle.json.proofs.Form.{by-fault, Got, Gone, got-at, gone-at, reads-ok, reads-bad, fuelled, refail}
+use Rattle.json.specs.declared.step.Step.the-variants.{Reached, Failed}
+use Rattle.json.specs.Inner.{rowsPart, Form, cursor, Wrote, Reads}
+use Rattle.json.proofs.Form.{Got, gone-then, got-at, gone-at, reads-ok, reads-bad, fuelled}
 
 -- ---- one part in front
 -- What `cons` puts in front of the parts that follow lies in the areas, before what follows.
@@ -31,16 +35,20 @@ pub record Front {X : Type 0} (F : Form X) (row used : ℕ) (T A : Bytes) (next 
   pub table : rowsPart T₁ ≡ sets (rowsPart T) (row * rowBytes) rs
   pub area : A₁ ≡ sets A used ts
 
+-- So many items or members more.
+abbrev pub counting : ℕ → Cursor → Cursor
+counting n c = cursor (c .at) (c .row) (c .used) (c .count + n)
+
 abbrev pub shift : ℕ → Step → Step
-shift n r = step (r .fault) (r .at) (r .row) (r .used) (r .count + n)
+shift n (Reached c) = Reached (counting n c)
+shift n (Failed f) = Failed f
 
 module _ {X : Type 0} {F : Form X} {row used : ℕ} {T A : Bytes} {next to : ℕ} {T₁ A₁ : Bytes} {cons : X → X} (h : Front F row used T A next to T₁ A₁ cons) where
-  joined : (x : X) {s u : Bytes} {q : ℕ} {r : Step} {T₂ A₂ : Bytes} → Wrote F s next to T₁ A₁ x u q r T₂ A₂ → Wrote F s row used T A (cons x) u q (shift 1 r) T₂ A₂
+  joined : (x : X) {s u : Bytes} {q : ℕ} {c : Cursor} {T₂ A₂ : Bytes} → Wrote F s next to T₁ A₁ x u q c T₂ A₂ → Wrote F s row used T A (cons x) u q (counting 1 c) T₂ A₂
   unfolding rowBytes
   joined x w =
       let i : (row + h .n) * rowBytes ≡ row * rowBytes + length (h .rs) = omega (arith, h .size) in
       record {
-        number = w .number;
         place = w .place;
         left = w .left;
         rows = w .rows ∙ rw (h .count-cons) (omega (arith, h .rows));
@@ -54,9 +62,8 @@ module _ {X : Type 0} {F : Form X} {row used : ℕ} {T A : Bytes} {next to : ℕ
       }
 
   single : (x : X) {s : Bytes} (q : ℕ) → F .rows x (row + h .n) (used + length (h .ts)) ≡ [] → F .strings x ≡ [] → F .count x ≡ 0 → F .parts x ≡ 0
-      → Wrote F s row used T A (cons x) (drop q s) q (step 0 q next to 1) T₁ A₁
+      → Wrote F s row used T A (cons x) (drop q s) q (cursor q next to 1) T₁ A₁
   single x q r t c p = record {
-    number = refl;
     place = refl;
     left = refl;
     rows = rw (h .count-cons) (omega (arith, h .rows));
@@ -96,20 +103,19 @@ pub record Last {X : Type 0} (F : Form X) (m : Parser X) (s : Bytes) (at row use
 module _ {X : Type 0} {F : Form X} {m : ℕ → Parser X} {b : ℕ} {s : Bytes} {at row used : ℕ} {T A : Bytes} {here next to : ℕ} {T₁ A₁ : Bytes}
     (w : Onward b s at row used T here next to T₁) where
   pub last : ((f : ℕ) → 2 * (length s - at) + 1 ≤ f → Last F (m (suc f)) s at row used T A here next to T₁ A₁)
-      → Reads F m 1 b s at row used T A (step 0 here next to 1) T₁ A₁
+      → Reads F m 1 b s at row used T A (Reached (cursor here next to 1)) T₁ A₁
   last g =
       reads-ok
       (record { on = w .on; inside = w .inside; text = w .text; more = w .more; rows = w .rows; less = w .less; count = omega arith; kept = w .kept })
-      (fuelled (λ (f : ℕ). Got F s row used T A (m f (drop at s) at) (step 0 here next to 1) T₁ A₁) (2 * (length s - at) + 1)
+      (fuelled (λ (f : ℕ). Got F s row used T A (m f (drop at s) at) (cursor here next to 1) T₁ A₁) (2 * (length s - at) + 1)
       (λ f l. let o = g f l in
       record { x = o .cons (o .nil); is = o .is; wrote = single (o .front) (o .nil) here (o .none (row + o .front .n) (used + length (o .front .ts))) (o .empty) (o .count) (o .parts) }))
 
-  pub more : {m′ : ℕ → Parser X} {t : Step} {T₂ A₂ : Bytes} → ((f : ℕ) → 2 * (length s - at) + 1 ≤ f → More F (m (suc f)) (m′ f) s at row used T A here next to T₁ A₁)
+  pub more : {m′ : ℕ → Parser X} (t : Step) {T₂ A₂ : Bytes} → ((f : ℕ) → 2 * (length s - at) + 1 ≤ f → More F (m (suc f)) (m′ f) s at row used T A here next to T₁ A₁)
       → Reads F m′ 1 b s here next to T₁ A₁ t T₂ A₂ → Reads F m 1 b s at row used T A (shift 1 t) T₂ A₂
   unfolding then give
-  more {m′} {t} {T₂} {A₂} g h =
-      by-fault (t .fault)
-      (λ z. let safe = h .safe z in
+  more (Reached c) {T₂} {A₂} g h =
+      let safe = h .safe in
       reads-ok
       (record {
         on = omega arith;
@@ -121,15 +127,15 @@ module _ {X : Type 0} {F : Form X} {m : ℕ → Parser X} {b : ℕ} {s : Bytes} 
         count = omega arith;
         kept = λ e o p. safe .kept e o p ∙ w .kept e o p;
       })
-      (fuelled (λ (f : ℕ). Got F s row used T A (m f (drop at s) at) (shift 1 t) T₂ A₂) (2 * (length s - at) + 1)
+      (fuelled (λ (f : ℕ). Got F s row used T A (m f (drop at s) at) (counting 1 c) T₂ A₂) (2 * (length s - at) + 1)
       (λ f l. let o = g f l in
-      let r = got-at h z f (omega arith) in
-      record { x = o .cons (r .x); is = o .is ∙ ap (λ (p : Parsed X). then p (λ x. give (o .cons x))) (r .is); wrote = joined (o .front) (r .x) (r .wrote) })))
-      (λ z. reads-bad z
-      (fuelled (λ (f : ℕ). Gone (m f (drop at s) at) (t .fault) (t .at)) (2 * (length s - at) + 1)
+      let r = got-at h f (omega arith) in
+      record { x = o .cons (r .x); is = o .is ∙ ap (λ (p : Parsed X). then p (λ x. give (o .cons x))) (r .is); wrote = joined (o .front) (r .x) (r .wrote) }))
+  more (Failed x) g h =
+      reads-bad
+      (fuelled (λ (f : ℕ). Gone (m f (drop at s) at) x) (2 * (length s - at) + 1)
       (λ f l. let o = g f l in
-      let r = gone-at h z f (omega arith) in
-      record { k = r .k; number = r .number; is = o .is ∙ ap (λ (p : Parsed X). then p (λ x. give (o .cons x))) (r .is) })))
+      gone-then (λ _ _ e. o .is ∙ ap (λ (p : Parsed X). then p (λ x. give (o .cons x))) e) (gone-at h f (omega arith))))
 
 -- ---- the invariant
 -- m is the parser from the first part on, m′ that from `here` on.
@@ -155,23 +161,25 @@ inv-start {F = F} {m} {b} {s} {at} {row} {used} {T} {A} l u r = record {
   counted = omega arith;
   sameT = refl;
   sameA = refl;
-  rest = λ t T₂ A₂ h. subst⁻¹ (λ (n : ℕ). Reads F m 1 b s at row used T A (step (t .fault) (t .at) (t .row) (t .used) n) T₂ A₂) (omega arith) h;
+  rest = λ t T₂ A₂ h. none t T₂ A₂ h;
 }
+  where
+    none : (t : Step) (T₂ A₂ : Bytes) → Reads F m 1 b s at row used T A t T₂ A₂ → Reads F m 1 b s at row used T A (shift 0 t) T₂ A₂
+    none (Reached c) T₂ A₂ h = subst⁻¹ (λ (n : ℕ). Reads F m 1 b s at row used T A (Reached (cursor (c .at) (c .row) (c .used) n)) T₂ A₂) (omega arith) h
+    none (Failed f) T₂ A₂ h = h
 
 module _ {X : Type 0} {F : Form X} {m m′ : ℕ → Parser X} {b : ℕ} {s : Bytes} {at row used : ℕ} {T A T₁ A₁ : Bytes} {here next to count : ℕ}
     (inv : Inv F m m′ b s at row used T A T₁ A₁ here next to count) where
-  pub loop-bad : {r : Step} {T₂ A₂ : Bytes} → (r .fault ≡ 0 → ⊥) → ((f : ℕ) → 2 * (length s - here) + 1 ≤ f → Gone (m′ (suc f) (drop here s) here) (r .fault) (r .at))
-      → Reads F m 1 b s at row used T A r T₂ A₂
-  loop-bad {r} {T₂} {A₂} z g =
-      refail
-      (inv .rest r T₂ A₂ (reads-bad z (fuelled (λ (f : ℕ). Gone (m′ f (drop here s) here) (r .fault) (r .at)) (2 * (length s - here) + 1) g)))
-      z refl refl
+  pub loop-bad : {x : Fault} {T₂ A₂ : Bytes} → ((f : ℕ) → 2 * (length s - here) + 1 ≤ f → Gone (m′ (suc f) (drop here s) here) x)
+      → Reads F m 1 b s at row used T A (Failed x) T₂ A₂
+  loop-bad {x} {T₂} {A₂} g =
+      inv .rest (Failed x) T₂ A₂ (reads-bad (fuelled (λ (f : ℕ). Gone (m′ f (drop here s) here) x) (2 * (length s - here) + 1) g))
 
   pub loop-last : {here₁ next₁ to₁ : ℕ} {T₂ A₂ : Bytes} → Onward b s here next to T₁ here₁ next₁ to₁ T₂
       → ((f : ℕ) → 2 * (length s - here) + 1 ≤ f → Last F (m′ (suc f)) s here next to T₁ A₁ here₁ next₁ to₁ T₂ A₂)
-      → Reads F m 1 b s at row used T A (step 0 here₁ next₁ to₁ (count + 1)) T₂ A₂
+      → Reads F m 1 b s at row used T A (Reached (cursor here₁ next₁ to₁ (count + 1))) T₂ A₂
   loop-last {here₁} {next₁} {to₁} {T₂} {A₂} w g =
-      subst (λ (n : ℕ). Reads F m 1 b s at row used T A (step 0 here₁ next₁ to₁ n) T₂ A₂) (omega arith) (inv .rest (step 0 here₁ next₁ to₁ 1) T₂ A₂ (last w g))
+      subst (λ (n : ℕ). Reads F m 1 b s at row used T A (Reached (cursor here₁ next₁ to₁ n)) T₂ A₂) (omega arith) (inv .rest (Reached (cursor here₁ next₁ to₁ 1)) T₂ A₂ (last w g))
 
   pub loop-more : {m″ : ℕ → Parser X} {here₁ next₁ to₁ : ℕ} {T₂ A₂ : Bytes} → Onward b s here next to T₁ here₁ next₁ to₁ T₂ → length T₂ ≡ length T → length A₂ ≡ length A
       → ((f : ℕ) → 2 * (length s - here) + 1 ≤ f → More F (m′ (suc f)) (m″ f) s here next to T₁ A₁ here₁ next₁ to₁ T₂ A₂)
@@ -185,6 +193,9 @@ module _ {X : Type 0} {F : Form X} {m m′ : ℕ → Parser X} {b : ℕ} {s : By
     counted = omega arith;
     sameT = lt;
     sameA = la;
-    rest = λ t T₃ A₃ h. subst (λ (n : ℕ). Reads F m 1 b s at row used T A (step (t .fault) (t .at) (t .row) (t .used) n) T₃ A₃) (omega arith)
-        (inv .rest (shift 1 t) T₃ A₃ (more w g h));
+    rest = λ t T₃ A₃ h. both t T₃ A₃ (inv .rest (shift 1 t) T₃ A₃ (more w t g h));
   }
+    where
+      both : (t : Step) (T₃ A₃ : Bytes) → Reads F m 1 b s at row used T A (shift count (shift 1 t)) T₃ A₃ → Reads F m 1 b s at row used T A (shift (count + 1) t) T₃ A₃
+      both (Reached c) T₃ A₃ h = subst (λ (n : ℕ). Reads F m 1 b s at row used T A (Reached (cursor (c .at) (c .row) (c .used) n)) T₃ A₃) (omega arith) h
+      both (Failed f) T₃ A₃ h = h

@@ -13,16 +13,20 @@ use Rattle.area.specs.Laws.{wordAt-take, part-sets}
 use Rattle.model.specs.Bytes.{Bytes, sameBytes}
 use Rattle.model.specs.Lists.{any}
 use Rattle.model.specs.Refusal.{notJson, repeatedName}
-use Rattle.names.specs.Index.{Entry, Indexed, Named, Between, EnterRoom, Entered, namesOf, part}
-use Rattle.scan.specs.Contract.{Skipped, Stands}
-use Rattle.scan.specs.Laws.{eat-next, white-by, byte-by}
+use Rattle.names.specs.Index as index
+use Rattle.names.specs.Index.{Entry, Indexed, Between, EnterRoom, Entered, namesOf, part}
+use Rattle.scan.specs.declared.Fault.{Fault}
+use Rattle.scan.specs.Contract.{faultOf, Skipped, Stands}
+use Rattle.scan.specs.Laws.{eat-next, white-by, byte-by, Gone}
 use Rattle.chars.specs.Contract.{CharsPromise}
 use Rattle.chars.specs.declared.Decoded.{Decoded}
+use Rattle.chars.specs.declared.Decoded.the-variants.{Chars, NoChars}
 use Rattle.syntax.specs.Layout.{rowBytes, entryBytes}
 use Rattle.syntax.specs.Read.{Parsed, bad, Parser, then, _>>=_, give, fail, if, peek, eat, white, chars, clear, quoted, among, name}
-use Rattle.json.specs.declared.step.Step.{Step}
-use Rattle.json.specs.Inner.{rowsPart, Holds, Has, named, NameRoom, NameMeets, NameRead, step}
-use Rattle.json.proofs.Form.{Gone}
+use Rattle.json.specs.declared.name.NameStep.{NameStep}
+use Rattle.json.specs.declared.name.NameStep.the-variants.{Named, NoName}
+use Rattle.json.specs.Inner.{rowsPart, Holds, Has, named, NameRoom, NameMeets, NameRead}
+use Rattle.json.proofs.Form.{gone-then}
 use Rattle.json.proofs.Values.{Text, chars-got, chars-gone}
 
 -- ---- parts that stay
@@ -55,8 +59,8 @@ holds-kept (e ∷ es) first bound T T′ A A′ to to′ b t a l h =
       holds-kept es first bound T T′ A A′ to to′ (b .2) t a l (h .2),
     )
 
-holds-named : (es : List Entry) (T A : Bytes) (to : ℕ) → to ≤ length A → Holds T A to es → Named T A es
-unfolding Holds Named
+holds-named : (es : List Entry) (T A : Bytes) (to : ℕ) → to ≤ length A → Holds T A to es → index.Named T A es
+unfolding Holds index.Named
 holds-named [] T A to l h = h
 holds-named (e ∷ es) T A to l h = (h .0, omega (arith, h .1), holds-named es T A to l (h .2))
 
@@ -103,35 +107,36 @@ module _ {s : Bytes} {at : ℕ} {b : Bool} (st : Stands s at 34 b) (f : ℕ) (se
 
 -- ---- a law for each return of `member_name`
 module _ {s : Bytes} {at first row used : ℕ} {T A : Bytes} where
-  name-bad : {r : Step} {T′ A′ : Bytes} → (r .fault ≡ 0 → ⊥)
-      → ((f : ℕ) → length s ≤ at + f → (es : List Entry) → Has T A first row used es → Gone (name f (namesOf es) (drop at s) at) (r .fault) (r .at))
+  name-bad : {r : NameStep} {x : Fault} {T′ A′ : Bytes} → r ≡ NoName x
+      → ((f : ℕ) → length s ≤ at + f → (es : List Entry) → Has T A first row used es → Gone (name f (namesOf es) (drop at s) at) x)
       → NameRead s at first row used T A r T′ A′
-  name-bad {r} {T′} {A′} z g = record {
-    safe = λ e. absurd (z e);
-    run = λ f l es h. let o = g f l es h in
-        subst⁻¹ (λ (p : Parsed Bytes). NameMeets s first row used T A es p r T′ A′) (o .is) (record { number = o .number; place = refl });
-  }
+  name-bad {x = x} {T′} {A′} z g =
+      subst⁻¹ (λ (r : NameStep). NameRead s at first row used T A r T′ A′) z
+      (record {
+        safe = Prim.tt;
+        run = λ f l es h. let o = g f l es h in
+            subst⁻¹ (λ (p : Parsed Bytes). NameMeets s first row used T A es p (NoName x) T′ A′) (o .is) (o .fault);
+      })
 
   module _ {b : Bool} (st : Stands s at 34 b) where
-    pub law-no-name : {r : Step} {T′ A′ : Bytes} → b ≡ false → r .fault ≡ 2 → r .at ≡ at → NameRead s at first row used T A r T′ A′
-    law-no-name e n q = name-bad (λ y. omega arith) (λ f l es h. record { k = notJson; number = n; is = name-none st f (namesOf es) e ∙ ap (bad notJson) (sym q) })
+    pub law-no-name : {r : NameStep} {T′ A′ : Bytes} → b ≡ false → r ≡ NoName (faultOf notJson at) → NameRead s at first row used T A r T′ A′
+    law-no-name e n = name-bad n (λ f l es h. record { k = notJson; p = at; is = name-none st f (namesOf es) e; fault = refl })
 
     module _ (e : b ≡ true) {d : Decoded} {A₁ : Bytes} (c : CharsPromise s (at + 1) used A d A₁) where
-      pub law-name-chars : {r : Step} {T′ A′ : Bytes} → (d .fault ≡ 0 → ⊥) → r .fault ≡ d .fault → r .at ≡ d .at → NameRead s at first row used T A r T′ A′
+      pub law-name-chars : {x : Fault} {T′ A′ : Bytes} → d ≡ NoChars x → NameRead s at first row used T A (NoName x) T′ A′
       unfolding then
-      law-name-chars z n q =
-          name-bad (λ y. z (sym n ∙ y))
-          (λ f l es h. let g = chars-gone c z f (omega arith) in
-          record { k = g .k; number = n ∙ g .number; is = name-chars st f (namesOf es) e ∙ ap (λ (p : Parsed Bytes). then p (fresh (namesOf es))) (g .is) ∙ ap (bad (g .k)) (sym q) })
+      law-name-chars z =
+          name-bad refl
+          (λ f l es h. gone-then (λ _ _ g. name-chars st f (namesOf es) e ∙ ap (λ (p : Parsed Bytes). then p (fresh (namesOf es))) g) (chars-gone c z f (omega arith)))
 
-      module _ (z : d .fault ≡ 0) (room : NameRoom s T A at first row used) where
-        text : (f : ℕ) → length s ≤ at + f → Text (chars f clear (drop (at + 1) s) (at + 1)) s (at + 1) used A d A₁
+      module _ {end to : ℕ} (z : d ≡ Chars end to) (room : NameRoom s T A at first row used) where
+        text : (f : ℕ) → length s ≤ at + f → Text (chars f clear (drop (at + 1) s) (at + 1)) s (at + 1) used A end to A₁
         text f l = chars-got c z f (omega arith)
 
-        some-text : Text (chars (suc (length s)) clear (drop (at + 1) s) (at + 1)) s (at + 1) used A d A₁
+        some-text : Text (chars (suc (length s)) clear (drop (at + 1) s) (at + 1)) s (at + 1) used A end to A₁
         some-text = text (suc (length s)) (omega arith)
 
-        pub law-enter-room : EnterRoom T A₁ first row used (d .used - used)
+        pub law-enter-room : EnterRoom T A₁ first row used (to - used)
         unfolding rowBytes entryBytes
         law-enter-room =
             let o = some-text in
@@ -145,18 +150,18 @@ module _ {s : Bytes} {at first row used : ℕ} {T A : Bytes} where
               short = omega (arith, o .text, o .on, o .inside);
             }
 
-        module _ {t : Bool} {T₁ : Bytes} (n : Entered T A₁ first row used (d .used - used) t T₁) where
-          is-part : (f : ℕ) (l : length s ≤ at + f) → text f l .bs ≡ part A₁ used (d .used - used)
+        module _ {t : Bool} {T₁ : Bytes} (n : Entered T A₁ first row used (to - used) t T₁) where
+          is-part : (f : ℕ) (l : length s ≤ at + f) → text f l .bs ≡ part A₁ used (to - used)
           is-part f l =
               let o = text f l in
               let r = room .room in
-              let k : d .used - used ≡ length (o .bs) = omega (arith, o .text) in
+              let k : to - used ≡ length (o .bs) = omega (arith, o .text) in
               sym (ap (λ (m : ℕ). take m (drop used A₁)) k ∙ ap (λ (y : Bytes). take (length (o .bs)) (drop used y)) (o .area)
               ∙ part-sets (o .bs) A used (omega (arith, o .on, o .inside)))
 
           -- What the index says of the name.
           found : (es : List Entry) → Has T A first row used es
-              → (t ≡ any (sameBytes (part A₁ used (d .used - used))) (namesOf es)) × (t ≡ false → Indexed T₁ first (es ++ (named A₁ row used (d .used) ∷ [])))
+              → (t ≡ any (sameBytes (part A₁ used (to - used))) (namesOf es)) × (t ≡ false → Indexed T₁ first (es ++ (named A₁ row used (to - used) ∷ [])))
           found es h =
               let r = room .room in
               n .run es (h .indexed)
@@ -168,62 +173,64 @@ module _ {s : Bytes} {at first row used : ℕ} {T A : Bytes} where
           seen f l es h = found es h .0 ∙ ap (λ (y : Bytes). any (sameBytes y) (namesOf es)) (sym (is-part f l))
 
           after : (f : ℕ) (l : length s ≤ at + f) (es : List Entry) → Has T A first row used es
-              → name f (namesOf es) (drop at s) at ≡ if t (fail repeatedName) (eat (white (colon (text f l .bs)))) (drop (d .at) s) (d .at)
+              → name f (namesOf es) (drop at s) at ≡ if t (fail repeatedName) (eat (white (colon (text f l .bs)))) (drop end s) end
           unfolding then
           after f l es h =
               name-chars st f (namesOf es) e ∙ ap (λ (p : Parsed Bytes). then p (fresh (namesOf es))) (text f l .is)
-              ∙ ap (λ (y : Bool). if y (fail repeatedName) (eat (white (colon (text f l .bs)))) (drop (d .at) s) (d .at)) (sym (seen f l es h))
+              ∙ ap (λ (y : Bool). if y (fail repeatedName) (eat (white (colon (text f l .bs)))) (drop end s) end) (sym (seen f l es h))
 
-          pub law-repeated : {r : Step} {T′ A′ : Bytes} → t ≡ true → r .fault ≡ 3 → r .at ≡ d .at → NameRead s at first row used T A r T′ A′
+          pub law-repeated : {r : NameStep} {T′ A′ : Bytes} → t ≡ true → r ≡ NoName (faultOf repeatedName end) → NameRead s at first row used T A r T′ A′
           unfolding if fail
-          law-repeated y k q =
-              name-bad (λ x. omega arith)
+          law-repeated y k =
+              name-bad k
               (λ f l es h. record {
                 k = repeatedName;
-                number = k;
-                is = after f l es h ∙ ap (λ (x : Bool). if x (fail repeatedName) (eat (white (colon (text f l .bs)))) (drop (d .at) s) (d .at)) y ∙ ap (bad repeatedName) (sym q);
+                p = end;
+                is = after f l es h ∙ ap (λ (x : Bool). if x (fail repeatedName) (eat (white (colon (text f l .bs)))) (drop end s) end) y;
+                fault = refl;
               })
 
-          module _ (y : t ≡ false) {p : ℕ} (sk : Skipped s (d .at + 1) p) where
+          module _ (y : t ≡ false) {p : ℕ} (sk : Skipped s (end + 1) p) where
             at-colon : (f : ℕ) (l : length s ≤ at + f) (es : List Entry) → Has T A first row used es → name f (namesOf es) (drop at s) at ≡ colon (text f l .bs) (drop p s) p
             unfolding if
             at-colon f l es h =
-                after f l es h ∙ ap (λ (x : Bool). if x (fail repeatedName) (eat (white (colon (text f l .bs)))) (drop (d .at) s) (d .at)) y
-                ∙ eat-next (white (colon (text f l .bs))) s (d .at) (text f l .inside) ∙ white-by (colon (text f l .bs)) sk
+                after f l es h ∙ ap (λ (x : Bool). if x (fail repeatedName) (eat (white (colon (text f l .bs)))) (drop end s) end) y
+                ∙ eat-next (white (colon (text f l .bs))) s end (text f l .inside) ∙ white-by (colon (text f l .bs)) sk
 
             module _ {b₂ : Bool} (st₂ : Stands s p 58 b₂) where
-              pub law-no-colon : {r : Step} {T′ A′ : Bytes} → b₂ ≡ false → r .fault ≡ 2 → r .at ≡ p → NameRead s at first row used T A r T′ A′
+              pub law-no-colon : {r : NameStep} {T′ A′ : Bytes} → b₂ ≡ false → r ≡ NoName (faultOf notJson p) → NameRead s at first row used T A r T′ A′
               unfolding if fail
-              law-no-colon x k q =
-                  name-bad (λ w. omega arith)
+              law-no-colon x k =
+                  name-bad k
                   (λ f l es h. record {
                     k = notJson;
-                    number = k;
-                    is = at-colon f l es h ∙ byte-by (eat (give (text f l .bs))) st₂ ∙ ap (λ (c : Bool). if c (eat (give (text f l .bs))) (fail notJson) (drop p s) p) x ∙ ap (bad notJson) (sym q);
+                    p = p;
+                    is = at-colon f l es h ∙ byte-by (eat (give (text f l .bs))) st₂ ∙ ap (λ (c : Bool). if c (eat (give (text f l .bs))) (fail notJson) (drop p s) p) x;
+                    fault = refl;
                   })
 
-              pub law-name : {end : ℕ} → b₂ ≡ true → Skipped s (p + 1) end → NameRead s at first row used T A (step 0 end row (d .used) 0) T₁ A₁
+              pub law-name : {on : ℕ} → b₂ ≡ true → Skipped s (p + 1) on → NameRead s at first row used T A (Named on (record { start = used; size = to - used })) T₁ A₁
               unfolding if give rowsPart rowBytes
-              law-name {end} x sk₂ =
+              law-name {on} x sk₂ =
                   let o = some-text in
                   let r = room .room in
                   record {
-                    safe = λ _. record {
-                      on = omega (arith, o .on, sk .on, sk₂ .on);
+                    safe = record {
+                      more = omega (arith, o .on, sk .on, sk₂ .on);
                       inside = sk₂ .inside (omega (arith, st₂ .room x));
+                      start = refl;
                       text = omega (arith, o .text, o .on, sk .on, sk₂ .on);
-                      more = omega (arith, o .text);
                       rows = n .rows;
                       kept = n .kept;
                     };
-                    run = λ f l es h. subst⁻¹ (λ (g : Parsed Bytes). NameMeets s first row used T A es g (step 0 end row (d .used) 0) T₁ A₁)
+                    run = λ f l es h. subst⁻¹ (λ (g : Parsed Bytes). NameMeets s first row used T A es g (Named on (record { start = used; size = to - used })) T₁ A₁)
                         (at-colon f l es h ∙ byte-by (eat (give (text f l .bs))) st₂ ∙ ap (λ (c : Bool). if c (eat (give (text f l .bs))) (fail notJson) (drop p s) p) x
                         ∙ eat-next (give (text f l .bs)) s p (st₂ .room x))
                         (record {
-                          number = refl;
                           skipped = sk₂;
                           left = refl;
-                          text = text f l .text;
+                          start = refl;
+                          size = omega (arith, text f l .text);
                           area = text f l .area;
                           indexed = found es h .1 y;
                         });

@@ -10,16 +10,21 @@ use lib.ListN.{length, drop}
 use lib.Seq.{sets}
 use Rattle.model.specs.Bytes.{Bytes}
 use Rattle.model.specs.Limits.{maxValues}
-use Rattle.model.specs.Refusal.{ReadFault, notJson, tooLarge, readNumber}
+use Rattle.model.specs.Refusal.{ReadFault, notJson, tooLarge}
 use Rattle.model.specs.Size.{valueCount}
+use Rattle.model.specs.Laws.Logic.{clash}
 use Rattle.model.specs.Value.{Value, scalar, array, object, integer, string, no-items, no-members}
 use Rattle.names.specs.Index.{entry}
-use Rattle.scan.specs.Contract.{Skipped, Started, Separated, Stands, LiteralMeets, NumberMeets, wordValue}
-use Rattle.scan.specs.Laws.{eat-next, white-by, value-by, arrayBy, objectBy, array-by, object-by, some-fault, literal-whole, literal-wrong, number-whole, number-wrong}
-use Rattle.scan.specs.declared.token.Matched.{Matched}
+use Rattle.scan.specs.declared.Fault.{Fault}
+use Rattle.scan.specs.Contract.{faultOf, Skipped, Started, Separated, Stands, LiteralMeets, NumberMeets, wordValue}
+use Rattle.scan.specs.Laws.{eat-next, white-by, value-by, arrayBy, objectBy, array-by, object-by, Gone, literal-whole, literal-wrong, number-whole, number-wrong}
+use Rattle.scan.specs.declared.token.WordMatch.{WordMatch}
+use Rattle.scan.specs.declared.token.WordMatch.the-variants.{Matched, Mismatch}
 use Rattle.scan.specs.declared.number.Numeral.{Numeral}
+use Rattle.scan.specs.declared.number.Numeral.the-variants.{Integer, NoInteger}
 use Rattle.chars.specs.Contract.{CharsMeets, CharsPromise}
 use Rattle.chars.specs.declared.Decoded.{Decoded}
+use Rattle.chars.specs.declared.Decoded.the-variants.{Chars, NoChars}
 use Rattle.syntax.specs.declared.Separator.{Separator}
 use Rattle.syntax.specs.declared.Start.{Start}
 use Rattle.syntax.specs.declared.Start.the-variants.{NoValue, TooMuch, Literal, Minus, Digit, Quote, Bracket, Brace}
@@ -31,11 +36,13 @@ use Rattle.syntax.specs.Laws.Layout.{length-row}
 use Rattle.syntax.specs.Read.{Parsed, ok, bad, Parser, then, _>>=_, give, fail, if, eat, literal, int, chars, clear, quoted, name, value, items, members, onStart}
 use Rattle.json.specs.declared.list.After.{After}
 use Rattle.json.specs.declared.list.After.the-variants.{Done, More}
+use Rattle.json.specs.declared.step.Cursor.{Cursor}
 use Rattle.json.specs.declared.step.Step.{Step}
+use Rattle.json.specs.declared.step.Step.the-variants.{Reached, Failed}
 use Rattle.json.specs.declared.row.Label.{Label}
-use Rattle.json.specs.Inner.{rowsPart, labelOf, valueForm, itemsForm, membersForm, Reads, step, Emptied, Filled, kindOf, stringFrom, arrayFrom, objectFrom, ValueRead, RowRead, ItemsRead, MembersRead, Ended, Continued, FollowMeets, Followed}
+use Rattle.json.specs.Inner.{rowsPart, labelOf, valueForm, itemsForm, membersForm, cursor, Reads, Emptied, Filled, kindOf, stringFrom, arrayFrom, objectFrom, ValueRead, RowRead, ItemsRead, MembersRead, Ended, Continued, FollowMeets, Followed}
 use Rattle.json.proofs.Rows.{rows-sets, entry-sets}
-use Rattle.json.proofs.Form.{Gone, gone, moved, reads-ok, reads-bad, fuelled, On, through, contained}
+use Rattle.json.proofs.Form.{gone-then, reads-ok, reads-bad, fuelled, On, through, contained}
 
 -- ---- a value of one row
 -- What a parser gave has one row, bs, and brings the strings area from A to A′.
@@ -47,12 +54,12 @@ record Single (g : Parsed Value) (s : Bytes) (q row used : ℕ) (name : layout.L
   text : to ≡ used + length (stringsOf v)
   area : A′ ≡ sets A used (stringsOf v)
 
-one-row : {m : ℕ → Parser Value} {k : ℕ} {s : Bytes} {at row used to p : ℕ} {name : layout.Label} {T A T′ A′ : Bytes} (q : ℕ) (bs : Bytes)
-    → p ≡ q → at < q → q ≤ length s → used ≤ to → to ≤ q → row < maxValues → length bs ≡ rowBytes → T′ ≡ sets T (row * rowBytes) bs
+one-row : {m : ℕ → Parser Value} {k : ℕ} {s : Bytes} {at row used to : ℕ} {name : layout.Label} {T A T′ A′ : Bytes} (q : ℕ) (bs : Bytes)
+    → at < q → q ≤ length s → used ≤ to → to ≤ q → row < maxValues → length bs ≡ rowBytes → T′ ≡ sets T (row * rowBytes) bs
     → ((f : ℕ) → 2 * (length s - at) + k < f → Single (m f (drop at s) at) s q row used name bs A to A′)
-    → Reads (valueForm name) m k (row + 1) s at row used T A (step 0 p (row + 1) to 0) T′ A′
+    → Reads (valueForm name) m k (row + 1) s at row used T A (Reached (cursor q (row + 1) to 0)) T′ A′
 unfolding rowBytes
-one-row {s = s} {row = row} {T = T} q bs y on inside more text few l t g =
+one-row {s = s} {row = row} {T = T} q bs on inside more text few l t g =
     let i : row * rowBytes + length bs ≤ maxValues * rowBytes = omega arith in
     reads-ok
     (record {
@@ -67,9 +74,8 @@ one-row {s = s} {row = row} {T = T} q bs y on inside more text few l t g =
     })
     (λ f e. let o = g f e in record {
       x = o .v;
-      is = o .is ∙ (λ i. ok (o .v) (drop (sym y i) s) (sym y i));
+      is = o .is;
       wrote = record {
-        number = refl;
         place = refl;
         left = refl;
         rows = ap (λ (n : ℕ). row + n) (sym (o .one));
@@ -81,39 +87,41 @@ one-row {s = s} {row = row} {T = T} q bs y on inside more text few l t g =
     })
 
 -- ---- scalars
--- What the contract of `chars` says, by its fault.
-pub record Text (g : Parsed Bytes) (s : Bytes) (at used : ℕ) (A : Bytes) (r : Decoded) (A′ : Bytes) : Type 0 where
+-- What the contract of `chars` says, by its answer.
+pub record Text (g : Parsed Bytes) (s : Bytes) (at used : ℕ) (A : Bytes) (q to : ℕ) (A′ : Bytes) : Type 0 where
   pub bs : Bytes
-  pub is : g ≡ ok bs (drop (r .at) s) (r .at)
-  pub on : at + length bs ≤ r .at
-  pub inside : r .at < length s
-  pub text : r .used ≡ used + length bs
+  pub is : g ≡ ok bs (drop q s) q
+  pub on : at + length bs ≤ q
+  pub inside : q < length s
+  pub text : to ≡ used + length bs
   pub area : A′ ≡ sets A used bs
 
 module _ (s : Bytes) (at used : ℕ) (A : Bytes) (r : Decoded) (A′ : Bytes) where
-  chars-bad : (g : Parsed Bytes) → CharsMeets s at used A g r A′ → (r .fault ≡ 0 → ⊥) → Gone g (r .fault) (r .at)
-  chars-bad (ok v u q) m z = absurd (z (m .number))
-  chars-bad (bad k p) m z = record { k = k; number = m .number; is = ap (bad k) (sym (m .place)) }
+  chars-bad : (x : Fault) (g : Parsed Bytes) → CharsMeets s at used A g r A′ → r ≡ NoChars x → Gone g x
+  chars-bad x (ok v u q) m e = clash (cc (m .answer))
+  chars-bad x (bad k p) m e = record { k = k; p = p; is = refl; fault = cc }
 
-  chars-ok : (g : Parsed Bytes) → CharsMeets s at used A g r A′ → r .fault ≡ 0 → Text g s at used A r A′
-  chars-ok (ok bs u q) m z = record {
-    bs = bs;
-    is = ap (λ (t : Bytes). ok bs t q) (m .left) ∙ (λ i. ok bs (drop (sym (m .place) i) s) (sym (m .place) i));
-    on = omega arith;
-    inside = omega arith;
-    text = m .text;
-    area = m .area;
-  }
-  chars-ok (bad k p) m z = absurd (some-fault k (sym (m .number) ∙ z))
+  chars-ok : (end to : ℕ) (g : Parsed Bytes) → CharsMeets s at used A g r A′ → r ≡ Chars end to → Text g s at used A end to A′
+  chars-ok end to (ok bs u q) m e =
+      let i : q ≡ end = cc (m .answer) in
+      record {
+        bs = bs;
+        is = ap (λ (t : Bytes). ok bs t q) (m .left) ∙ (λ k. ok bs (drop (i k) s) (i k));
+        on = omega (arith, m .on);
+        inside = omega (arith, m .inside);
+        text = cc (m .answer);
+        area = m .area;
+      }
+  chars-ok end to (bad k p) m e = clash cc
 
 module _ {s : Bytes} {at used : ℕ} {A : Bytes} {r : Decoded} {A′ : Bytes} (h : CharsPromise s at used A r A′) where
-  pub chars-gone : (r .fault ≡ 0 → ⊥) → (f : ℕ) → length s < at + f → Gone (chars f clear (drop at s) at) (r .fault) (r .at)
-  chars-gone z f l = chars-bad s at used A r A′ (chars f clear (drop at s) at) (h .run f l) z
+  pub chars-gone : {x : Fault} → r ≡ NoChars x → (f : ℕ) → length s < at + f → Gone (chars f clear (drop at s) at) x
+  chars-gone {x} z f l = chars-bad s at used A r A′ x (chars f clear (drop at s) at) (h .run f l) z
 
-  pub chars-got : r .fault ≡ 0 → (f : ℕ) → length s < at + f → Text (chars f clear (drop at s) at) s at used A r A′
-  chars-got z f l = chars-ok s at used A r A′ (chars f clear (drop at s) at) (h .run f l) z
+  pub chars-got : {end to : ℕ} → r ≡ Chars end to → (f : ℕ) → length s < at + f → Text (chars f clear (drop at s) at) s at used A end to A′
+  chars-got {end} {to} z f l = chars-ok s at used A r A′ end to (chars f clear (drop at s) at) (h .run f l) z
 
-  pub string-end : r .fault ≡ 0 → (r .at < length s) × (used ≤ r .used)
+  pub string-end : {end to : ℕ} → r ≡ Chars end to → (end < length s) × (used ≤ to)
   string-end z = let o = chars-got z (suc (length s)) (omega arith) in (o .inside, omega (arith, o .text))
 
 -- ---- a law for each return of `read_literal`, `read_number` and `read_string`
@@ -141,87 +149,80 @@ word-one FalseWord = refl
 word-one NullWord = refl
 
 module _ {name : Label} {s : Bytes} {at row used : ℕ} {T : Bytes} where
-  module _ (w : Word) (l : Matched) (m : LiteralMeets s at w (literal w (drop at s) at) l) where
-    pub law-literal-bad : {r : Step} {T′ : Bytes} → (l .fault ≡ 0 → ⊥) → r .fault ≡ l .fault → r .at ≡ l .at → RowRead name (literal w) s at row used T r T′
-    law-literal-bad z e q = record {
-      reads = λ A. reads-bad (λ y. z (sym e ∙ y))
-          (λ f h. moved e q (gone (literal-wrong s at w (literal w (drop at s) at) l m z)));
-    }
+  module _ (w : Word) {l : WordMatch} (m : LiteralMeets s at w (literal w (drop at s) at) l) where
+    pub law-literal-bad : {x : Fault} {T′ : Bytes} → l ≡ Mismatch x → RowRead name (literal w) s at row used T (Failed x) T′
+    law-literal-bad {x} z = record { reads = λ A. reads-bad (λ f h. literal-wrong s at w (literal w (drop at s) at) x m z) }
 
-    pub law-literal : {T′ : Bytes} {kind : ℕ} → l .fault ≡ 0 → used ≤ at → row < maxValues → kind ≡ kindOf w → T′ ≡ sets T (row * rowBytes) (layout.row kind (labelOf name) 0 0)
-        → RowRead name (literal w) s at row used T (step 0 (l .at) (row + 1) used 0) T′
-    law-literal {kind = kind} z u few k t =
-        let o = literal-whole s at w (literal w (drop at s) at) l m z in
-        let p = o .promise in
-        record {
-          reads = λ A. one-row (o .end) _ (p .place) (p .on) (p .inside) (omega arith) (omega (arith, p .on)) few (length-row kind (labelOf name) 0 0) t
+    pub law-literal : {end : ℕ} {c : Cursor} {T′ : Bytes} {kind : ℕ} → l ≡ Matched end → used ≤ at → row < maxValues → kind ≡ kindOf w
+        → T′ ≡ sets T (row * rowBytes) (layout.row kind (labelOf name) 0 0) → c ≡ cursor end (row + 1) used 0 → RowRead name (literal w) s at row used T (Reached c) T′
+    law-literal {end} {T′ = T′} {kind} z u few k t e =
+        let o = literal-whole s at w (literal w (drop at s) at) end m z in
+        subst⁻¹ (λ (c : Cursor). RowRead name (literal w) s at row used T (Reached c) T′) e
+        (record {
+          reads = λ A. one-row end _ (o .on) (o .inside) (omega arith) (omega (arith, o .on)) few (length-row kind (labelOf name) 0 0) t
               (λ f h. record {
                 v = wordValue w;
-                is = o .is ∙ (λ i. ok (p .is i) (p .left i) (o .end));
+                is = o .is;
                 one = word-one w;
                 rows = word-row w row used (labelOf name) ∙ ap (λ (n : ℕ). layout.row n (labelOf name) 0 0) (sym k);
                 text = rw word-strings (omega arith);
                 area = rw word-strings;
               });
-        }
+        })
 
-  module _ (negative : Bool) (n : Numeral) (m : NumberMeets s at (int negative (drop at s) at) n) where
-    pub law-number-bad : {r : Step} {T′ : Bytes} → (n .fault ≡ 0 → ⊥) → r .fault ≡ n .fault → r .at ≡ n .at → RowRead name (int negative) s at row used T r T′
-    law-number-bad z e q = record {
-      reads = λ A. reads-bad (λ y. z (sym e ∙ y))
-          (λ f h. moved e q (gone (number-wrong s at (int negative (drop at s) at) n m z)));
-    }
+  module _ (negative : Bool) {n : Numeral} (m : NumberMeets s at (int negative (drop at s) at) n) where
+    pub law-number-bad : {x : Fault} {T′ : Bytes} → n ≡ NoInteger x → RowRead name (int negative) s at row used T (Failed x) T′
+    law-number-bad {x} z = record { reads = λ A. reads-bad (λ f h. number-wrong s at (int negative (drop at s) at) x m z) }
 
-    pub law-number : {T′ : Bytes} → n .fault ≡ 0 → used ≤ at → row < maxValues
-        → T′ ≡ sets T (row * rowBytes) (layout.row 4 (labelOf name) (n .biased % 4294967296) (n .biased / 4294967296))
-        → RowRead name (int negative) s at row used T (step 0 (n .at) (row + 1) used 0) T′
+    pub law-number : {end b : ℕ} {c : Cursor} {T′ : Bytes} → n ≡ Integer end b → used ≤ at → row < maxValues
+        → T′ ≡ sets T (row * rowBytes) (layout.row 4 (labelOf name) (b % 4294967296) (b / 4294967296))
+        → c ≡ cursor end (row + 1) used 0 → RowRead name (int negative) s at row used T (Reached c) T′
     unfolding valueCount rowsOf scalarRow stringsOf
-    law-number z u few t =
-        let o = number-whole s at (int negative (drop at s) at) n m z in
-        let p = o .promise in
-        record {
-          reads = λ A. one-row (o .end) _ (p .place) (p .on) (p .inside) (omega arith) (omega (arith, p .on)) few
-              (length-row 4 (labelOf name) (n .biased % 4294967296) (n .biased / 4294967296)) t
+    law-number {end} {b} {T′ = T′} z u few t e =
+        let o = number-whole s at (int negative (drop at s) at) end b m z in
+        subst⁻¹ (λ (c : Cursor). RowRead name (int negative) s at row used T (Reached c) T′) e
+        (record {
+          reads = λ A. one-row end _ (o .on) (o .inside) (omega arith) (omega (arith, o .on)) few
+              (length-row 4 (labelOf name) (b % 4294967296) (b / 4294967296)) t
               (λ f h. record {
-                v = scalar (integer (p .z));
-                is = o .is ∙ (λ i. ok (p .is i) (p .left i) (o .end));
+                v = scalar (integer (o .z));
+                is = o .is;
                 one = refl;
-                rows = ap (λ (b : ℕ). layout.row 4 (labelOf name) (b % 4294967296) (b / 4294967296)) (sym (p .content));
+                rows = ap (λ (b : ℕ). layout.row 4 (labelOf name) (b % 4294967296) (b / 4294967296)) (sym (o .content));
                 text = omega arith;
                 area = refl;
               });
-        }
+        })
 
-  module _ {A A′ : Bytes} {d : Decoded} (c : CharsPromise s at used A d A′) where
-    pub law-string-bad : {r : Step} {T′ : Bytes} → (d .fault ≡ 0 → ⊥) → r .fault ≡ d .fault → r .at ≡ d .at
-        → ValueRead name stringFrom 0 s at row used T A r T′ A′
+  module _ {A A′ : Bytes} {d : Decoded} (h : CharsPromise s at used A d A′) where
+    pub law-string-bad : {x : Fault} {T′ : Bytes} → d ≡ NoChars x → ValueRead name stringFrom 0 s at row used T A (Failed x) T′ A′
     unfolding _>>=_ then
-    law-string-bad z e q = record {
-      reads = reads-bad (λ y. z (sym e ∙ y))
-          (λ f h. let g = chars-gone c z f (omega arith) in
-          record { k = g .k; number = e ∙ g .number; is = ap (λ (p : Parsed Bytes). then p (λ bs. eat (give (scalar (string bs))))) (g .is) ∙ ap (bad (g .k)) (sym q) });
+    law-string-bad z = record {
+      reads = reads-bad (λ f l. gone-then (λ _ _ e. ap (λ (p : Parsed Bytes). then p (λ bs. eat (give (scalar (string bs))))) e) (chars-gone h z f (omega arith)));
     }
 
-    pub law-string : {T′ : Bytes} → d .fault ≡ 0 → used ≤ at → row < maxValues → T′ ≡ sets T (row * rowBytes) (layout.row 5 (labelOf name) used (d .used - used))
-        → ValueRead name stringFrom 0 s at row used T A (step 0 (d .at + 1) (row + 1) (d .used) 0) T′ A′
+    pub law-string : {end to : ℕ} {c : Cursor} {T′ : Bytes} → d ≡ Chars end to → used ≤ at → row < maxValues
+        → T′ ≡ sets T (row * rowBytes) (layout.row 5 (labelOf name) used (to - used))
+        → c ≡ cursor (end + 1) (row + 1) to 0 → ValueRead name stringFrom 0 s at row used T A (Reached c) T′ A′
     unfolding _>>=_ then give valueCount rowsOf scalarRow stringsOf
-    law-string z u few t =
-        let o = chars-got c z (suc (length s)) (omega arith) in
-        record {
-          reads = one-row (d .at + 1) _ refl (omega (arith, o .on)) (omega (arith, o .inside)) (omega (arith, o .text)) (omega (arith, o .text, o .on)) few
-              (length-row 5 (labelOf name) used (d .used - used)) t
-              (λ f h.
-              let p = chars-got c z f (omega arith) in
-              let n : d .used - used ≡ length (p .bs) = omega (arith, p .text) in
+    law-string {end} {to} {T′ = T′} z u few t e =
+        let o = chars-got h z (suc (length s)) (omega arith) in
+        subst⁻¹ (λ (c : Cursor). ValueRead name stringFrom 0 s at row used T A (Reached c) T′ A′) e
+        (record {
+          reads = one-row (end + 1) _ (omega (arith, o .on)) (omega (arith, o .inside)) (omega (arith, o .text)) (omega (arith, o .text, o .on)) few
+              (length-row 5 (labelOf name) used (to - used)) t
+              (λ f l.
+              let p = chars-got h z f (omega arith) in
+              let n : to - used ≡ length (p .bs) = omega (arith, p .text) in
               record {
                 v = scalar (string (p .bs));
-                is = ap (λ (p : Parsed Bytes). then p (λ bs. eat (give (scalar (string bs))))) (p .is) ∙ eat-next (give (scalar (string (p .bs)))) s (d .at) (p .inside);
+                is = ap (λ (p : Parsed Bytes). then p (λ bs. eat (give (scalar (string bs))))) (p .is) ∙ eat-next (give (scalar (string (p .bs)))) s end (p .inside);
                 one = refl;
                 rows = ap (λ (k : ℕ). layout.row 5 (labelOf name) used k) (sym n);
                 text = p .text;
                 area = p .area;
               });
-        }
+        })
 
 -- ---- a law for each return of `value`
 pub started : {s : Bytes} {row depth at : ℕ} {r g : Start} → Started s row depth at r → r ≡ g → Started s row depth at g
@@ -230,11 +231,11 @@ started {s} {row} {depth} {at} h e = subst (λ (x : Start). Started s row depth 
 pub separated : {s : Bytes} {close at : ℕ} {r g : Separator} → Separated s close at r → r ≡ g → Separated s close at g
 separated {s} {close} {at} h e = subst (λ (x : Separator). Separated s close at x) e h
 
-module _ {t : Bytes} {s : Step} {count close : ℕ} {o : After} {r : Step} (h : Followed t s count close o) where
-  pub ended : o ≡ Done r → Ended t s count close r
+module _ {t : Bytes} {s : Step} {count close : ℕ} {o : After} (h : Followed t s count close o) where
+  pub ended : {r : Step} → o ≡ Done r → Ended t s count close r
   ended e = subst (FollowMeets t s count close) e (h .meets)
 
-  pub continued : o ≡ More r → Continued t s count close r
+  pub continued : {r : Cursor} → o ≡ More r → Continued t s count close r
   continued e = subst (FollowMeets t s count close) e (h .meets)
 
 module _ {name : Label} {n : ℕ → Parser Value} {s : Bytes} {at row used : ℕ} {T A : Bytes} where
@@ -247,22 +248,24 @@ module _ {name : Label} {n : ℕ → Parser Value} {s : Bytes} {at row used : �
     reads = through l h (λ f e. fuelled (λ (f : ℕ). On (n f (drop at s) at) m (2 * (length s - at′) + k) s at′) (2 * (length s - at)) g f (omega arith));
   }
 
-  refuses : {r : Step} {T′ A′ : Bytes} (k : ReadFault) → ((f : ℕ) → n (suc f) (drop at s) at ≡ bad k at) → r .fault ≡ readNumber k → r .at ≡ at
+  refuses : {r : Step} {T′ A′ : Bytes} (k : ReadFault) → ((f : ℕ) → n (suc f) (drop at s) at ≡ bad k at) → r ≡ Failed (faultOf k at)
       → ValueRead name n 0 s at row used T A r T′ A′
-  refuses {r} k g e q = record {
-    reads = reads-bad (λ z. some-fault k (sym e ∙ z))
-        (λ f h. fuelled (λ (f : ℕ). Gone (n f (drop at s) at) (r .fault) (r .at)) (2 * (length s - at))
-        (λ f h. record { k = k; number = e; is = g f ∙ ap (bad k) (sym q) }) f (omega arith));
-  }
+  refuses {T′ = T′} {A′} k g e =
+      subst⁻¹ (λ (x : Step). ValueRead name n 0 s at row used T A x T′ A′) e
+      (record {
+        reads = reads-bad
+            (λ f h. fuelled (λ (f : ℕ). Gone (n f (drop at s) at) (faultOf k at)) (2 * (length s - at))
+            (λ f h. record { k = k; p = at; is = g f; fault = refl }) f (omega arith));
+      })
 
 module _ {name : Label} {s : Bytes} {at row used depth : ℕ} {T A : Bytes} where
-  pub law-none : {r : Step} {T′ A′ : Bytes} → Started s row depth at NoValue → r .fault ≡ 2 → r .at ≡ at → ValueRead name (λ f. value f row depth) 0 s at row used T A r T′ A′
+  pub law-none : {r : Step} {T′ A′ : Bytes} → Started s row depth at NoValue → r ≡ Failed (faultOf notJson at) → ValueRead name (λ f. value f row depth) 0 s at row used T A r T′ A′
   unfolding onStart fail
-  law-none st e q = refuses notJson (λ f. value-by f st) e q
+  law-none st e = refuses notJson (λ f. value-by f st) e
 
-  pub law-much : {r : Step} {T′ A′ : Bytes} → Started s row depth at TooMuch → r .fault ≡ 5 → r .at ≡ at → ValueRead name (λ f. value f row depth) 0 s at row used T A r T′ A′
+  pub law-much : {r : Step} {T′ A′ : Bytes} → Started s row depth at TooMuch → r ≡ Failed (faultOf tooLarge at) → ValueRead name (λ f. value f row depth) 0 s at row used T A r T′ A′
   unfolding onStart fail
-  law-much st e q = refuses tooLarge (λ f. value-by f st) e q
+  law-much st e = refuses tooLarge (λ f. value-by f st) e
 
   module _ {r : Step} {T′ : Bytes} where
     pub law-word : {w : Word} → Started s row depth at (Literal w) → RowRead name (literal w) s at row used T r T′ → ValueRead name (λ f. value f row depth) 0 s at row used T A r T′ A
@@ -341,7 +344,7 @@ module _ {name : Label} {s : Bytes} {at first row used : ℕ} {T A : Bytes} (sk 
   emptied {m} {kind} {T′ = T′} v l u few rows strings one g h =
       subst⁻¹ (λ (x : Step). ValueRead name m 1 s at row used T A x T′ A) (h .is)
       (record {
-        reads = one-row (first + 1) _ refl (omega (arith, sk .on)) (omega arith) (omega arith) (omega (arith, sk .on)) few (length-row kind (labelOf name) 0 (row + 1)) (h .table)
+        reads = one-row (first + 1) _ (omega (arith, sk .on)) (omega arith) (omega arith) (omega (arith, sk .on)) few (length-row kind (labelOf name) 0 (row + 1)) (h .table)
             (λ f e. record { v = v; is = g f; one = one; rows = rows; text = rw strings (omega arith); area = rw strings });
       })
 
@@ -361,12 +364,12 @@ module _ (depth : ℕ) {name : Label} {s : Bytes} {at first row used : ℕ} {T A
         → ValueRead name (λ f. arrayFrom f row depth) 1 s at row used T A r₂ T₂ A₁
     unfolding rowsOf stringsOf valueCount
     law-array st e few it h = record {
-      reads = contained itemsForm array 6 name (λ x at used. refl) (λ x. refl) (λ x. refl) (it .reads) (sk .on) (λ f l. array-some row depth sk st e f) few h;
+      reads = contained itemsForm array 6 name (λ x at used. refl) (λ x. refl) (λ x. refl) (sk .on) (λ f l. array-some row depth sk st e f) (it .reads) few h;
     }
 
     pub law-object : Stands s first 125 b → b ≡ false → row < maxValues → MembersRead [] s first (row + 1) used (depth + 1) T A r T₁ A₁ → Filled T₁ row 7 name r r₂ T₂
         → ValueRead name (λ f. objectFrom f row depth) 1 s at row used T A r₂ T₂ A₁
     unfolding rowsOf stringsOf valueCount
     law-object st e few it h = record {
-      reads = contained membersForm object 7 name (λ x at used. refl) (λ x. refl) (λ x. refl) (it .reads) (sk .on) (λ f l. object-some row depth sk st e f) few h;
+      reads = contained membersForm object 7 name (λ x at used. refl) (λ x. refl) (λ x. refl) (sk .on) (λ f l. object-some row depth sk st e f) (it .reads) few h;
     }

@@ -7,12 +7,13 @@ use lib.ListN.{length, take, drop}
 use lib.Seq.{sets}
 use Rattle.model.specs.Bytes.{Bytes}
 use Rattle.model.specs.Limits.{maxTextBytes, maxValues}
-use Rattle.model.specs.Refusal.{number}
+use Rattle.model.specs.Refusal.{notJson}
 use Rattle.model.specs.Size.{valueCount, itemsCount, membersCount}
 use Rattle.model.specs.Value.{Value, scalar, array, object, string, Values, no-items, Members, no-members, memberCount}
 use Rattle.area.specs.Words.{wordAt}
 use Rattle.names.specs.Index.{Entry, Indexed, Between, namesOf, part, entry}
-use Rattle.scan.specs.Contract.{Failed, Skipped, Separated}
+use Rattle.scan.specs.declared.Fault.{Fault}
+use Rattle.scan.specs.Contract.{faultOf, Skipped, Separated}
 use Rattle.syntax.specs.Layout.{rowBytes, tableBytes, unnamed, rowsOf, itemRows, memberRows, stringsOf, itemStrings, memberStrings, itemCount}
 use Rattle.syntax.specs.Layout as layout
 use Rattle.syntax.specs.Read.{Parsed, ok, bad, Parser, then, _>>=_, give, if, peek, eat, white, chars, clear, name, items, members, Read, done, refuse, read}
@@ -21,8 +22,14 @@ use Rattle.syntax.specs.declared.Word.the-variants.{TrueWord, FalseWord, NullWo
 use Rattle.syntax.specs.declared.Separator.the-variants.{Comma, Close, Neither}
 use Rattle.json.specs.declared.list.After.{After}
 use Rattle.json.specs.declared.list.After.the-variants.{Done, More}
+use Rattle.json.specs.declared.step.Cursor.{Cursor}
 use Rattle.json.specs.declared.step.Step.{Step}
+use Rattle.json.specs.declared.step.Step.the-variants.{Reached, Failed}
+use Rattle.json.specs.declared.name.NameStep.{NameStep}
+use Rattle.json.specs.declared.name.NameStep.the-variants.{Named, NoName}
 use Rattle.json.specs.declared.row.Label.{Label}
+use Rattle.json.specs.declared.TextStep.{TextStep}
+use Rattle.json.specs.declared.TextStep.the-variants.{Whole, NoText}
 
 -- ---- where things lie
 -- The table's rows, in front of the index of names.
@@ -74,35 +81,44 @@ pub record ScalarRoom (s T : Bytes) (at row used size : ℕ) : Type 0 where
   pub rows : row < maxValues
   pub label : size ≤ maxTextBytes
 
--- A reading that went well, of x, up to the offset q.
-pub record Wrote {X : Type 0} (F : Form X) (s : Bytes) (row used : ℕ) (T A : Bytes) (x : X) (u : Bytes) (q : ℕ) (r : Step) (T′ A′ : Bytes) : Type 0 where
-  pub number : r .fault ≡ 0
-  pub place : r .at ≡ q
+abbrev pub cursor : ℕ → ℕ → ℕ → ℕ → Cursor
+cursor at row used count = record { at = at; row = row; used = used; count = count }
+
+-- A reading that went well, of x, up to the offset q, and stands at c.
+pub record Wrote {X : Type 0} (F : Form X) (s : Bytes) (row used : ℕ) (T A : Bytes) (x : X) (u : Bytes) (q : ℕ) (c : Cursor) (T′ A′ : Bytes) : Type 0 where
+  pub place : c .at ≡ q
   pub left : u ≡ drop q s
-  pub rows : r .row ≡ row + F .count x
-  pub text : r .used ≡ used + length (F .strings x)
-  pub parts : r .count ≡ F .parts x
+  pub rows : c .row ≡ row + F .count x
+  pub text : c .used ≡ used + length (F .strings x)
+  pub parts : c .count ≡ F .parts x
   pub table : rowsPart T′ ≡ sets (rowsPart T) (row * rowBytes) (F .rows x row used)
   pub area : A′ ≡ sets A used (F .strings x)
 
+-- The answer, by what the parser gives. After a fault the areas are free: the entry clears them.
 abbrev pub Meets : {X : Type 0} → Form X → Bytes → ℕ → ℕ → Bytes → Bytes → Parsed X → Step → Bytes → Bytes → Type 0
-Meets F s row used T A (ok x u q) r T′ A′ = Wrote F s row used T A x u q r T′ A′
-Meets F s row used T A (bad k p) r T′ A′ = Failed k p (r .fault) (r .at)
+Meets F s row used T A (ok x u q) (Reached c) T′ A′ = Wrote F s row used T A x u q c T′ A′
+Meets F s row used T A (ok x u q) (Failed f) T′ A′ = ⊥
+Meets F s row used T A (bad k p) (Reached c) T′ A′ = ⊥
+Meets F s row used T A (bad k p) (Failed f) T′ A′ = f ≡ faultOf k p
 
 -- What a caller needs to go on, whatever was read. The index entries of the rows before `bound` stay.
-pub record Safe (bound : ℕ) (s : Bytes) (at row used : ℕ) (T : Bytes) (r : Step) (T′ : Bytes) : Type 0 where
-  pub on : at < r .at
-  pub inside : r .at ≤ length s
-  pub text : r .used ≤ r .at
-  pub more : used ≤ r .used
-  pub rows : r .row ≤ maxValues
-  pub less : row < r .row
-  pub count : row + r .count ≤ r .row
+pub record Safe (bound : ℕ) (s : Bytes) (at row used : ℕ) (T : Bytes) (c : Cursor) (T′ : Bytes) : Type 0 where
+  pub on : at < c .at
+  pub inside : c .at ≤ length s
+  pub text : c .used ≤ c .at
+  pub more : used ≤ c .used
+  pub rows : c .row ≤ maxValues
+  pub less : row < c .row
+  pub count : row + c .count ≤ c .row
   pub kept : (e : ℕ) → 1 ≤ e → e < bound → entry T′ e ≡ entry T e
+
+abbrev pub StepSafe : ℕ → Bytes → ℕ → ℕ → ℕ → Bytes → Step → Bytes → Type 0
+StepSafe bound s at row used T (Reached c) T′ = Safe bound s at row used T c T′
+StepSafe bound s at row used T (Failed f) T′ = Unit {0}
 
 -- What is read at `at` is what the parser m gives, with steps enough: more than two for each byte that is left, and `more`.
 pub record Reads {X : Type 0} (F : Form X) (m : ℕ → Parser X) (more bound : ℕ) (s : Bytes) (at row used : ℕ) (T A : Bytes) (r : Step) (T′ A′ : Bytes) : Type 0 where
-  pub safe : r .fault ≡ 0 → Safe bound s at row used T r T′
+  pub safe : StepSafe bound s at row used T r T′
   pub run : (f : ℕ) → 2 * (length s - at) + more < f → Meets F s row used T A (m f (drop at s) at) r T′ A′
 
 -- ---- rows
@@ -116,19 +132,23 @@ pub record RowRoom (T : Bytes) (row kind size : ℕ) : Type 0 where
 pub record Stored (T : Bytes) (row : ℕ) (bs : Bytes) (T′ : Bytes) : Type 0 where
   pub is : T′ ≡ sets T (row * rowBytes) bs
 
-abbrev pub step : ℕ → ℕ → ℕ → ℕ → ℕ → Step
-step fault at row used count = record { fault = fault; at = at; row = row; used = used; count = count }
-
 -- The row of an empty array or object.
 pub record Emptied (T : Bytes) (row kind : ℕ) (name : Label) (at used : ℕ) (r : Step) (T′ : Bytes) : Type 0 where
-  pub is : r ≡ step 0 (at + 1) (row + 1) used 0
+  pub is : r ≡ Reached (cursor (at + 1) (row + 1) used 0)
   pub table : T′ ≡ sets T (row * rowBytes) (layout.row kind (labelOf name) 0 (row + 1))
 
--- The row of an array or object whose items or members are read, s being what came of them.
+-- The row of an array or object whose items or members are read, up to c.
+pub record Around (T : Bytes) (row kind : ℕ) (name : Label) (c : Cursor) (r : Step) (T′ : Bytes) : Type 0 where
+  pub is : r ≡ Reached (cursor (c .at) (c .row) (c .used) 0)
+  pub table : T′ ≡ sets T (row * rowBytes) (layout.row kind (labelOf name) (c .count) (c .row))
+
+-- By what came of the items or members.
+abbrev pub FilledMeets : Bytes → ℕ → ℕ → Label → Step → Step → Bytes → Type 0
+FilledMeets T row kind name (Reached c) r T′ = Around T row kind name c r T′
+FilledMeets T row kind name (Failed f) r T′ = r ≡ Failed f
+
 pub record Filled (T : Bytes) (row kind : ℕ) (name : Label) (s r : Step) (T′ : Bytes) : Type 0 where
-  pub failed : (s .fault ≡ 0 → ⊥) → r ≡ s
-  pub is : s .fault ≡ 0 → r ≡ step 0 (s .at) (s .row) (s .used) 0
-  pub table : s .fault ≡ 0 → T′ ≡ sets T (row * rowBytes) (layout.row kind (labelOf name) (s .count) (s .row))
+  pub meets : FilledMeets T row kind name s r T′
 
 -- ---- values
 abbrev pub kindOf : Word → ℕ
@@ -172,20 +192,22 @@ pub record FollowRoom (s : Bytes) (count : ℕ) : Type 0 where
 
 -- How a list ends whose last part ended with s: that part failed, or neither a comma nor the closing byte follows, or the closing byte.
 pub data Ended (t : Bytes) (s : Step) (count close : ℕ) (r : Step) : Type 0 where
-  failed : (s .fault ≡ 0 → ⊥) → r ≡ s → Ended t s count close r
-  stopped : {end : ℕ} → s .fault ≡ 0 → Skipped t (s .at) end → Separated t close end Neither → r .fault ≡ 2 → r .at ≡ end → Ended t s count close r
-  closed : {end : ℕ} → s .fault ≡ 0 → Skipped t (s .at) end → Separated t close end Close → r ≡ step 0 (end + 1) (s .row) (s .used) (count + 1)
+  failed : {f : Fault} → s ≡ Failed f → r ≡ Failed f → Ended t s count close r
+  stopped : {c : Cursor} {end : ℕ} → s ≡ Reached c → Skipped t (c .at) end → Separated t close end Neither → r ≡ Failed (faultOf notJson end)
       → Ended t s count close r
+  closed : {c : Cursor} {end : ℕ} → s ≡ Reached c → Skipped t (c .at) end → Separated t close end Close
+      → r ≡ Reached (cursor (end + 1) (c .row) (c .used) (count + 1)) → Ended t s count close r
 
 -- A comma follows, and then a part.
-pub record Continued (t : Bytes) (s : Step) (count close : ℕ) (r : Step) : Type 0 where
+pub record Continued (t : Bytes) (s : Step) (count close : ℕ) (r : Cursor) : Type 0 where
+  pub here : Cursor
   pub end : ℕ
-  pub good : s .fault ≡ 0
-  pub skipped : Skipped t (s .at) end
+  pub good : s ≡ Reached here
+  pub skipped : Skipped t (here .at) end
   pub comma : Separated t close end Comma
   pub next : ℕ
   pub white : Skipped t (end + 1) next
-  pub is : r ≡ step 0 next (s .row) (s .used) (count + 1)
+  pub is : r ≡ cursor next (here .row) (here .used) (count + 1)
 
 abbrev pub FollowMeets : Bytes → Step → ℕ → ℕ → After → Type 0
 FollowMeets t s count close (Done r) = Ended t s count close r
@@ -211,56 +233,65 @@ pub record Has (T A : Bytes) (first row to : ℕ) (es : List Entry) : Type 0 whe
   pub none : row ≡ first → es ≡ []
   pub some : es ≡ [] → row ≡ first
 
--- The member in a row, whose name lies in the strings area from `start` up to `end`.
+-- The member in a row, whose name is the `size` bytes of the strings area from `start` on.
 abbrev pub named : Bytes → ℕ → ℕ → ℕ → Entry
-named A row start end = record { row = row; name = part A start (end - start) }
+named A row start size = record { row = row; name = part A start size }
 
 pub record NameRoom (s T A : Bytes) (at first row used : ℕ) : Type 0 where
   pub room : Room s T A at row used 0
   pub positive : 1 ≤ first
   pub order : first ≤ row
 
--- A name n, with its colon up to q and white space after that.
-pub record NameWrote (s : Bytes) (first row used : ℕ) (T A : Bytes) (es : List Entry) (n u : Bytes) (q : ℕ) (r : Step) (T′ A′ : Bytes) : Type 0 where
-  pub number : r .fault ≡ 0
-  pub skipped : Skipped s q (r .at)
+-- A name n, with its colon up to q and white space from there up to `on`.
+pub record NameWrote (s : Bytes) (first row used : ℕ) (T A : Bytes) (es : List Entry) (n u : Bytes) (q on : ℕ) (name : Label) (T′ A′ : Bytes) : Type 0 where
+  pub skipped : Skipped s q on
   pub left : u ≡ drop q s
-  pub text : r .used ≡ used + length n
+  pub start : name .start ≡ used
+  pub size : name .size ≡ length n
   pub area : A′ ≡ sets A used n
-  pub indexed : Indexed T′ first (es ++ (named A′ row used (r .used) ∷ []))
+  pub indexed : Indexed T′ first (es ++ (named A′ row used (name .size) ∷ []))
 
-abbrev pub NameMeets : Bytes → ℕ → ℕ → ℕ → Bytes → Bytes → List Entry → Parsed Bytes → Step → Bytes → Bytes → Type 0
-NameMeets s first row used T A es (ok n u q) r T′ A′ = NameWrote s first row used T A es n u q r T′ A′
-NameMeets s first row used T A es (bad k p) r T′ A′ = Failed k p (r .fault) (r .at)
+-- The answer, by what the parser gives.
+abbrev pub NameMeets : Bytes → ℕ → ℕ → ℕ → Bytes → Bytes → List Entry → Parsed Bytes → NameStep → Bytes → Bytes → Type 0
+NameMeets s first row used T A es (ok n u q) (Named on name) T′ A′ = NameWrote s first row used T A es n u q on name T′ A′
+NameMeets s first row used T A es (ok n u q) (NoName f) T′ A′ = ⊥
+NameMeets s first row used T A es (bad k p) (Named on name) T′ A′ = ⊥
+NameMeets s first row used T A es (bad k p) (NoName f) T′ A′ = f ≡ faultOf k p
 
 -- What a caller needs to go on, whatever was read.
-pub record NameSafe (s : Bytes) (at first used : ℕ) (T : Bytes) (r : Step) (T′ : Bytes) : Type 0 where
-  pub on : at < r .at
-  pub inside : r .at ≤ length s
-  pub text : r .used ≤ r .at
-  pub more : used ≤ r .used
+pub record NameSafe (s : Bytes) (at first used : ℕ) (T : Bytes) (on : ℕ) (name : Label) (T′ : Bytes) : Type 0 where
+  pub more : at < on
+  pub inside : on ≤ length s
+  pub start : name .start ≡ used
+  pub text : used + name .size ≤ on
   pub rows : rowsPart T′ ≡ rowsPart T
   pub kept : (e : ℕ) → 1 ≤ e → e < first → entry T′ e ≡ entry T e
 
-pub record NameRead (s : Bytes) (at first row used : ℕ) (T A : Bytes) (r : Step) (T′ A′ : Bytes) : Type 0 where
-  pub safe : r .fault ≡ 0 → NameSafe s at first used T r T′
+abbrev pub NameStepSafe : Bytes → ℕ → ℕ → ℕ → Bytes → NameStep → Bytes → Type 0
+NameStepSafe s at first used T (Named on name) T′ = NameSafe s at first used T on name T′
+NameStepSafe s at first used T (NoName f) T′ = Unit {0}
+
+pub record NameRead (s : Bytes) (at first row used : ℕ) (T A : Bytes) (r : NameStep) (T′ A′ : Bytes) : Type 0 where
+  pub safe : NameStepSafe s at first used T r T′
   pub run : (f : ℕ) → length s ≤ at + f → (es : List Entry) → Has T A first row used es
       → NameMeets s first row used T A es (name f (namesOf es) (drop at s) at) r T′ A′
 
 -- ---- the whole text
 -- A text that reads as v.
-pub record Whole (v : Value) (T A : Bytes) (r : Step) (T′ A′ : Bytes) : Type 0 where
-  pub number : r .fault ≡ 0
-  pub rows : r .row ≡ valueCount v
-  pub text : r .used ≡ length (stringsOf v)
+pub record TextWrote (v : Value) (T A : Bytes) (rows used : ℕ) (T′ A′ : Bytes) : Type 0 where
+  pub count : rows ≡ valueCount v
+  pub text : used ≡ length (stringsOf v)
   pub table : rowsPart T′ ≡ sets (rowsPart T) 0 (rowsOf v 0 0 unnamed)
   pub area : A′ ≡ sets A 0 (stringsOf v)
-  pub few : r .row ≤ maxValues
-  pub fits : r .used ≤ maxTextBytes
+  pub few : rows ≤ maxValues
+  pub fits : used ≤ maxTextBytes
 
-abbrev pub TextMeets : Read → Bytes → Bytes → Step → Bytes → Bytes → Type 0
-TextMeets (done v) T A r T′ A′ = Whole v T A r T′ A′
-TextMeets (refuse k p) T A r T′ A′ = Failed k p (r .fault) (r .at)
+-- The answer, by what the text reads as.
+abbrev pub TextMeets : Read → Bytes → Bytes → TextStep → Bytes → Bytes → Type 0
+TextMeets (done v) T A (Whole rows used) T′ A′ = TextWrote v T A rows used T′ A′
+TextMeets (done v) T A (NoText f) T′ A′ = ⊥
+TextMeets (refuse k p) T A (Whole rows used) T′ A′ = ⊥
+TextMeets (refuse k p) T A (NoText f) T′ A′ = f ≡ faultOf k p
 
-pub record TextRead (s T A : Bytes) (r : Step) (T′ A′ : Bytes) : Type 0 where
+pub record TextRead (s T A : Bytes) (r : TextStep) (T′ A′ : Bytes) : Type 0 where
   pub meets : TextMeets (read s) T A r T′ A′

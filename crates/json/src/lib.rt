@@ -1,10 +1,10 @@
 // The reader: a text into a table of rows and a strings area.
 use crate::row::Label;
 use crate::step::Step;
-use crate::step::fail;
 use crate::tree::value;
 use area::clear_from;
 use model::MAX_TEXT_BYTES;
+use scan::Fault;
 use scan::token::skip_white;
 use syntax::ROW_BYTES;
 use syntax::STRINGS_BYTES;
@@ -29,25 +29,39 @@ pub struct Answer {
     pub rows: usize,
 }
 
+// A text that was read: how many rows and bytes of strings it has; or a fault.
+enum TextStep {
+    Whole { rows: usize, used: usize },
+    NoText(Fault),
+}
+
 // The whole text: one value, white space around it.
-fn read_text(text: &[u8], table: &mut [u8], strings: &mut [u8]) -> Step
+fn read_text(text: &[u8], table: &mut [u8], strings: &mut [u8]) -> TextStep
     requires { ⌜ (tableBytes ≤ length (now table)) × (stringsBytes ≤ length (now strings)) ⌝ }
     ensures { λ r. ⌜ TextRead (now (text .entry)) (now (table .entry)) (now (strings .entry)) r (now (table .exit)) (now (strings .exit)) ⌝ }
 {
     if MAX_TEXT_BYTES < text.len() {
-        return fail(5, MAX_TEXT_BYTES);
+        return TextStep::NoText(Fault {
+            number: 5,
+            at: MAX_TEXT_BYTES,
+        });
     }
     let at = skip_white(text, 0);
     let bare = Label { start: 0, size: 0 };
     let s = value(text, at, table, 0, strings, 0, 0, bare);
-    if s.fault != 0 {
-        return s;
+    match s {
+        Step::Failed(f) => TextStep::NoText(f),
+        Step::Reached(last) => {
+            let end = skip_white(text, last.at);
+            if end < text.len() {
+                return TextStep::NoText(Fault { number: 2, at: end });
+            }
+            TextStep::Whole {
+                rows: last.row,
+                used: last.used,
+            }
+        }
     }
-    let end = skip_white(text, s.at);
-    if end < text.len() {
-        return fail(2, end);
-    }
-    s
 }
 
 // Reads a text into the two areas.
@@ -69,20 +83,24 @@ pub fn read(text: &[u8], table: &mut [u8], strings: &mut [u8]) -> Answer
         };
     }
     let s = read_text(text, table, strings);
-    if s.fault != 0 {
-        clear_from(table, 0);
-        clear_from(strings, 0);
-        return Answer {
-            refusal: s.fault,
-            place: s.at,
-            rows: 0,
-        };
-    }
-    clear_from(table, s.row * ROW_BYTES);
-    clear_from(strings, s.used);
-    Answer {
-        refusal: 0,
-        place: 0,
-        rows: s.row,
+    match s {
+        TextStep::NoText(f) => {
+            clear_from(table, 0);
+            clear_from(strings, 0);
+            Answer {
+                refusal: f.number,
+                place: f.at,
+                rows: 0,
+            }
+        }
+        TextStep::Whole { rows, used } => {
+            clear_from(table, rows * ROW_BYTES);
+            clear_from(strings, used);
+            Answer {
+                refusal: 0,
+                place: 0,
+                rows,
+            }
+        }
     }
 }

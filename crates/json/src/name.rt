@@ -1,11 +1,26 @@
 // The name of a member.
-use crate::step::Step;
-use crate::step::fail;
+use crate::row::Label;
+use chars::Decoded;
 use chars::chars;
 use names::enter;
+use scan::Fault;
 use scan::token::skip_white;
 use scan::token::stands;
+ghost use mathlib.Core.Path.{_≡_};
+ghost use Rattle.scan.specs.Contract.{faultAt};
 ghost use Rattle.json.specs.Inner.{NameRoom, NameRead};
+
+// A member's name, with the offset of its content; or a fault.
+pub enum NameStep {
+    Named(usize, Label),
+    NoName(Fault),
+}
+
+fn no_name(number: u32, at: usize) -> NameStep
+    ensures { λ r. ⌜ r ≡ NameStep.NoName (faultAt number at) ⌝ }
+{
+    NameStep::NoName(Fault { number, at })
+}
 
 // A member's name, its colon and the white space after it. `first` is the row of the object's first member.
 pub fn member_name(
@@ -16,30 +31,29 @@ pub fn member_name(
     row: usize,
     strings: &mut [u8],
     used: usize,
-) -> Step
+) -> NameStep
     requires { ⌜ NameRoom (now text) (now table) (now strings) at first row used ⌝ }
     ensures { λ r. ⌜ NameRead (now (text .entry)) at first row used (now (table .entry)) (now (strings .entry)) r (now (table .exit)) (now (strings .exit)) ⌝ }
 {
-    if !stands(text, at, 34) {
-        return fail(2, at);
+    if !stands(text, at, b'"') {
+        return no_name(2, at);
     }
-    let s = chars(text, at + 1, strings, used);
-    if s.fault != 0 {
-        return fail(s.fault, s.at);
-    }
-    let end = s.at;
-    if enter(table, strings, first, row, used, s.used - used) {
-        return fail(3, end);
-    }
-    let colon = skip_white(text, end + 1);
-    if !stands(text, colon, 58) {
-        return fail(2, colon);
-    }
-    Step {
-        fault: 0,
-        at: skip_white(text, colon + 1),
-        row,
-        used: s.used,
-        count: 0,
+    let decoded = chars(text, at + 1, strings, used);
+    match decoded {
+        Decoded::NoChars(f) => NameStep::NoName(f),
+        Decoded::Chars { at: end, used: to } => {
+            let name = Label {
+                start: used,
+                size: to - used,
+            };
+            if enter(table, strings, first, row, used, name.size) {
+                return no_name(3, end);
+            }
+            let colon = skip_white(text, end + 1);
+            if !stands(text, colon, b':') {
+                return no_name(2, colon);
+            }
+            NameStep::Named(skip_white(text, colon + 1), name)
+        }
     }
 }

@@ -1,5 +1,6 @@
 // Rows of the table.
 use crate::step::Step;
+use crate::step::place;
 use area::put_word;
 use syntax::ROW_BYTES;
 ghost use Rattle.json.specs.Inner.{RowRoom, Stored, Emptied, Filled, labelOf};
@@ -31,13 +32,7 @@ pub fn empty(table: &mut [u8], row: usize, kind: usize, name: Label, at: usize, 
     ensures { λ r. ⌜ Emptied (now (table .entry)) row kind name at used r (now (table .exit)) ⌝ }
 {
     put_row(table, row, kind, name, 0, row + 1);
-    Step {
-        fault: 0,
-        at: at + 1,
-        row: row + 1,
-        used,
-        count: 0,
-    }
+    Step::Reached(place(at + 1, row + 1, used))
 }
 
 // The row of an array or object whose items or members are read.
@@ -45,15 +40,9 @@ pub fn filled(table: &mut [u8], row: usize, kind: usize, name: Label, s: Step) -
     requires { ⌜ RowRoom (now table) row kind (name .size) ⌝ }
     ensures { λ r. ⌜ Filled (now (table .entry)) row kind name s r (now (table .exit)) ⌝ }
 {
-    if s.fault != 0 {
+    let Step::Reached(end) = s else {
         return s;
-    }
-    put_row(table, row, kind, name, s.count, s.row);
-    Step {
-        fault: 0,
-        at: s.at,
-        row: s.row,
-        used: s.used,
-        count: 0,
-    }
+    };
+    put_row(table, row, kind, name, end.count, end.row);
+    Step::Reached(place(end.at, end.row, end.used))
 }

@@ -2,9 +2,12 @@
 use crate::row::Label;
 use crate::row::put_row;
 use crate::step::Step;
-use crate::step::fail;
+use crate::step::place;
+use chars::Decoded;
 use chars::chars;
+use scan::number::Numeral;
 use scan::number::number;
+use scan::token::WordMatch;
 use scan::token::literal;
 use syntax::FALSE_ROW;
 use syntax::INTEGER_ROW;
@@ -42,17 +45,13 @@ pub fn read_literal(
     requires { ⌜ ScalarRoom (now text) (now table) at row used (name .size) ⌝ }
     ensures { λ r. ⌜ RowRead name (reading.literal word) (now (text .entry)) at row used (now (table .entry)) r (now (table .exit)) ⌝ }
 {
-    let l = literal(text, at, word);
-    if l.fault != 0 {
-        return fail(l.fault, l.at);
-    }
-    put_row(table, row, kind_of(word), name, 0, 0);
-    Step {
-        fault: 0,
-        at: l.at,
-        row: row + 1,
-        used,
-        count: 0,
+    let matched = literal(text, at, word);
+    match matched {
+        WordMatch::Mismatch(f) => Step::Failed(f),
+        WordMatch::Matched(end) => {
+            put_row(table, row, kind_of(word), name, 0, 0);
+            Step::Reached(place(end, row + 1, used))
+        }
     }
 }
 
@@ -69,19 +68,15 @@ pub fn read_number(
     requires { ⌜ ScalarRoom (now text) (now table) at row used (name .size) ⌝ }
     ensures { λ r. ⌜ RowRead name (reading.int negative) (now (text .entry)) at row used (now (table .entry)) r (now (table .exit)) ⌝ }
 {
-    let n = number(text, at, negative);
-    if n.fault != 0 {
-        return fail(n.fault, n.at);
-    }
-    let low = (n.biased % 4294967296) as usize;
-    let high = (n.biased / 4294967296) as usize;
-    put_row(table, row, INTEGER_ROW, name, low, high);
-    Step {
-        fault: 0,
-        at: n.at,
-        row: row + 1,
-        used,
-        count: 0,
+    let numeral = number(text, at, negative);
+    match numeral {
+        Numeral::NoInteger(f) => Step::Failed(f),
+        Numeral::Integer { at: end, biased } => {
+            let low = (biased % 4294967296) as usize;
+            let high = (biased / 4294967296) as usize;
+            put_row(table, row, INTEGER_ROW, name, low, high);
+            Step::Reached(place(end, row + 1, used))
+        }
     }
 }
 
@@ -98,16 +93,12 @@ pub fn read_string(
     requires { ⌜ Room (now text) (now table) (now strings) at row used (name .size) × (row < maxValues) ⌝ }
     ensures { λ r. ⌜ ValueRead name stringFrom 0 (now (text .entry)) at row used (now (table .entry)) (now (strings .entry)) r (now (table .exit)) (now (strings .exit)) ⌝ }
 {
-    let s = chars(text, at, strings, used);
-    if s.fault != 0 {
-        return fail(s.fault, s.at);
-    }
-    put_row(table, row, STRING_ROW, name, used, s.used - used);
-    Step {
-        fault: 0,
-        at: s.at + 1,
-        row: row + 1,
-        used: s.used,
-        count: 0,
+    let decoded = chars(text, at, strings, used);
+    match decoded {
+        Decoded::NoChars(f) => Step::Failed(f),
+        Decoded::Chars { at: end, used: to } => {
+            put_row(table, row, STRING_ROW, name, used, to - used);
+            Step::Reached(place(end + 1, row + 1, to))
+        }
     }
 }

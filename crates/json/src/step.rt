@@ -1,35 +1,35 @@
 // How far a reading came.
+use scan::Fault;
 ghost use mathlib.Core.Path.{_≡_};
-ghost use Rattle.json.specs.Inner.{step};
+ghost use Rattle.scan.specs.Contract.{faultAt};
+ghost use Rattle.json.specs.Inner.{cursor};
 
-// `fault` is 0, or the number of a refusal whose place is `at`. `count` is of items or members.
-pub struct Step {
-    pub fault: u32,
+// Where a reading stands: the offset, the rows and bytes of strings so far, and how many items or members there were.
+pub struct Cursor {
     pub at: usize,
     pub row: usize,
     pub used: usize,
     pub count: usize,
 }
 
-// A fault at a place.
-pub fn fail(fault: u32, at: usize) -> Step
-    ensures { λ r. ⌜ (r .fault ≡ fault) × (r .at ≡ at) ⌝ }
-{
-    Step {
-        fault,
-        at,
-        row: 0,
-        used: 0,
-        count: 0,
-    }
+// What came of a reading.
+pub enum Step {
+    Reached(Cursor),
+    Failed(Fault),
 }
 
-// The start of a list.
-pub fn begin(at: usize, row: usize, used: usize) -> Step
-    ensures { λ r. ⌜ r ≡ step 0 at row used 0 ⌝ }
+// A fault at a place.
+pub fn fail(number: u32, at: usize) -> Step
+    ensures { λ r. ⌜ r ≡ Step.Failed (faultAt number at) ⌝ }
 {
-    Step {
-        fault: 0,
+    Step::Failed(Fault { number, at })
+}
+
+// Where no items or members are counted.
+pub fn place(at: usize, row: usize, used: usize) -> Cursor
+    ensures { λ r. ⌜ r ≡ cursor at row used 0 ⌝ }
+{
+    Cursor {
         at,
         row,
         used,

@@ -1,6 +1,7 @@
 // Values, with the items of arrays and the members of objects.
 use crate::list::After;
 use crate::list::follow;
+use crate::name::NameStep;
 use crate::name::member_name;
 use crate::row::Label;
 use crate::row::empty;
@@ -9,8 +10,8 @@ use crate::scalar::read_literal;
 use crate::scalar::read_number;
 use crate::scalar::read_string;
 use crate::step::Step;
-use crate::step::begin;
 use crate::step::fail;
+use crate::step::place;
 use scan::token::skip_white;
 use scan::token::stands;
 use scan::token::start;
@@ -65,7 +66,7 @@ fn array(
     ensures { λ r. ⌜ ValueRead name (λ f. arrayFrom f row depth) 1 (now (text .entry)) at row used (now (table .entry)) (now (strings .entry)) r (now (table .exit)) (now (strings .exit)) ⌝ }
 {
     let first = skip_white(text, at);
-    if stands(text, first, 93) {
+    if stands(text, first, b']') {
         return empty(table, row, ARRAY_ROW, name, first, used);
     }
     let s = all_items(text, first, table, row + 1, strings, used, depth + 1);
@@ -87,7 +88,7 @@ fn object(
     ensures { λ r. ⌜ ValueRead name (λ f. objectFrom f row depth) 1 (now (text .entry)) at row used (now (table .entry)) (now (strings .entry)) r (now (table .exit)) (now (strings .exit)) ⌝ }
 {
     let first = skip_white(text, at);
-    if stands(text, first, 125) {
+    if stands(text, first, b'}') {
         return empty(table, row, OBJECT_ROW, name, first, used);
     }
     let s = all_members(text, first, table, row + 1, strings, used, depth + 1);
@@ -108,7 +109,7 @@ fn all_items(
     ensures { λ r. ⌜ ItemsRead (now (text .entry)) at row used depth (now (table .entry)) (now (strings .entry)) r (now (table .exit)) (now (strings .exit)) ⌝ }
 {
     let bare = Label { start: 0, size: 0 };
-    let mut here = begin(at, row, used);
+    let mut here = place(at, row, used);
     loop {
         let s = value(
             text,
@@ -120,7 +121,7 @@ fn all_items(
             depth,
             bare,
         );
-        let after = follow(text, s, here.count, 93);
+        let after = follow(text, s, here.count, b']');
         match after {
             After::Done(end) => {
                 return end;
@@ -145,24 +146,25 @@ fn all_members(
     requires { ⌜ MembersRoom (now text) (now table) (now strings) at row used ⌝ }
     ensures { λ r. ⌜ MembersRead [] (now (text .entry)) at row used depth (now (table .entry)) (now (strings .entry)) r (now (table .exit)) (now (strings .exit)) ⌝ }
 {
-    let mut here = begin(at, row, used);
+    let mut here = place(at, row, used);
     loop {
         let n = member_name(text, here.at, table, row, here.row, strings, here.used);
-        if n.fault != 0 {
-            return n;
-        }
-        let name = Label {
-            start: here.used,
-            size: n.used - here.used,
-        };
-        let s = value(text, n.at, table, here.row, strings, n.used, depth, name);
-        let after = follow(text, s, here.count, 125);
-        match after {
-            After::Done(end) => {
-                return end;
+        match n {
+            NameStep::NoName(f) => {
+                return Step::Failed(f);
             }
-            After::More(next) => {
-                here = next;
+            NameStep::Named(content, name) => {
+                let to = here.used + name.size;
+                let s = value(text, content, table, here.row, strings, to, depth, name);
+                let after = follow(text, s, here.count, b'}');
+                match after {
+                    After::Done(end) => {
+                        return end;
+                    }
+                    After::More(next) => {
+                        here = next;
+                    }
+                }
             }
         }
     }

@@ -1,60 +1,48 @@
 -- Numbers, digit by digit.
 use mathlib.Core.Path.{_≡_, refl, ap, _∙_, subst⁻¹}
-use mathlib.Core.Bool.{Bool, true, false, _&&_, false≢true}
+use mathlib.Core.Bool.{Bool, true, false}
 use mathlib.Core.List.{[], _∷_}
 use Prim.Native.Nat.{ℕ, zero, suc, _+_, _*_, _-_, _≤_, _<_}
 use native.Mathlib.Omega.{arith}
 use native.Mathlib.Numerals.{add-one}
-use borrow.Author.Tests.{le-leb, lt-leb, leb-true}
+use borrow.Author.Tests.{le-leb, lt-leb}
 use lib.Dec.{leb}
 use lib.IntN.{pos, negsuc}
 use lib.ListN.{length, getD, drop, drop-of-length-le}
 use lib.Seq.{drop-cons}
 use Rattle.model.specs.Bytes.{Bytes}
 use Rattle.model.specs.Limits.{maxInteger}
-use Rattle.model.specs.Refusal.{ReadFault, readNumber, notJson, badNumber}
+use Rattle.model.specs.Refusal.{ReadFault, notJson, badNumber}
 use Rattle.model.specs.Value.{Value}
 use Rattle.syntax.specs.Layout.{biased}
 use Rattle.syntax.specs.Read.{Parsed, ok, bad, then, _>>=_, give, fail, if, eat, signed, isPart, endNumber, digits, afterZero, firstDigit, int}
-use Rattle.syntax.specs.Tokens.{within, isDigit, digitValue}
-use Rattle.scan.specs.Contract.{NumberMeets}
+use Rattle.syntax.specs.Tokens.{isDigit, digitValue}
+use Rattle.scan.specs.Contract.{faultAt, faultOf, NumberMeets}
 use Rattle.scan.specs.Inner.{Signed, ending, Rest}
 use Rattle.scan.specs.Laws.{peek-in, peek-end, eat-in}
 use Rattle.scan.specs.declared.number.Numeral.{Numeral}
-
-both : (x y : Bool) → x && y ≡ true → (x ≡ true) × (y ≡ true)
-both true y e = (refl, e)
-both false y e = absurd (false≢true e)
-
-module _ (b : ℕ) (e : isDigit b ≡ true) where
-  pub digit-low : 48 ≤ b
-  unfolding isDigit within
-  digit-low = leb-true 48 b (both (leb 48 b) (leb b 57) e .0)
-
-  pub digit-high : b ≤ 57
-  unfolding isDigit within
-  digit-high = leb-true b 57 (both (leb 48 b) (leb b 57) e .1)
+use Rattle.scan.specs.declared.number.Numeral.the-variants.{Integer, NoInteger}
 
 -- ---- a number that ended
-pub signed-up : {negative : Bool} → negative ≡ false → (at n : ℕ) → Signed at negative n (record { fault = 0; at = at; biased = 9007199254740992 + n })
+pub signed-up : {negative : Bool} → negative ≡ false → (at n : ℕ) → Signed at negative n (Integer at (9007199254740992 + n))
 unfolding signed biased
-signed-up e at n = rw e (record { number = refl; place = refl; z = pos n; is = refl; content = refl })
+signed-up e at n = rw e (record { z = pos n; is = refl; answer = refl })
 
-pub signed-down : {negative : Bool} → negative ≡ true → (at n : ℕ) → Signed at negative n (record { fault = 0; at = at; biased = 9007199254740992 - n })
+pub signed-down : {negative : Bool} → negative ≡ true → (at n : ℕ) → Signed at negative n (Integer at (9007199254740992 - n))
 unfolding signed biased
-signed-down e at zero = rw e (record { number = refl; place = refl; z = pos 0; is = refl; content = refl })
-signed-down e at (suc n) = rw e (record { number = refl; place = refl; z = negsuc n; is = refl; content = refl })
+signed-down e at zero = rw e (record { z = pos 0; is = refl; answer = refl })
+signed-down e at (suc n) = rw e (record { z = negsuc n; is = refl; answer = refl })
 
 module _ {s : Bytes} {at : ℕ} {m : Parsed Value} {r : Numeral} where
   pub rest-whole : {negative : Bool} {n : ℕ} → m ≡ ok (signed negative n) (drop at s) at → at ≤ length s → Signed at negative n r → Rest s at m r
   rest-whole e l g =
       record {
         run = λ from h. subst⁻¹ (λ (x : Parsed Value). NumberMeets s from x r) e
-            (record { number = g .number; place = g .place; z = g .z; is = g .is; content = g .content; left = refl; on = h; inside = l });
+            (record { z = g .z; is = g .is; answer = g .answer; left = refl; on = h; inside = l });
       }
 
-  pub rest-failed : {k : ReadFault} {p : ℕ} → m ≡ bad k p → (r .fault ≡ readNumber k) × (r .at ≡ p) → Rest s at m r
-  rest-failed e f = record { run = λ from h. subst⁻¹ (λ (x : Parsed Value). NumberMeets s from x r) e (record { number = f .0; place = f .1 }) }
+  pub rest-failed : {k : ReadFault} {p : ℕ} → m ≡ bad k p → r ≡ NoInteger (faultOf k p) → Rest s at m r
+  rest-failed e f = record { run = λ from h. subst⁻¹ (λ (x : Parsed Value). NumberMeets s from x r) e f }
 
   -- What began earlier goes on here.
   rest-before : {q : ℕ} {o : Parsed Value} → o ≡ m → q ≤ at → Rest s at m r → Rest s q o r
@@ -118,7 +106,7 @@ module _ {s : Bytes} {at : ℕ} {negative : Bool} {first i n : ℕ} (k : Countin
   count-stop l e g = rest-before (k .run ∙ digits-stop negative n s i l e) (k .on) g
 
   module _ {d : ℕ} (l : i < length s) (e : isDigit (getD s i 0) ≡ true) (v : d ≡ digitValue (getD s i 0)) where
-    pub count-past : {r : Numeral} → maxInteger < n * 10 + d → (r .fault ≡ 4) × (r .at ≡ i) → Rest s at (digits negative first (drop at s) at) r
+    pub count-past : {r : Numeral} → maxInteger < n * 10 + d → r ≡ NoInteger (faultAt 4 i) → Rest s at (digits negative first (drop at s) at) r
     count-past h f =
         let g : maxInteger < n * 10 + digitValue (getD s i 0) = rw v at h in
         rest-before (k .run) (k .on) (rest-failed (digits-past negative n s i l e g) f)
@@ -158,27 +146,27 @@ module _ (negative : Bool) (s : Bytes) (at : ℕ) (r : Numeral) where
   abbrev Meets : Parsed Value → Type 0
   Meets x = NumberMeets s at x r
 
-  failed : {p : ℕ} → int negative (drop at s) at ≡ bad notJson p → (r .fault ≡ 2) × (r .at ≡ p) → Meets (int negative (drop at s) at)
-  failed e f = subst⁻¹ Meets e (record { number = f .0; place = f .1 })
+  failed : {p : ℕ} → int negative (drop at s) at ≡ bad notJson p → r ≡ NoInteger (faultAt 2 p) → Meets (int negative (drop at s) at)
+  failed e f = subst⁻¹ Meets e f
 
-  pub number-end : length s ≤ at → (r .fault ≡ 2) × (r .at ≡ at) → Meets (int negative (drop at s) at)
+  pub number-end : length s ≤ at → r ≡ NoInteger (faultAt 2 at) → Meets (int negative (drop at s) at)
   number-end l f = failed (int-end negative s at l) f
 
-  pub number-none : at < length s → isDigit (getD s at 0) ≡ false → (r .fault ≡ 2) × (r .at ≡ at) → Meets (int negative (drop at s) at)
+  pub number-none : at < length s → isDigit (getD s at 0) ≡ false → r ≡ NoInteger (faultAt 2 at) → Meets (int negative (drop at s) at)
   unfolding if fail
   number-none l e f = failed (int-in negative s at l false e) f
 
-  pub number-zero : at < length s → getD s at 0 ≡ 48 → Rest s (at + 1) (ending negative 0 (drop (at + 1) s) (at + 1)) r → Meets (int negative (drop at s) at)
-  unfolding firstDigit isDigit within
-  number-zero l e g =
+  pub number-zero : at < length s → isDigit (getD s at 0) ≡ true → digitValue (getD s at 0) ≡ 0 → Rest s (at + 1) (ending negative 0 (drop (at + 1) s) (at + 1)) r → Meets (int negative (drop at s) at)
+  unfolding firstDigit
+  number-zero l e z g =
       let f : int negative (drop at s) at ≡ ending negative 0 (drop (at + 1) s) (at + 1) =
-      first negative s at l (ap isDigit e) ∙ ap (λ (b : ℕ). firstDigit negative (digitValue b) (drop (suc at) s) (suc at)) e ∙ rw add-one (after-zero negative (drop (suc at) s) (suc at)) in
+      first negative s at l e ∙ ap (λ (d : ℕ). firstDigit negative d (drop (suc at) s) (suc at)) z ∙ rw add-one (after-zero negative (drop (suc at) s) (suc at)) in
       subst⁻¹ Meets f (g .run at (omega arith))
 
-  pub number-digits : {d : ℕ} → at < length s → isDigit (getD s at 0) ≡ true → (getD s at 0 ≡ 48 → ⊥) → d ≡ digitValue (getD s at 0)
+  pub number-digits : {d : ℕ} → at < length s → isDigit (getD s at 0) ≡ true → (d ≡ 0 → ⊥) → d ≡ digitValue (getD s at 0)
       → Rest s (at + 1) (digits negative d (drop (at + 1) s) (at + 1)) r → Meets (int negative (drop at s) at)
   number-digits {d} l e n v g =
-      let h : 0 < digitValue (getD s at 0) = omega (arith, digit-low (getD s at 0) e, n) in
+      let h : 0 < digitValue (getD s at 0) = omega (arith, n) in
       let f : int negative (drop at s) at ≡ digits negative d (drop (at + 1) s) (at + 1) =
       first negative s at l e ∙ first-digits negative (digitValue (getD s at 0)) h (drop (suc at) s) (suc at) ∙ rw (v, add-one) refl in
       subst⁻¹ Meets f (g .run at (omega arith))

@@ -2,7 +2,7 @@
 use mathlib.Core.Path.{_≡_, refl, sym, ap, _∙_, subst⁻¹}
 use mathlib.Core.Bool.{Bool, true, false}
 use mathlib.Core.List.{_∷_}
-use Prim.Native.Nat.{ℕ, suc, _+_, _≤_, _<_}
+use Prim.Native.Nat.{ℕ, zero, suc, _+_, _≤_, _<_}
 use native.Mathlib.Omega.{arith}
 use native.Mathlib.Nat.{add-zero, add-suc}
 use native.Mathlib.Numerals.{add-one}
@@ -17,9 +17,10 @@ use Rattle.syntax.specs.declared.Word.{Word}
 use Rattle.syntax.specs.declared.Word.the-variants.{TrueWord, FalseWord, NullWord}
 use Rattle.syntax.specs.Read.{Parsed, ok, bad, fail, if, expect, literal}
 use Rattle.syntax.specs.Tokens.{isWhite}
-use Rattle.scan.specs.Contract.{endWhite, Skipped, standsAt, Stands, wordValue, LiteralMeets}
+use Rattle.scan.specs.Contract.{faultAt, endWhite, Skipped, standsAt, Stands, wordValue, LiteralMeets}
 use Rattle.scan.specs.Inner.{ExpectMeets, Compared}
-use Rattle.scan.specs.declared.token.Matched.{Matched}
+use Rattle.scan.specs.declared.token.WordMatch.{WordMatch}
+use Rattle.scan.specs.declared.token.WordMatch.the-variants.{Matched, Mismatch}
 
 -- ---- white space
 pub record Skipping (s : Bytes) (at i : ℕ) : Type 0 where
@@ -52,11 +53,16 @@ module _ {s : Bytes} {at i : ℕ} (k : Skipping s at i) where
 -- ---- literals
 pub record Comparing (s : Bytes) (at : ℕ) (w : Bytes) (i : ℕ) : Type 0 where
   pub run : (a : Value) → expect w a (drop at s) at ≡ expect (drop i w) a (drop (at + i) s) (at + i)
-  pub inside : at + i ≤ length s
+  pub inside : 0 < i → at + i ≤ length s
   pub within : i ≤ length w
 
-pub compare-start : (s : Bytes) (at : ℕ) (w : Bytes) → at ≤ length s → Comparing s at w 0
-compare-start s at w h = record { run = λ a. ap (λ k. expect w a (drop k s) k) (sym (add-zero at)); inside = omega arith; within = omega arith }
+pub compare-start : (s : Bytes) (at : ℕ) (w : Bytes) → Comparing s at w 0
+compare-start s at w = record { run = λ a. ap (λ k. expect w a (drop k s) k) (sym (add-zero at)); inside = λ h. absurd (omega arith); within = omega arith }
+
+-- The offset is the first, or one inside the text.
+pub compare-below : (m : ℕ) {s : Bytes} {at : ℕ} {w : Bytes} (i : ℕ) → at ≤ m → length s ≤ m → Comparing s at w i → at + i ≤ m
+compare-below m zero h l k = omega arith
+compare-below m (suc i) h l k = omega (arith, k .inside (omega arith))
 
 expect-in : (x : ℕ) (xs : Bytes) (a : Value) (s : Bytes) (p : ℕ)
     → expect (x ∷ xs) a (drop p s) p ≡ if (standsAt s p x) (λ u q. expect xs a (drop (suc p) s) (suc p)) (fail notJson) (drop p s) p
@@ -79,23 +85,23 @@ module _ {s : Bytes} {at : ℕ} {w : Bytes} {i : ℕ} (k : Comparing s at w i) w
   unfolding if
   compare-more h t e =
       let l : at + i < length s = t .room e in
-      record { run = λ a. rw (add-one, add-suc) (next a true h (sym e ∙ t .is)); inside = omega arith; within = omega arith }
+      record { run = λ a. rw (add-one, add-suc) (next a true h (sym e ∙ t .is)); inside = λ _. omega arith; within = omega arith }
 
-  pub compare-stop : {r : Bool} → i < length w → Stands s (at + i) (getD w i 0) r → r ≡ false → Compared s at w (record { fault = 2; at = at + i })
+  pub compare-stop : {r : Bool} → i < length w → Stands s (at + i) (getD w i 0) r → r ≡ false → Compared s at w (Mismatch (faultAt 2 (at + i)))
   unfolding if fail
   compare-stop h t e =
       record {
-        run = λ a. subst⁻¹ (λ (m : Parsed Value). ExpectMeets s at w a m (record { fault = 2; at = at + i })) (next a false h (sym e ∙ t .is))
-            (record { number = refl; place = refl });
+        run = λ a. subst⁻¹ (λ (m : Parsed Value). ExpectMeets s at w a m (Mismatch (faultAt 2 (at + i)))) (next a false h (sym e ∙ t .is))
+            refl;
       }
 
-  pub compare-end : length w ≤ i → Compared s at w (record { fault = 0; at = at + i })
+  pub compare-end : length w ≤ i → Compared s at w (Matched (at + i))
   unfolding expect
   compare-end h =
       record {
-        run = λ a. subst⁻¹ (λ (m : Parsed Value). ExpectMeets s at w a m (record { fault = 0; at = at + i }))
+        run = λ a. subst⁻¹ (λ (m : Parsed Value). ExpectMeets s at w a m (Matched (at + i)))
             (k .run a ∙ ap (λ z. expect z a (drop (at + i) s) (at + i)) (drop-of-length-le w h))
-            (record { number = refl; place = refl; is = refl; left = refl; end = omega (arith, k .within); inside = k .inside });
+            (record { answer = refl; is = refl; left = refl; end = omega (arith, k .within); inside = λ n. k .inside (omega (arith, k .within)) });
       }
 
 abbrev wordBytes : Word → Bytes
@@ -114,12 +120,12 @@ some-bytes TrueWord = omega arith
 some-bytes FalseWord = omega arith
 some-bytes NullWord = omega arith
 
-literal-meets : (s : Bytes) (at : ℕ) (w : Word) (m : Parsed Value) (r : Matched) → ExpectMeets s at (wordBytes w) (wordValue w) m r → LiteralMeets s at w m r
+literal-meets : (s : Bytes) (at : ℕ) (w : Word) (m : Parsed Value) (r : WordMatch) → ExpectMeets s at (wordBytes w) (wordValue w) m r → LiteralMeets s at w m r
 literal-meets s at w (ok v u q) r k =
-    record { number = k .number; place = k .place; is = k .is; left = k .left; on = omega (arith, k .end, some-bytes w); inside = k .inside }
+    record { answer = k .answer; is = k .is; left = k .left; on = omega (arith, k .end, some-bytes w); inside = k .inside (some-bytes w) }
 literal-meets s at w (bad f p) r k = k
 
-pub literal-by : {s : Bytes} {at : ℕ} {w x : Word} {r : Matched} → w ≡ x → Compared s at (wordBytes x) r → LiteralMeets s at w (literal w (drop at s) at) r
+pub literal-by : {s : Bytes} {at : ℕ} {w x : Word} {r : WordMatch} → w ≡ x → Compared s at (wordBytes x) r → LiteralMeets s at w (literal w (drop at s) at) r
 literal-by {s} {at} {w} {x} {r} e k =
     subst⁻¹ (λ (y : Word). LiteralMeets s at y (literal y (drop at s) at) r) e
     (subst⁻¹ (λ (m : Parsed Value). LiteralMeets s at x m r) (literal-expect x (drop at s) at)

@@ -18,14 +18,21 @@ use Rattle.syntax.specs.declared.Separator.{Separator}
 use Rattle.syntax.specs.declared.Separator.the-variants.{Comma, Close, Neither}
 use Rattle.syntax.specs.Layout.{biased}
 use Rattle.syntax.specs.Read.{Parsed, ok, bad}
-use Rattle.syntax.specs.Tokens.{isWhite, startOf, separatorOf}
-use Rattle.scan.specs.declared.token.Matched.{Matched}
+use Rattle.syntax.specs.Tokens.{isWhite, isDigit, digitValue, startOf, separatorOf}
+use Rattle.scan.specs.declared.Fault.{Fault}
+use Rattle.scan.specs.declared.token.Decimal.{Decimal}
+use Rattle.scan.specs.declared.token.Decimal.the-variants.{DecimalDigit, NoDecimal}
+use Rattle.scan.specs.declared.token.WordMatch.{WordMatch}
+use Rattle.scan.specs.declared.token.WordMatch.the-variants.{Matched, Mismatch}
 use Rattle.scan.specs.declared.number.Numeral.{Numeral}
+use Rattle.scan.specs.declared.number.Numeral.the-variants.{Integer, NoInteger}
 
--- A reading that went wrong: the fault's number and its place. What else the answer holds is then free; nobody looks at it.
-pub record Failed (k : ReadFault) (p : ℕ) (fault at : ℕ) : Type 0 where
-  pub number : fault ≡ readNumber k
-  pub place : at ≡ p
+-- A fault as the code has it, and that of a parser.
+abbrev pub faultAt : ℕ → ℕ → Fault
+faultAt number at = record { number = number; at = at }
+
+abbrev pub faultOf : ReadFault → ℕ → Fault
+faultOf k p = faultAt (readNumber k) p
 
 -- ---- white space
 -- The offset after the white space with which t, at an offset, begins.
@@ -57,6 +64,10 @@ pub record Started (s : Bytes) (row depth at : ℕ) (r : Start) : Type 0 where
   pub is : r ≡ startAt s row depth at
   pub room : StartRoom s row depth at r
 
+-- A digit's number, if the byte is one.
+unfoldable pub decimalOf : ℕ → Decimal
+decimalOf b = elim (isDigit b) [ true ↦ DecimalDigit (digitValue b) | false ↦ NoDecimal ]
+
 unfoldable pub separatorAt : Bytes → ℕ → ℕ → Separator
 separatorAt s close at = elim (ltb at (length s)) [ true ↦ separatorOf close (getD s at 0) | false ↦ Neither ]
 
@@ -82,29 +93,30 @@ wordValue TrueWord = scalar (boolean true)
 wordValue FalseWord = scalar (boolean false)
 wordValue NullWord = scalar null
 
-pub record LiteralRead (s : Bytes) (at : ℕ) (w : Word) (v : Value) (u : Bytes) (q : ℕ) (r : Matched) : Type 0 where
-  pub number : r .fault ≡ 0
-  pub place : r .at ≡ q
+-- A literal that ends at q.
+pub record LiteralRead (s : Bytes) (at : ℕ) (w : Word) (v : Value) (u : Bytes) (q : ℕ) (r : WordMatch) : Type 0 where
+  pub answer : r ≡ Matched q
   pub is : v ≡ wordValue w
   pub left : u ≡ drop q s
   pub on : at < q
   pub inside : q ≤ length s
 
-abbrev pub LiteralMeets : Bytes → ℕ → Word → Parsed Value → Matched → Type 0
+-- The answer, by what the parser gives.
+abbrev pub LiteralMeets : Bytes → ℕ → Word → Parsed Value → WordMatch → Type 0
 LiteralMeets s at w (ok v u q) r = LiteralRead s at w v u q r
-LiteralMeets s at w (bad k p) r = Failed k p (r .fault) (r .at)
+LiteralMeets s at w (bad k p) r = r ≡ Mismatch (faultOf k p)
 
 -- ---- numbers
+-- The integer z, which ends at q.
 pub record NumberRead (s : Bytes) (at : ℕ) (v : Value) (u : Bytes) (q : ℕ) (r : Numeral) : Type 0 where
-  pub number : r .fault ≡ 0
-  pub place : r .at ≡ q
   pub z : ℤ
   pub is : v ≡ scalar (integer z)
-  pub content : r .biased ≡ biased z
+  pub answer : r ≡ Integer q (biased z)
   pub left : u ≡ drop q s
   pub on : at < q
   pub inside : q ≤ length s
 
+-- The answer, by what the parser gives.
 abbrev pub NumberMeets : Bytes → ℕ → Parsed Value → Numeral → Type 0
 NumberMeets s at (ok v u q) r = NumberRead s at v u q r
-NumberMeets s at (bad k p) r = Failed k p (r .fault) (r .at)
+NumberMeets s at (bad k p) r = r ≡ NoInteger (faultOf k p)

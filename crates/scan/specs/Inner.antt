@@ -9,34 +9,33 @@ use Rattle.model.specs.Bytes.{Bytes}
 use Rattle.model.specs.Value.{Value, scalar, integer}
 use Rattle.syntax.specs.Layout.{biased}
 use Rattle.syntax.specs.Read.{Parsed, ok, bad, Parser, expect, signed, endNumber}
-use Rattle.scan.specs.Contract.{Failed, NumberMeets}
-use Rattle.scan.specs.declared.token.Matched.{Matched}
+use Rattle.scan.specs.Contract.{faultOf, NumberMeets}
+use Rattle.scan.specs.declared.token.WordMatch.{WordMatch}
+use Rattle.scan.specs.declared.token.WordMatch.the-variants.{Matched, Mismatch}
 use Rattle.scan.specs.declared.number.Numeral.{Numeral}
+use Rattle.scan.specs.declared.number.Numeral.the-variants.{Integer}
 
 -- ---- literals
 -- The bytes w for a result a, read up to q.
-pub record ExpectRead (s : Bytes) (at : ℕ) (w : Bytes) (a v : Value) (u : Bytes) (q : ℕ) (r : Matched) : Type 0 where
-  pub number : r .fault ≡ 0
-  pub place : r .at ≡ q
+pub record ExpectRead (s : Bytes) (at : ℕ) (w : Bytes) (a v : Value) (u : Bytes) (q : ℕ) (r : WordMatch) : Type 0 where
+  pub answer : r ≡ Matched q
   pub is : v ≡ a
   pub left : u ≡ drop q s
   pub end : q ≡ at + length w
-  pub inside : q ≤ length s
+  pub inside : 0 < length w → q ≤ length s
 
-abbrev pub ExpectMeets : Bytes → ℕ → Bytes → Value → Parsed Value → Matched → Type 0
+abbrev pub ExpectMeets : Bytes → ℕ → Bytes → Value → Parsed Value → WordMatch → Type 0
 ExpectMeets s at w a (ok v u q) r = ExpectRead s at w a v u q r
-ExpectMeets s at w a (bad k p) r = Failed k p (r .fault) (r .at)
+ExpectMeets s at w a (bad k p) r = r ≡ Mismatch (faultOf k p)
 
-pub record Compared (s : Bytes) (at : ℕ) (w : Bytes) (r : Matched) : Type 0 where
+pub record Compared (s : Bytes) (at : ℕ) (w : Bytes) (r : WordMatch) : Type 0 where
   pub run : (a : Value) → ExpectMeets s at w a (expect w a (drop at s) at) r
 
 -- ---- numbers
 pub record Signed (at : ℕ) (negative : Bool) (n : ℕ) (r : Numeral) : Type 0 where
-  pub number : r .fault ≡ 0
-  pub place : r .at ≡ at
   pub z : ℤ
   pub is : signed negative n ≡ scalar (integer z)
-  pub content : r .biased ≡ biased z
+  pub answer : r ≡ Integer at (biased z)
 
 -- The end of the number n, where no digit of it stands.
 unfoldable pub ending : Bool → ℕ → Parser Value

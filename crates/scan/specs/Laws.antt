@@ -1,27 +1,35 @@
 -- Laws for the proofs of code that reads a text s: what the parsers give at an offset, where the bytes left are `drop at s`.
 use mathlib.Core.Path.{_≡_, refl, sym, ap, _∙_, subst}
-use mathlib.Core.Bool.{Bool, true, false}
+use mathlib.Core.Bool.{Bool, true, false, _&&_, false≢true}
 use mathlib.Core.List.{List, [], _∷_}
 use Prim.Native.Nat.{ℕ, zero, suc, _+_, _≤_, _<_}
 use native.Mathlib.Numerals.{add-one}
 use native.Mathlib.Omega.{arith}
-use borrow.Author.Tests.{ltb-true, ltb-false}
-use lib.Dec.{eqb, ltb}
+use borrow.Author.Tests.{ltb-true, ltb-false, leb-true}
+use lib.Dec.{eqb, leb, ltb}
+use lib.IntN.{ℤ}
 use lib.ListN.{length, getD, drop, drop-of-length-le}
 use lib.Seq.{drop-cons, drop-drop}
 use Rattle.model.specs.Bytes.{Bytes}
-use Rattle.model.specs.Refusal.{ReadFault, readNumber, notJson, repeatedName, loneSurrogate, badNumber, tooLarge}
-use Rattle.model.specs.Value.{Value, scalar, array, object, string, no-items, no-members}
+use Rattle.model.specs.Refusal.{ReadFault, notJson}
+use Rattle.model.specs.Value.{Value, scalar, array, object, integer, string, no-items, no-members}
+use Rattle.model.specs.Laws.Logic.{clash}
 use Rattle.syntax.specs.declared.Start.{Start}
 use Rattle.syntax.specs.declared.Start.the-variants.{NoValue}
 use Rattle.syntax.specs.declared.Separator.{Separator}
 use Rattle.syntax.specs.declared.Separator.the-variants.{Neither}
 use Rattle.syntax.specs.declared.Word.{Word}
 use Rattle.syntax.specs.Read.{Parsed, ok, bad, Parser, then, _>>=_, give, fail, if, peek, eat, white, literal, int, quoted, name, onStart, onSeparator, value, items, members, ended}
-use Rattle.syntax.specs.Tokens.{isWhite, startOf, separatorOf}
-use Rattle.scan.specs.Contract.{Failed, endWhite, Skipped, startAt, StartRoom, Started, separatorAt, SeparatorRoom, Separated, standsAt, Stands, LiteralRead, LiteralMeets, NumberRead, NumberMeets}
-use Rattle.scan.specs.declared.token.Matched.{Matched}
+use Rattle.syntax.specs.Layout.{biased}
+use Rattle.syntax.specs.Tokens.{within, isWhite, isDigit, digitValue, startOf, separatorOf}
+use Rattle.scan.specs.Contract.{faultOf, decimalOf, wordValue, endWhite, Skipped, startAt, StartRoom, Started, separatorAt, SeparatorRoom, Separated, standsAt, Stands, LiteralMeets, NumberMeets}
+use Rattle.scan.specs.declared.Fault.{Fault}
+use Rattle.scan.specs.declared.token.Decimal.{Decimal}
+use Rattle.scan.specs.declared.token.Decimal.the-variants.{DecimalDigit, NoDecimal}
+use Rattle.scan.specs.declared.token.WordMatch.{WordMatch}
+use Rattle.scan.specs.declared.token.WordMatch.the-variants.{Matched, Mismatch}
 use Rattle.scan.specs.declared.number.Numeral.{Numeral}
+use Rattle.scan.specs.declared.number.Numeral.the-variants.{Integer, NoInteger}
 
 -- ---- one byte
 pub drop-next : (s t : Bytes) (at b : ℕ) → drop at s ≡ b ∷ t → drop (suc at) s ≡ t
@@ -165,43 +173,79 @@ pub ended-in : (v : Value) (s : Bytes) (at : ℕ) → at < length s → ended v 
 unfolding ended
 ended-in v s at l = rw (drop-cons s at 0 l)
 
--- ---- what a call says by its fault
--- No fault has the number 0.
-pub some-fault : (k : ReadFault) → readNumber k ≡ 0 → ⊥
-some-fault notJson e = omega arith
-some-fault repeatedName e = omega arith
-some-fault loneSurrogate e = omega arith
-some-fault badNumber e = omega arith
-some-fault tooLarge e = omega arith
+-- ---- a decimal digit
+both : (x y : Bool) → x && y ≡ true → (x ≡ true) × (y ≡ true)
+both true y e = (refl, e)
+both false y e = absurd (false≢true e)
 
--- A reading that came to an end, and what is promised of it.
-pub record Whole {A : Type 0} (m : Parsed A) (P : A → Bytes → ℕ → Type 0) : Type 0 where
-  pub got : A
-  pub rest : Bytes
-  pub end : ℕ
-  pub is : m ≡ ok got rest end
-  pub promise : P got rest end
+module _ (b : ℕ) (e : isDigit b ≡ true) where
+  pub digit-low : 48 ≤ b
+  unfolding isDigit within
+  digit-low = leb-true 48 b (both (leb 48 b) (leb b 57) e .0)
 
--- A reading that went wrong.
-pub record Wrong {A : Type 0} (m : Parsed A) (fault at : ℕ) : Type 0 where
-  pub kind : ReadFault
-  pub place : ℕ
-  pub is : m ≡ bad kind place
-  pub failed : Failed kind place fault at
+  pub digit-high : b ≤ 57
+  unfolding isDigit within
+  digit-high = leb-true b 57 (both (leb 48 b) (leb b 57) e .1)
+
+-- What the answer of `decimal_of` says of the byte.
+abbrev pub DecimalAs : ℕ → Decimal → Type 0
+DecimalAs b (DecimalDigit d) = (isDigit b ≡ true) × (d ≡ digitValue b) × (d ≤ 9)
+DecimalAs b NoDecimal = isDigit b ≡ false
+
+pub decimal-as : (b : ℕ) {r x : Decimal} → r ≡ decimalOf b → r ≡ x → DecimalAs b x
+unfolding decimalOf
+decimal-as b e q = subst (DecimalAs b) (sym e ∙ q) (go (isDigit b) refl)
+  where
+    go : (c : Bool) → isDigit b ≡ c → DecimalAs b (elim c [ true ↦ DecimalDigit (digitValue b) | false ↦ NoDecimal ])
+    go true h = (h, refl, omega (arith, digit-high b h))
+    go false h = h
+
+-- ---- what a call says by its answer
+-- A parser that refuses, with the fault f.
+pub record Gone {A : Type 0} (m : Parsed A) (f : Fault) : Type 0 where
+  pub k : ReadFault
+  pub p : ℕ
+  pub is : m ≡ bad k p
+  pub fault : f ≡ faultOf k p
+
+-- A parser that reads a literal up to e.
+pub record Spelled (s : Bytes) (at : ℕ) (w : Word) (m : Parsed Value) (e : ℕ) : Type 0 where
+  pub is : m ≡ ok (wordValue w) (drop e s) e
+  pub on : at < e
+  pub inside : e ≤ length s
+
+-- A parser that reads an integer up to e, b being that plus 2^53.
+pub record Counted (s : Bytes) (at : ℕ) (m : Parsed Value) (e b : ℕ) : Type 0 where
+  pub z : ℤ
+  pub is : m ≡ ok (scalar (integer z)) (drop e s) e
+  pub content : b ≡ biased z
+  pub on : at < e
+  pub inside : e ≤ length s
 
 module _ (s : Bytes) (at : ℕ) where
-  pub literal-whole : (w : Word) (m : Parsed Value) (r : Matched) → LiteralMeets s at w m r → r .fault ≡ 0 → Whole m (λ v u q. LiteralRead s at w v u q r)
-  literal-whole w (ok v u q) r k z = record { got = v; rest = u; end = q; is = refl; promise = k }
-  literal-whole w (bad f p) r k z = absurd (some-fault f (sym (k .number) ∙ z))
+  pub literal-whole : (w : Word) (m : Parsed Value) {r : WordMatch} (e : ℕ) → LiteralMeets s at w m r → r ≡ Matched e → Spelled s at w m e
+  literal-whole w (ok v u q) e k h =
+      let i : q ≡ e = cc (k .answer) in
+      record { is = (λ j. ok (k .is j) (k .left j) q) ∙ (λ j. ok (wordValue w) (drop (i j) s) (i j)); on = omega (arith, k .on); inside = omega (arith, k .inside) }
+  literal-whole w (bad x p) e k h = clash cc
 
-  pub literal-wrong : (w : Word) (m : Parsed Value) (r : Matched) → LiteralMeets s at w m r → (r .fault ≡ 0 → ⊥) → Wrong m (r .fault) (r .at)
-  literal-wrong w (ok v u q) r k z = absurd (z (k .number))
-  literal-wrong w (bad f p) r k z = record { kind = f; place = p; is = refl; failed = k }
+  pub literal-wrong : (w : Word) (m : Parsed Value) {r : WordMatch} (f : Fault) → LiteralMeets s at w m r → r ≡ Mismatch f → Gone m f
+  literal-wrong w (ok v u q) f k h = clash (cc (k .answer))
+  literal-wrong w (bad x p) f k h = record { k = x; p = p; is = refl; fault = cc }
 
-  pub number-whole : (m : Parsed Value) (r : Numeral) → NumberMeets s at m r → r .fault ≡ 0 → Whole m (λ v u q. NumberRead s at v u q r)
-  number-whole (ok v u q) r k z = record { got = v; rest = u; end = q; is = refl; promise = k }
-  number-whole (bad f p) r k z = absurd (some-fault f (sym (k .number) ∙ z))
+  pub number-whole : (m : Parsed Value) {r : Numeral} (e b : ℕ) → NumberMeets s at m r → r ≡ Integer e b → Counted s at m e b
+  number-whole (ok v u q) e b k h =
+      let i : q ≡ e = cc (k .answer) in
+      let c : b ≡ biased (k .z) = cc (k .answer) in
+      record {
+        z = k .z;
+        is = (λ j. ok (k .is j) (k .left j) q) ∙ (λ j. ok (scalar (integer (k .z))) (drop (i j) s) (i j));
+        content = c;
+        on = omega (arith, k .on);
+        inside = omega (arith, k .inside);
+      }
+  number-whole (bad x p) e b k h = clash cc
 
-  pub number-wrong : (m : Parsed Value) (r : Numeral) → NumberMeets s at m r → (r .fault ≡ 0 → ⊥) → Wrong m (r .fault) (r .at)
-  number-wrong (ok v u q) r k z = absurd (z (k .number))
-  number-wrong (bad f p) r k z = record { kind = f; place = p; is = refl; failed = k }
+  pub number-wrong : (m : Parsed Value) {r : Numeral} (f : Fault) → NumberMeets s at m r → r ≡ NoInteger f → Gone m f
+  number-wrong (ok v u q) f k h = clash (cc (k .answer))
+  number-wrong (bad x p) f k h = record { k = x; p = p; is = refl; fault = cc }

@@ -1,5 +1,7 @@
 // Numbers: integers within the limits.
-use crate::token::is_digit;
+use crate::Fault;
+use crate::token::Decimal;
+use crate::token::decimal_of;
 use model::MAX_INTEGER;
 use syntax::BIAS;
 ghost use mathlib.Core.Path.{_≡_};
@@ -7,25 +9,19 @@ ghost use Prim.Native.Nat.{_≤_};
 ghost use lib.ListN.{length, drop};
 ghost use Rattle.model.specs.Limits.{maxInteger};
 ghost use Rattle.syntax.specs.Read as reading;
-ghost use Rattle.syntax.specs.Tokens.{digitValue};
-ghost use Rattle.scan.specs.Contract.{NumberMeets};
+ghost use Rattle.scan.specs.Contract.{faultAt, NumberMeets};
 ghost use Rattle.scan.specs.Inner.{Signed, ending, Rest};
 
-// How the reading of a number ended: the integer plus 2^53, or a fault at `at`.
-pub struct Numeral {
-    pub fault: u32,
-    pub at: usize,
-    pub biased: u64,
+// An integer, plus 2^53, that ends at `at`; or a fault.
+pub enum Numeral {
+    Integer { at: usize, biased: u64 },
+    NoInteger(Fault),
 }
 
 fn fault(number: u32, at: usize) -> Numeral
-    ensures { λ r. ⌜ (r .fault ≡ number) × (r .at ≡ at) ⌝ }
+    ensures { λ r. ⌜ r ≡ Numeral.NoInteger (faultAt number at) ⌝ }
 {
-    Numeral {
-        fault: number,
-        at,
-        biased: 0,
-    }
+    Numeral::NoInteger(Fault { number, at })
 }
 
 fn signed(at: usize, negative: bool, n: u64) -> Numeral
@@ -33,14 +29,12 @@ fn signed(at: usize, negative: bool, n: u64) -> Numeral
     ensures { λ r. ⌜ Signed at negative n r ⌝ }
 {
     if negative {
-        return Numeral {
-            fault: 0,
+        return Numeral::Integer {
             at,
             biased: BIAS - n,
         };
     }
-    Numeral {
-        fault: 0,
+    Numeral::Integer {
         at,
         biased: BIAS + n,
     }
@@ -50,13 +44,13 @@ fn signed(at: usize, negative: bool, n: u64) -> Numeral
 fn is_part(b: u8) -> bool
     ensures { λ r. ⌜ r ≡ reading.isPart b ⌝ }
 {
-    if b == 46 {
+    if b == b'.' {
         return true;
     }
-    if b == 101 {
+    if b == b'e' {
         return true;
     }
-    b == 69
+    b == b'E'
 }
 
 // The end of the number `n` at `at`, where no digit of it stands.
@@ -73,13 +67,6 @@ fn ended(text: &[u8], at: usize, negative: bool, n: u64) -> Numeral
     signed(at, negative, n)
 }
 
-fn digit_value(b: u8) -> u64
-    requires { ⌜ 48 ≤ b ⌝ }
-    ensures { λ r. ⌜ r ≡ digitValue b ⌝ }
-{
-    (b - 48) as u64
-}
-
 // The digits from `at` on, after those that make `first`.
 fn digits(text: &[u8], at: usize, negative: bool, first: u64) -> Numeral
     requires { ⌜ (at ≤ length (now text)) × (first ≤ maxInteger) ⌝ }
@@ -88,11 +75,10 @@ fn digits(text: &[u8], at: usize, negative: bool, first: u64) -> Numeral
     let mut i = at;
     let mut n = first;
     while i < text.len() {
-        let b = text[i];
-        if !is_digit(b) {
+        let Decimal::DecimalDigit(d) = decimal_of(text[i]) else {
             return ended(text, i, negative, n);
-        }
-        n = n * 10 + digit_value(b);
+        };
+        n = n * 10 + d as u64;
         if MAX_INTEGER < n {
             return fault(4, i);
         }
@@ -103,18 +89,16 @@ fn digits(text: &[u8], at: usize, negative: bool, first: u64) -> Numeral
 
 // The integer at `at`, its sign having been read.
 pub fn number(text: &[u8], at: usize, negative: bool) -> Numeral
-    requires { ⌜ at ≤ length (now text) ⌝ }
     ensures { λ r. ⌜ NumberMeets (now (text .entry)) at (reading.int negative (drop at (now (text .entry))) at) r ⌝ }
 {
     if text.len() <= at {
         return fault(2, at);
     }
-    let b = text[at];
-    if !is_digit(b) {
+    let Decimal::DecimalDigit(d) = decimal_of(text[at]) else {
         return fault(2, at);
-    }
-    if b == 48 {
+    };
+    if d == 0 {
         return ended(text, at + 1, negative, 0);
     }
-    digits(text, at + 1, negative, digit_value(b))
+    digits(text, at + 1, negative, d as u64)
 }

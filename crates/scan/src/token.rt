@@ -1,15 +1,15 @@
 // White space, literals, and what a single byte decides.
+use crate::Fault;
 use model::MAX_NESTING;
 use model::MAX_VALUES;
 use syntax::Separator;
 use syntax::Start;
 use syntax::Word;
 ghost use mathlib.Core.Path.{_≡_};
-ghost use Prim.Native.Nat.{_≤_};
-ghost use lib.ListN.{length, drop};
+ghost use lib.ListN.{drop};
 ghost use Rattle.syntax.specs.Read as reading;
 ghost use Rattle.syntax.specs.Tokens as tokens;
-ghost use Rattle.scan.specs.Contract.{Skipped, Started, Separated, Stands, LiteralMeets};
+ghost use Rattle.scan.specs.Contract.{Skipped, Started, decimalOf, Separated, Stands, LiteralMeets};
 ghost use Rattle.scan.specs.Inner.{Compared};
 
 // The offset after the white space at `at`.
@@ -29,16 +29,16 @@ pub fn skip_white(text: &[u8], at: usize) -> usize
 fn is_white(b: u8) -> bool
     ensures { λ r. ⌜ r ≡ tokens.isWhite b ⌝ }
 {
-    if b == 32 {
+    if b == b' ' {
         return true;
     }
-    if b == 9 {
+    if b == b'\t' {
         return true;
     }
-    if b == 10 {
+    if b == b'\n' {
         return true;
     }
-    b == 13
+    b == b'\r'
 }
 
 // What stands at `at`, where a value is to begin: `row` values began before it, `depth` arrays and objects deep.
@@ -54,28 +54,28 @@ pub fn start(text: &[u8], at: usize, row: usize, depth: usize) -> Start
 fn start_of(row: usize, depth: usize, b: u8) -> Start
     ensures { λ r. ⌜ r ≡ tokens.startOf row depth b ⌝ }
 {
-    if b == 34 {
+    if b == b'"' {
         return counted(row, Start::Quote);
     }
-    if b == 91 {
+    if b == b'[' {
         return counted(row, nested(depth, Start::Bracket));
     }
-    if b == 123 {
+    if b == b'{' {
         return counted(row, nested(depth, Start::Brace));
     }
-    if is_digit(b) {
+    if let Decimal::DecimalDigit(_) = decimal_of(b) {
         return counted(row, Start::Digit);
     }
-    if b == 45 {
+    if b == b'-' {
         return counted(row, Start::Minus);
     }
-    if b == 116 {
+    if b == b't' {
         return counted(row, Start::Literal(Word::TrueWord));
     }
-    if b == 102 {
+    if b == b'f' {
         return counted(row, Start::Literal(Word::FalseWord));
     }
-    if b == 110 {
+    if b == b'n' {
         return counted(row, Start::Literal(Word::NullWord));
     }
     Start::NoValue
@@ -99,13 +99,22 @@ fn nested(depth: usize, kind: Start) -> Start
     kind
 }
 
-pub fn is_digit(b: u8) -> bool
-    ensures { λ r. ⌜ r ≡ tokens.isDigit b ⌝ }
+// A decimal digit's number.
+pub enum Decimal {
+    DecimalDigit(u8),
+    NoDecimal,
+}
+
+pub fn decimal_of(b: u8) -> Decimal
+    ensures { λ r. ⌜ r ≡ decimalOf b ⌝ }
 {
-    if b < 48 {
-        return false;
+    if b < b'0' {
+        return Decimal::NoDecimal;
     }
-    b <= 57
+    if b'9' < b {
+        return Decimal::NoDecimal;
+    }
+    Decimal::DecimalDigit(b - b'0')
 }
 
 // What stands at `at`, after an item or a member.
@@ -116,7 +125,7 @@ pub fn separator(text: &[u8], at: usize, close: u8) -> Separator
         return Separator::Neither;
     }
     let b = text[at];
-    if b == 44 {
+    if b == b',' {
         return Separator::Comma;
     }
     if b == close {
@@ -135,36 +144,31 @@ pub fn stands(text: &[u8], at: usize, b: u8) -> bool
     text[at] == b
 }
 
-// Where a literal ends or fails.
-pub struct Matched {
-    pub fault: u32,
-    pub at: usize,
+// Where a literal ends, or the fault of the first byte that differs.
+pub enum WordMatch {
+    Matched(usize),
+    Mismatch(Fault),
 }
 
 // The bytes of `word` at `at`, up to the first that differs.
-fn compare(text: &[u8], at: usize, word: &[u8]) -> Matched
-    requires { ⌜ at ≤ length (now text) ⌝ }
+fn compare(text: &[u8], at: usize, word: &[u8]) -> WordMatch
     ensures { λ r. ⌜ Compared (now (text .entry)) at (now (word .entry)) r ⌝ }
 {
     let mut i = 0;
     while i < word.len() {
         if !stands(text, at + i, word[i]) {
-            return Matched {
-                fault: 2,
+            return WordMatch::Mismatch(Fault {
+                number: 2,
                 at: at + i,
-            };
+            });
         }
         i += 1;
     }
-    Matched {
-        fault: 0,
-        at: at + i,
-    }
+    WordMatch::Matched(at + i)
 }
 
 // The literal at `at`.
-pub fn literal(text: &[u8], at: usize, word: Word) -> Matched
-    requires { ⌜ at ≤ length (now text) ⌝ }
+pub fn literal(text: &[u8], at: usize, word: Word) -> WordMatch
     ensures { λ r. ⌜ LiteralMeets (now (text .entry)) at word (reading.literal word (drop at (now (text .entry))) at) r ⌝ }
 {
     match word {

@@ -22,7 +22,7 @@ fault-requires : tie.Need-fault-requires
 fault-requires c κs = search needs
 
 returns : tie.Need-returns
-returns c = stops-at notJson (c .before .before .before .before .before .pre .0 .inside) (char-short _ _ _ _ _ (c .before .before .before .before .before .pre .1) (c .before .before .tails .ensures) (c .before .if1 .taken)) (c .fault .ensures .0) (c .fault .ensures .1)
+returns c = stops-at notJson (c .before .before .before .before .before .pre .0 .inside) (char-short _ _ _ _ _ (c .before .before .before .before .before .pre .1) (c .before .before .tails .ensures) (c .before .if1 .taken)) (c .fault .ensures)
 
 add-copy : tie.Need-add-copy
 add-copy c = search needs
@@ -46,7 +46,7 @@ same-length : tie.Need-same-length
 same-length c = search needs
 
 returns-2 : tie.Need-returns-2
-returns-2 c = gives (taken-char _ _ _ _ _ (c .before .before .before .before .before .before .before .before .pre .1) (c .before .before .before .before .before .tails .ensures) _ _ _ (c .before .before .before .before .if1 .left) (c .before .before .copy .ensures)) (omega arith) refl
+returns-2 c = gives (taken-char _ _ _ _ _ (c .before .before .before .before .before .before .before .before .pre .1) (c .before .before .before .before .before .tails .ensures) _ _ _ (c .before .before .before .before .if1 .left) (c .before .before .copy .ensures)) (omega arith)
 
 pub character-spec : {M : Type 1} → statement M
 character-spec =

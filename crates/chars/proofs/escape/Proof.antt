@@ -16,7 +16,7 @@ fault-requires : tie.Need-fault-requires
 fault-requires c κs = search needs
 
 returns : tie.Need-returns
-returns c = stops-at notJson (c .before .before .before .before .pre .0 .inside) (letter-end _ _ (c .before .before .before .before .pre .1) (c .before .if1 .taken)) (c .fault .ensures .0) (c .fault .ensures .1)
+returns c = stops-at notJson (c .before .before .before .before .pre .0 .inside) (letter-end _ _ (c .before .before .before .before .pre .1) (c .before .if1 .taken)) (c .fault .ensures)
 
 add-escape-of : tie.Need-add-escape-of
 add-escape-of c = search needs
@@ -58,7 +58,7 @@ same-length : tie.Need-same-length
 same-length c = search needs
 
 returns-2 : tie.Need-returns-2
-returns-2 c = gives (taken-letter _ _ (c .before .before .before .before .before .before .before .before .pre .1) _ _ _ (c .before .before .before .before .before .if1 .left) (sym (c .before .before .before .escape-of .ensures) ∙ c .before .kind .given .1)) (omega arith) refl
+returns-2 c = gives (taken-letter _ _ (c .before .before .before .before .before .before .before .before .pre .1) _ _ _ (c .before .before .before .before .before .if1 .left) (sym (c .before .before .before .escape-of .ensures) ∙ c .before .kind .given .1)) (omega arith)
 
 same-length-2 : tie.Need-same-length-2
 same-length-2 c = search needs
@@ -67,7 +67,7 @@ returns-3 : tie.Need-returns-3
 returns-3 c = search needs
 
 returns-4 : tie.Need-returns-4
-returns-4 c = stops-at notJson (c .before .before .before .before .before .before .before .before .pre .0 .inside) (letter-not _ _ (c .before .before .before .before .before .before .before .before .pre .1) (c .before .before .before .before .before .if1 .left) (sym (c .before .before .before .escape-of .ensures) ∙ c .before .enum-told2 .given .1)) (c .fault2 .ensures .0) (c .fault2 .ensures .1)
+returns-4 c = stops-at notJson (c .before .before .before .before .before .before .before .before .pre .0 .inside) (letter-not _ _ (c .before .before .before .before .before .before .before .before .pre .1) (c .before .before .before .before .before .if1 .left) (sym (c .before .before .before .escape-of .ensures) ∙ c .before .enum-told2 .given .1)) (c .fault2 .ensures)
 
 pub escape-spec : {M : Type 1} → statement M
 escape-spec =

@@ -51,14 +51,14 @@ put-utf8-requires : tie.Need-put-utf8-requires
 put-utf8-requires c κs = omega (arith, unit-as _ _ (c .before .before .before .before .before .before .before .pre .1 .of), unit-as _ _ (second (c .before) .of), second (c .before) .inside)
 
 returns : tie.Need-returns
-returns c = stops-high (c .before .before .before .before .before .before .pre .1) (rw (c .before .enum-told .given .1) at (c .before .before .before .low-half .ensures)) (c .fault .ensures .0) (c .fault .ensures .1)
+returns c = stops-high (c .before .before .before .before .before .before .pre .1) (rw (c .before .enum-told .given .1) at (c .before .before .before .low-half .ensures)) (c .fault .ensures)
 
 same-length : tie.Need-same-length
 same-length c = search needs
 
 returns-2 : tie.Need-returns-2
 unfolding pairOf
-returns-2 c = gives (taken-pair (c .before .before .before .before .before .before .before .before .before .before .pre .1) (second (c .before .before .before .before)) (c .before .before .put-utf8 .ensures)) (omega arith) refl
+returns-2 c = gives (taken-pair (c .before .before .before .before .before .before .before .before .before .before .pre .1) (second (c .before .before .before .before)) (c .before .before .put-utf8 .ensures)) (omega arith)
 
 pub pair-spec : {M : Type 1} → statement M
 pair-spec =

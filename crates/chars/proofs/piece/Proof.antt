@@ -12,7 +12,7 @@ fault-requires : tie.Need-fault-requires
 fault-requires c κs = search needs
 
 returns : tie.Need-returns
-returns c = stops-at notJson (c .before .before .before .before .pre .0 .inside) (char-end _ _ (c .before .if1 .taken)) (c .fault .ensures .0) (c .fault .ensures .1)
+returns c = stops-at notJson (c .before .before .before .before .pre .0 .inside) (char-end _ _ (c .before .if1 .taken)) (c .fault .ensures)
 
 shared-slice-read-lead-of : tie.Need-shared-slice-read-lead-of
 shared-slice-read-lead-of c = search needs
@@ -63,7 +63,7 @@ returns-4 : tie.Need-returns-4
 returns-4 c = absurd (stands-not (c .before .before .before .before .before .before .before .before .pre .1) (c .before .before .before .before .before .if1 .left) refl (lead-as _ _ (sym (c .before .before .before .lead-of .ensures) ∙ c .before .enum-told2 .given .1)))
 
 returns-5 : tie.Need-returns-5
-returns-5 c = stops-at notJson (c .before .before .before .before .before .before .before .before .pre .0 .inside) (char-never _ _ (c .before .before .before .before .before .if1 .left) (sym (c .before .before .before .lead-of .ensures) ∙ c .before .enum-told3 .given .1)) (c .fault3 .ensures .0) (c .fault3 .ensures .1)
+returns-5 c = stops-at notJson (c .before .before .before .before .before .before .before .before .pre .0 .inside) (char-never _ _ (c .before .before .before .before .before .if1 .left) (sym (c .before .before .before .lead-of .ensures) ∙ c .before .enum-told3 .given .1)) (c .fault3 .ensures)
 
 pub piece-spec : {M : Type 1} → statement M
 piece-spec =

@@ -29,7 +29,7 @@ unit-requires : tie.Need-unit-requires
 unit-requires c κs = (c .before .before .before .before .before .before .before .pre .0, escaped (c .before .before .before .before .before .before .before .pre .1) (read (c .before)), read (c .before) .small)
 
 returns : tie.Need-returns
-returns c = stops-at notJson (c .before .before .before .before .before .before .before .pre .0 .inside) (unit-not (c .before .before .before .before .before .before .before .pre .1) (rw (c .before .before .digits .given .1) at (c .before .before .before .before .code-unit .ensures))) (c .fault .ensures .0) (c .fault .ensures .1)
+returns c = stops-at notJson (c .before .before .before .before .before .before .before .pre .0 .inside) (unit-not (c .before .before .before .before .before .before .before .pre .1) (rw (c .before .before .digits .given .1) at (c .before .before .before .before .code-unit .ensures))) (c .fault .ensures)
 
 same-length : tie.Need-same-length
 same-length c = search needs

@@ -33,7 +33,7 @@ same-length : tie.Need-same-length
 same-length c = search needs
 
 returns : tie.Need-returns
-returns c = gives (taken-unit (of-kind (c .before .before .before .before .before .before .before .before .before .pre .1) (sym (c .before .before .before .before .before .before .unit-of .ensures) ∙ c .before .before .before .before .enum-told .given .1)) (c .before .before .put-utf8 .ensures)) (omega arith) refl
+returns c = gives (taken-unit (of-kind (c .before .before .before .before .before .before .before .before .before .pre .1) (sym (c .before .before .before .before .before .before .unit-of .ensures) ∙ c .before .before .before .before .enum-told .given .1)) (c .before .before .put-utf8 .ensures)) (omega arith)
 
 same-length-2 : tie.Need-same-length-2
 same-length-2 c = search needs
@@ -42,7 +42,7 @@ returns-2 : tie.Need-returns-2
 returns-2 c = search needs
 
 returns-3 : tie.Need-returns-3
-returns-3 c = stops-low (of-kind (c .before .before .before .before .before .before .pre .1) (sym (c .before .before .before .unit-of .ensures) ∙ c .before .enum-told3 .given .1)) (c .fault .ensures .0) (c .fault .ensures .1)
+returns-3 c = stops-low (of-kind (c .before .before .before .before .before .before .pre .1) (sym (c .before .before .before .unit-of .ensures) ∙ c .before .enum-told3 .given .1)) (c .fault .ensures)
 
 pub unit-spec : {M : Type 1} → statement M
 unit-spec =

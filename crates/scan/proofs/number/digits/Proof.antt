@@ -3,10 +3,16 @@ use Prim.Native.Nat.{_-_}
 use native.Mathlib.Omega.{arith}
 use lib.ListN.{length}
 use Rattle.model.specs.Limits.{maxInteger}
-use Rattle.model.specs.Laws.Branches.{answered-true, answered-false}
-use Rattle.scan.proofs.Numerals.{digit-low, digit-high, Counting, count-start, count-more, count-stop, count-past, count-end}
+use Rattle.scan.specs.Laws.{decimal-as}
+use Rattle.scan.proofs.Numerals.{Counting, count-start, count-more, count-stop, count-past, count-end}
 use Rattle.scan.proofs.number.digits.Statement.{statement}
 use Rattle.scan.proofs.number.digits.Tie as tie
+use Rattle.scan.proofs.number.digits.Reads as reads
+use Rattle.scan.proofs.number.digits.Lts as lts
+use Rattle.scan.proofs.number.ended.Reads as ended-reads
+use Rattle.scan.proofs.number.fault.Reads as fault-reads
+use Rattle.scan.proofs.number.signed.Reads as signed-reads
+use Rattle.scan.proofs.token.decimal_of.Reads as decimal-of-reads
 
 abbrev Inv-loop : tie.InvT-loop
 Inv-loop text at negative first i₀ n₀ i n = Counting text at negative first i n
@@ -14,63 +20,83 @@ Inv-loop text at negative first i₀ n₀ i n = Counting text at negative first 
 abbrev μ-loop : tie.MeasureT-loop
 μ-loop text at negative first i₀ n₀ i n = length text - i
 
+-- src/number.rt:77:5
 loop-holds : tie.Need-loop-holds Inv-loop μ-loop
 loop-holds c = count-start _ _ _ _ (c .before .pre .0) (c .before .pre .1)
 
-shared-slice-read-b : tie.Need-shared-slice-read-b Inv-loop μ-loop
-shared-slice-read-b c = omega arith
+-- src/number.rt:78:51
+shared-slice-read-decimal-of : tie.Need-shared-slice-read-decimal-of Inv-loop μ-loop
+shared-slice-read-decimal-of c = omega arith
 
-is-digit-requires : tie.Need-is-digit-requires Inv-loop μ-loop
-is-digit-requires c κs = search needs
+-- src/number.rt:78:40
+decimal-of-requires : tie.Need-decimal-of-requires Inv-loop μ-loop
+decimal-of-requires c κs = search needs
 
+-- src/number.rt:78:35
+enum-known-d : tie.Need-enum-known-d Inv-loop μ-loop
+enum-known-d c = search needs
+
+-- src/number.rt:79:13
+enum-told : tie.Need-enum-told Inv-loop μ-loop
+enum-told c = search needs
+
+-- src/number.rt:79:13
 ended-requires : tie.Need-ended-requires Inv-loop μ-loop
 ended-requires c κs =
-    let l = c .before .before .before .before .loop in
+    let l = c .before .before .before .before .before .loop in
     (l .inv .inside, l .inv .small)
 
+-- src/number.rt:79:13
 returns : tie.Need-returns Inv-loop μ-loop
 returns c =
-    let d = c .before .before in let t = d .before .before in
-    count-stop (t .before .loop .inv) (t .loop-test .taken) (answered-false (d .is-digit .ensures) (c .before .if1 .taken)) (c .ended .ensures)
+    count-stop (c .before .before .before .before .before .before .loop .inv) (c .before .before .before .before .before .loop-test .taken) (decimal-as _ (c .before .before .before .decimal-of .ensures) (c .before .enum-told .given .1)) (c .ended .ensures)
 
+-- src/number.rt:81:13
 mul-n : tie.Need-mul-n Inv-loop μ-loop
 unfolding maxInteger
-mul-n c = omega (arith, c .before .before .before .before .loop .inv .small)
+mul-n c = omega (arith, c .before .before .before .before .before .before .loop .inv .small)
 
-digit-value-requires : tie.Need-digit-value-requires Inv-loop μ-loop
-digit-value-requires c κs = digit-low _ (answered-true (c .before .is-digit .ensures) (c .if1 .left))
+-- src/number.rt:81:22
+cast-n : tie.Need-cast-n Inv-loop μ-loop
+cast-n c = omega (arith, decimal-as _ (c .before .before .before .decimal-of .ensures) (c .before .d .given .1))
 
+-- src/number.rt:81:13
 add-n : tie.Need-add-n Inv-loop μ-loop
 unfolding maxInteger
 add-n c =
-    let d = c .before .before in
-    omega (arith, d .before .before .before .loop .inv .small, digit-high _ (answered-true (d .is-digit .ensures) (c .before .if1 .left)))
+    omega (arith, c .before .before .before .before .before .before .loop .inv .small, decimal-as _ (c .before .before .before .decimal-of .ensures) (c .before .d .given .1))
 
+-- src/number.rt:83:13
 fault-requires : tie.Need-fault-requires Inv-loop μ-loop
 fault-requires c κs = search needs
 
+-- src/number.rt:83:13
 returns-2 : tie.Need-returns-2 Inv-loop μ-loop
 unfolding maxInteger
 returns-2 c =
-    let v = c .before .before in let d = v .before .before in let t = d .before .before in
-    count-past (t .before .loop .inv) (t .loop-test .taken) (answered-true (d .is-digit .ensures) (v .before .if1 .left)) (v .digit-value .ensures)
-    (c .before .if2 .taken) (c .fault .ensures)
+    let d = decimal-as _ (c .before .before .before .before .before .decimal-of .ensures) (c .before .before .before .d .given .1) in
+    count-past (c .before .before .before .before .before .before .before .before .loop .inv) (c .before .before .before .before .before .before .before .loop-test .taken) (d .0) (d .1) (c .before .if1 .taken) (c .fault .ensures)
 
+-- src/number.rt:85:9
 add-i : tie.Need-add-i Inv-loop μ-loop
 add-i c = omega arith
 
+-- src/number.rt:77:5
 loop-less : tie.Need-loop-less Inv-loop μ-loop
 loop-less c = omega arith
 
+-- src/number.rt:77:5
 loop-again : tie.Need-loop-again Inv-loop μ-loop
 unfolding maxInteger
 loop-again c =
-    let v = c .before in let d = v .before .before in let t = d .before .before in
-    count-more (t .before .loop .inv) (t .loop-test .taken) (answered-true (d .is-digit .ensures) (v .before .if1 .left)) (v .digit-value .ensures) (c .if2 .left)
+    let d = decimal-as _ (c .before .before .before .before .decimal-of .ensures) (c .before .before .d .given .1) in
+    count-more (c .before .before .before .before .before .before .before .loop .inv) (c .before .before .before .before .before .before .loop-test .taken) (d .0) (d .1) (c .if1 .left)
 
+-- src/number.rt:87:5
 signed-requires : tie.Need-signed-requires Inv-loop μ-loop
 signed-requires c κs = c .before .loop .inv .small
 
+-- src/number.rt:71:1
 returns-3 : tie.Need-returns-3 Inv-loop μ-loop
 returns-3 c = count-end (c .before .before .loop .inv) (c .before .loop-test .left) (c .signed .ensures)
 
@@ -81,12 +107,14 @@ digits-spec =
     Inv-loop
     μ-loop
     loop-holds
-    shared-slice-read-b
-    is-digit-requires
+    shared-slice-read-decimal-of
+    decimal-of-requires
+    enum-known-d
+    enum-told
     ended-requires
     returns
     mul-n
-    digit-value-requires
+    cast-n
     add-n
     fault-requires
     returns-2

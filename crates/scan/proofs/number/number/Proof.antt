@@ -1,57 +1,81 @@
 use borrow.Author.Needs.{needs}
+use mathlib.Core.Path.{sym, _∙_}
 use native.Mathlib.Omega.{arith}
 use Rattle.model.specs.Limits.{maxInteger}
-use Rattle.model.specs.Laws.Branches.{answered-true, answered-false}
-use Rattle.scan.proofs.Numerals.{digit-low, digit-high, number-end, number-none, number-zero, number-digits}
+use Rattle.scan.specs.Laws.{decimal-as}
+use Rattle.scan.proofs.Numerals.{number-end, number-none, number-zero, number-digits}
 use Rattle.scan.proofs.number.number.Statement.{statement}
 use Rattle.scan.proofs.number.number.Tie as tie
+use Rattle.scan.proofs.number.number.Reads as reads
+use Rattle.scan.proofs.number.number.Lts as lts
+use Rattle.scan.proofs.number.digits.Reads as digits-reads
+use Rattle.scan.proofs.number.ended.Reads as ended-reads
+use Rattle.scan.proofs.number.fault.Reads as fault-reads
+use Rattle.scan.proofs.token.decimal_of.Reads as decimal-of-reads
 
+-- src/number.rt:95:9
 fault-requires : tie.Need-fault-requires
 fault-requires c κs = search needs
 
+-- src/number.rt:95:9
 returns : tie.Need-returns
 returns c = number-end _ _ _ _ (c .before .if1 .taken) (c .fault .ensures)
 
-shared-slice-read-b : tie.Need-shared-slice-read-b
-shared-slice-read-b c = search needs
+-- src/number.rt:97:47
+shared-slice-read-decimal-of : tie.Need-shared-slice-read-decimal-of
+shared-slice-read-decimal-of c = omega arith
 
-is-digit-requires : tie.Need-is-digit-requires
-is-digit-requires c κs = search needs
+-- src/number.rt:97:36
+decimal-of-requires : tie.Need-decimal-of-requires
+decimal-of-requires c κs = search needs
 
+-- src/number.rt:97:31
+enum-known-d : tie.Need-enum-known-d
+enum-known-d c = search needs
+
+-- src/number.rt:98:9
+enum-told : tie.Need-enum-told
+enum-told c = search needs
+
+-- src/number.rt:98:9
 fault-requires-2 : tie.Need-fault-requires-2
 fault-requires-2 c κs = search needs
 
+-- src/number.rt:98:9
 returns-2 : tie.Need-returns-2
 returns-2 c =
-    let d = c .before .before in
-    number-none _ _ _ _ (d .before .before .if1 .left) (answered-false (d .is-digit .ensures) (c .before .if2 .taken)) (c .fault2 .ensures)
+    number-none _ _ _ _ (c .before .before .before .before .before .if1 .left) (decimal-as _ (c .before .before .before .decimal-of .ensures) (c .before .enum-told .given .1)) (c .fault2 .ensures)
 
+-- src/number.rt:101:28
 add-ended : tie.Need-add-ended
 add-ended c = search needs
 
+-- src/number.rt:101:9
 ended-requires : tie.Need-ended-requires
 ended-requires c κs = search needs
 
+-- src/number.rt:101:9
 returns-3 : tie.Need-returns-3
-returns-3 c = number-zero _ _ _ _ (c .before .before .before .before .before .if1 .left) (c .before .if3 .taken) (c .ended .ensures)
+returns-3 c = let d = decimal-as _ (c .before .before .before .before .before .decimal-of .ensures) (c .before .before .before .d .given .1) in number-zero _ _ _ _ (c .before .before .before .before .before .before .before .if1 .left) (d .0) (sym (d .1) ∙ c .before .if2 .taken) (c .ended .ensures)
 
+-- src/number.rt:103:18
 add-digits : tie.Need-add-digits
 add-digits c = search needs
 
-digit-value-requires : tie.Need-digit-value-requires
-digit-value-requires c κs = digit-low _ (answered-true (c .before .before .is-digit .ensures) (c .before .if2 .left))
+-- src/number.rt:103:36
+cast-digits : tie.Need-cast-digits
+cast-digits c = omega (arith, decimal-as _ (c .before .before .before .before .decimal-of .ensures) (c .before .before .d .given .1))
 
+-- src/number.rt:103:5
 digits-requires : tie.Need-digits-requires
 unfolding maxInteger
 digits-requires c κs =
-    let d = c .before .before .before in
-    omega (arith, c .digit-value .ensures, digit-high _ (answered-true (d .is-digit .ensures) (c .before .before .if2 .left)))
+    omega (arith, decimal-as _ (c .before .before .before .before .decimal-of .ensures) (c .before .before .d .given .1))
 
+-- src/number.rt:91:1
 returns-4 : tie.Need-returns-4
 returns-4 c =
-    let e = c .before .before in let d = e .before .before in
-    number-digits _ _ _ _ (d .before .before .if1 .left) (answered-true (d .is-digit .ensures) (e .before .if2 .left)) (e .if3 .left)
-    (c .before .digit-value .ensures) (c .digits .ensures)
+    let d = decimal-as _ (c .before .before .before .before .before .decimal-of .ensures) (c .before .before .before .d .given .1) in number-digits _ _ _ _ (c .before .before .before .before .before .before .before .if1 .left) (d .0) (c .before .if2 .left) (d .1) (c .digits .ensures)
 
 pub number-spec : {M : Type 1} → statement M
 number-spec =
@@ -59,14 +83,16 @@ number-spec =
     (tie.spec
     fault-requires
     returns
-    shared-slice-read-b
-    is-digit-requires
+    shared-slice-read-decimal-of
+    decimal-of-requires
+    enum-known-d
+    enum-told
     fault-requires-2
     returns-2
     add-ended
     ended-requires
     returns-3
     add-digits
-    digit-value-requires
+    cast-digits
     digits-requires
     returns-4)
