@@ -18,7 +18,8 @@ use Rattle.heap.specs.declared.handle.Handle.{Handle}
 use Rattle.heap.specs.declared.handle.Handle.the-variants.{Null, False, True, Integer, Instant, String, Compound}
 use Rattle.heap.specs.declared.handle.Parts.{Parts}
 use Rattle.heap.specs.declared.handle.Span.{Span}
-use Rattle.heap.specs.Means.{Lies, Means, means-null, means-false, means-true, means-integer, means-instant, means-string, means-items, means-members, means-list, means-context}
+use Rattle.table.specs.Denotes.{Lies}
+use Rattle.heap.specs.Means.{Means, means-null, means-false, means-true, means-integer, means-instant, means-string, means-items, means-members, means-list, means-context}
 use Rattle.heap.specs.Unfold.{Areas}
 use Rattle.scalars.specs.declared.truth.Truth.{Truth}
 use Rattle.scalars.specs.declared.truth.Truth.the-variants.{Truthy, Falsy, Neither}

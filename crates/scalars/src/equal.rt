@@ -63,18 +63,21 @@ fn is_integer(n: u64, h: Handle) -> bool
     n == m
 }
 
-fn is_string<'a>(rule: &'a [u8], strings: &'a [u8], s: Span, h: Handle) -> bool
-    ensures { λ r. ⌜ r ≡ isThe (now (rule .entry)) (now (strings .entry)) (model.string (spanBytes (now (rule .entry)) (now (strings .entry)) s)) h ⌝ }
+fn is_string<'a>(rule_strings: &'a [u8], record_strings: &'a [u8], s: Span, h: Handle) -> bool
+    ensures { λ r. ⌜ r ≡ isThe (now («rule_strings» .entry)) (now («record_strings» .entry)) (model.string (spanBytes (now («rule_strings» .entry)) (now («record_strings» .entry)) s)) h ⌝ }
 {
     let Handle::String(t) = h else {
         return false;
     };
-    same(bytes(rule, strings, s), bytes(rule, strings, t))
+    same(
+        bytes(rule_strings, record_strings, s),
+        bytes(rule_strings, record_strings, t),
+    )
 }
 
 // Two scalars of the same kind and content; false where either is no scalar.
-fn same_scalar<'a>(rule: &'a [u8], strings: &'a [u8], x: Handle, y: Handle) -> bool
-    ensures { λ r. ⌜ r ≡ sameHandles (now (rule .entry)) (now (strings .entry)) x y ⌝ }
+fn same_scalar<'a>(rule_strings: &'a [u8], record_strings: &'a [u8], x: Handle, y: Handle) -> bool
+    ensures { λ r. ⌜ r ≡ sameHandles (now («rule_strings» .entry)) (now («record_strings» .entry)) x y ⌝ }
 {
     match x {
         Handle::Null => is_null(y),
@@ -82,7 +85,7 @@ fn same_scalar<'a>(rule: &'a [u8], strings: &'a [u8], x: Handle, y: Handle) -> b
         Handle::True => is_boolean(true, y),
         Handle::Integer(n) => is_integer(n, y),
         Handle::Instant(_) => false,
-        Handle::String(s) => is_string(rule, strings, s, y),
+        Handle::String(s) => is_string(rule_strings, record_strings, s, y),
         Handle::Compound(_) => false,
     }
 }
@@ -97,8 +100,13 @@ pub fn negated(x: Handle) -> Operated
     }
 }
 
-pub fn equality<'a>(rule: &'a [u8], strings: &'a [u8], x: Handle, y: Handle) -> Operated
-    ensures { λ r. ⌜ Equality (now (rule .entry)) (now (strings .entry)) x y r ⌝ }
+pub fn equality<'a>(
+    rule_strings: &'a [u8],
+    record_strings: &'a [u8],
+    x: Handle,
+    y: Handle,
+) -> Operated
+    ensures { λ r. ⌜ Equality (now («rule_strings» .entry)) (now («record_strings» .entry)) x y r ⌝ }
 {
     if !is_scalar(x) {
         return Operated::WrongKind;
@@ -106,27 +114,27 @@ pub fn equality<'a>(rule: &'a [u8], strings: &'a [u8], x: Handle, y: Handle) -> 
     if !is_scalar(y) {
         return Operated::WrongKind;
     }
-    boolean(same_scalar(rule, strings, x, y))
+    boolean(same_scalar(rule_strings, record_strings, x, y))
 }
 
 // Whether one of the parts is the same scalar.
 fn is_among<'a>(
-    rule: &'a [u8],
-    strings: &'a [u8],
-    table: &[u8],
+    rule_strings: &'a [u8],
+    record_strings: &'a [u8],
+    record_table: &[u8],
     cells: &[u8],
     x: Handle,
     p: Parts,
 ) -> bool
-    ensures { λ r. ⌜ r ≡ amongParts (now (rule .entry)) (now (strings .entry)) (now (table .entry)) (now (cells .entry)) x (p .count) p ⌝ }
+    ensures { λ r. ⌜ r ≡ amongParts (now («rule_strings» .entry)) (now («record_strings» .entry)) (now («record_table» .entry)) (now (cells .entry)) x (p .count) p ⌝ }
 {
     let mut rest = p;
     while rest.count > 0 {
-        let part = head(table, cells, rest);
-        if same_scalar(rule, strings, x, part) {
+        let part = head(record_table, cells, rest);
+        if same_scalar(rule_strings, record_strings, x, part) {
             return true;
         }
-        rest = tail(table, cells, rest);
+        rest = tail(record_table, cells, rest);
     }
     false
 }
@@ -143,14 +151,14 @@ fn is_array(form: Form) -> bool
 }
 
 pub fn membership<'a>(
-    rule: &'a [u8],
-    strings: &'a [u8],
-    table: &[u8],
+    rule_strings: &'a [u8],
+    record_strings: &'a [u8],
+    record_table: &[u8],
     cells: &[u8],
     x: Handle,
     y: Handle,
 ) -> Operated
-    ensures { λ r. ⌜ Membership (now (rule .entry)) (now (strings .entry)) (now (table .entry)) (now (cells .entry)) x y r ⌝ }
+    ensures { λ r. ⌜ Membership (now («rule_strings» .entry)) (now («record_strings» .entry)) (now («record_table» .entry)) (now (cells .entry)) x y r ⌝ }
 {
     if !is_scalar(x) {
         return Operated::WrongKind;
@@ -162,5 +170,5 @@ pub fn membership<'a>(
     if !is_array(form) {
         return Operated::WrongKind;
     }
-    boolean(is_among(rule, strings, table, cells, x, p))
+    boolean(is_among(rule_strings, record_strings, record_table, cells, x, p))
 }

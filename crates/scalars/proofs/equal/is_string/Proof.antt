@@ -9,7 +9,7 @@ enum-known-h : tie.Need-enum-known-h
 enum-known-h c = search needs
 
 returns : tie.Need-returns
-returns c = not-string (c .before .before .before .args .rule .now) (c .before .before .before .args .strings .now) (c .before .before .before .args .s) (c .before .before .before .args .h) (c .match .keys2)
+returns c = not-string (c .before .before .before .args .rule-strings .now) (c .before .before .before .args .record-strings .now) (c .before .before .before .args .s) (c .before .before .before .args .h) (c .match .keys2)
 
 bytes-requires : tie.Need-bytes-requires
 bytes-requires c κs = search needs
