@@ -26,8 +26,10 @@ use Rattle.heap.specs.declared.handle.Handle.{Handle}
 use Rattle.heap.specs.declared.handle.Handle.the-variants.{Null, String}
 use Rattle.heap.specs.declared.handle.Span.{Span}
 use Rattle.heap.specs.Handles.{span}
-use Rattle.heap.specs.Means.{Lies, Means, means-null, means-false, means-true, means-integer, means-instant, means-string, means-items, means-members, means-list, means-context}
-use Rattle.heap.specs.Strings.{part, areaBytes, spanBytes}
+use Rattle.table.specs.Denotes.{Lies}
+use Rattle.heap.specs.Means.{Means, means-null, means-false, means-true, means-integer, means-instant, means-string, means-items, means-members, means-list, means-context}
+use Rattle.table.specs.Strings.{part}
+use Rattle.heap.specs.Strings.{areaBytes, spanBytes}
 use Rattle.heap.specs.Unfold.{Areas}
 use Rattle.syntax.specs.Laws.Biased.{unbiased-biased}
 use Rattle.result.specs.declared.Operated.{Operated}

@@ -16,7 +16,7 @@ use Rattle.model.specs.Lists.{any}
 use Rattle.model.specs.Operations.{isUvciSeparator, nthString}
 use Rattle.model.specs.Value.{Value}
 use Rattle.bytes.specs.Laws.Fragment.{end-inside, others, first-fragment}
-use Rattle.heap.specs.Strings.{part}
+use Rattle.table.specs.Strings.{part}
 use Rattle.uvci.specs.declared.Fragment.{Fragment}
 use Rattle.uvci.specs.declared.Fragment.the-variants.{Absent, At}
 use Rattle.uvci.specs.Inner.{fragmentSize, fragmentsFrom, numbered, Ends, Finds, finds-none, finds-part}

@@ -10,7 +10,7 @@ use Rattle.model.specs.Operations.{dropPrefix, fragment, isUvciSeparator}
 use Rattle.model.specs.Value.{Value, scalar, null, string}
 use Rattle.syntax.specs.Layout.{unbiased}
 use Rattle.bytes.specs.Fragment.{fragmentLength}
-use Rattle.heap.specs.Strings.{part}
+use Rattle.table.specs.Strings.{part}
 use Rattle.uvci.specs.declared.Fragment.{Fragment}
 use Rattle.uvci.specs.declared.Fragment.the-variants.{Absent, At}
 

@@ -5,9 +5,9 @@ use heap::handle::Handle;
 use heap::handle::Span;
 use heap::handle::string;
 use heap::string::bytes;
-use heap::string::part_of;
 use result::Operated;
 use syntax::BIAS;
+use table::string::part_of;
 ghost use mathlib.Core.Path.{_≡_};
 ghost use Rattle.model.specs.Operations.{nthString};
 ghost use Rattle.uvci.specs.Inner.{Ends, fragmentsFrom, numbered, named, Finds};
@@ -76,23 +76,33 @@ fn find(text: &[u8], index: u64) -> Fragment
 }
 
 // The fragment of a string is a part of the same area.
-fn extract_part<'a>(rule: &'a [u8], strings: &'a [u8], index: u64, s: Span) -> Operated
-    ensures { λ r. ⌜ Extracts (now (rule .entry)) (now (strings .entry)) index (Handle.String s) r ⌝ }
+fn extract_part<'a>(
+    rule_strings: &'a [u8],
+    record_strings: &'a [u8],
+    index: u64,
+    s: Span,
+) -> Operated
+    ensures { λ r. ⌜ Extracts (now («rule_strings» .entry)) (now («record_strings» .entry)) index (Handle.String s) r ⌝ }
 {
     let area = s.area;
-    match find(bytes(rule, strings, s), index) {
+    match find(bytes(rule_strings, record_strings, s), index) {
         Fragment::Absent => Operated::Value(Handle::Null),
         Fragment::At { start, size } => Operated::Value(string(area, s.start + start, size)),
     }
 }
 
 // 01: "null gives null; a non-string is 7." 2^53 was added to the index.
-pub fn extract<'a>(rule: &'a [u8], strings: &'a [u8], index: u64, h: Handle) -> Operated
-    ensures { λ r. ⌜ Extracts (now (rule .entry)) (now (strings .entry)) index h r ⌝ }
+pub fn extract<'a>(
+    rule_strings: &'a [u8],
+    record_strings: &'a [u8],
+    index: u64,
+    h: Handle,
+) -> Operated
+    ensures { λ r. ⌜ Extracts (now («rule_strings» .entry)) (now («record_strings» .entry)) index h r ⌝ }
 {
     match h {
         Handle::Null => Operated::Value(Handle::Null),
-        Handle::String(s) => extract_part(rule, strings, index, s),
+        Handle::String(s) => extract_part(rule_strings, record_strings, index, s),
         _ => Operated::WrongKind,
     }
 }

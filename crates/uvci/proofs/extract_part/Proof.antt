@@ -19,7 +19,7 @@ enum-known-start : tie.Need-enum-known-start
 enum-known-start c = search needs
 
 add-string : tie.Need-add-string
-add-string c = place-fits (c .before .before .before .before .before .before .before .before .args .rule .now) (c .before .before .before .before .before .before .before .before .args .strings .now) (c .before .before .before .before .before .before .before .before .args .s) (omega arith) (omega arith) (omega (arith, c .struct-known .given)) (c .before .before .before .before .before .bytes .ensures) (c .before .before .before .before .find .ensures) (c .before .before .start .given .1)
+add-string c = place-fits (c .before .before .before .before .before .before .before .before .args .rule-strings .now) (c .before .before .before .before .before .before .before .before .args .record-strings .now) (c .before .before .before .before .before .before .before .before .args .s) (omega arith) (omega arith) (omega (arith, c .struct-known .given)) (c .before .before .before .before .before .bytes .ensures) (c .before .before .before .before .find .ensures) (c .before .before .start .given .1)
 
 string-requires : tie.Need-string-requires
 string-requires c κs = search needs
