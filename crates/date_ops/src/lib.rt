@@ -41,31 +41,31 @@ fn moved(t: Instant, amount: u64, unit: TimeUnit) -> Operated
 
 // 2^53 was added to the amount.
 pub fn plus_time<'a>(
-    rule: &'a [u8],
-    strings: &'a [u8],
+    rule_strings: &'a [u8],
+    record_strings: &'a [u8],
     amount: u64,
     unit: TimeUnit,
     h: Handle,
 ) -> Operated
-    ensures { λ r. ⌜ Shifts (now (rule .entry)) (now (strings .entry)) amount unit h r ⌝ }
+    ensures { λ r. ⌜ Shifts (now («rule_strings» .entry)) (now («record_strings» .entry)) amount unit h r ⌝ }
 {
     let Handle::String(s) = h else {
         return Operated::WrongKind;
     };
-    match read_date(bytes(rule, strings, s)) {
+    match read_date(bytes(rule_strings, record_strings, s)) {
         DateAnswer::At(t) => moved(t, amount, unit),
         DateAnswer::BadDate => Operated::BadDate,
         DateAnswer::OutOfRange => Operated::OutOfRange,
     }
 }
 
-pub fn date_of_birth<'a>(rule: &'a [u8], strings: &'a [u8], h: Handle) -> Operated
-    ensures { λ r. ⌜ Born (now (rule .entry)) (now (strings .entry)) h r ⌝ }
+pub fn date_of_birth<'a>(rule_strings: &'a [u8], record_strings: &'a [u8], h: Handle) -> Operated
+    ensures { λ r. ⌜ Born (now («rule_strings» .entry)) (now («record_strings» .entry)) h r ⌝ }
 {
     let Handle::String(s) = h else {
         return Operated::WrongKind;
     };
-    match read_day(bytes(rule, strings, s)) {
+    match read_day(bytes(rule_strings, record_strings, s)) {
         DateAnswer::At(t) => instant(t),
         DateAnswer::BadDate => Operated::BadDate,
         DateAnswer::OutOfRange => Operated::OutOfRange,
