@@ -2,23 +2,20 @@
 use mathlib.Core.Path.{_≡_, refl, ap}
 use mathlib.Core.Bool.{Bool, true, false, cond}
 use mathlib.Core.List.{[], _++_, append-nil, append-assoc}
-use Prim.Native.Nat.{ℕ, zero, suc, _+_, _-_, _*_, _/_, _≤_, max}
+use Prim.Native.Nat.{ℕ, zero, suc, _+_, _-_, _≤_, max}
 use native.Mathlib.Omega.{arith}
-use lib.Dec.{ltb, eqb}
-use lib.ListN.{length}
-use Rattle.area.specs.Words.{wordAt}
+use lib.Dec.{eqb}
 use Rattle.model.specs.Bytes.{Bytes, ascii}
 use Rattle.model.specs.Value.{Value, array, object}
 use Rattle.model.specs.Size.{valueCount, membersCount, nesting, membersNesting}
 use Rattle.model.specs.Writing.{valueText, membersText, stringText}
-use Rattle.syntax.specs.Layout.{rowBytes}
 use Rattle.heap.specs.declared.handle.Handle.{Handle}
 use Rattle.heap.specs.declared.handle.Form.{Form}
 use Rattle.heap.specs.declared.handle.Form.the-variants.{Items, Members, List, Context}
 use Rattle.heap.specs.declared.handle.Parts.{Parts}
-use Rattle.heap.specs.declared.part.Label.the-variants.{Name, Current, Accumulator}
+use Rattle.heap.specs.declared.part.Label.the-variants.{Current, Accumulator}
 use Rattle.heap.specs.Handles.{parts}
-use Rattle.heap.specs.Parts.{headOf, tailOf, rowLabel, contextLabel, labelOf, labelBytes}
+use Rattle.heap.specs.Parts.{headOf, tailOf, contextLabel, labelOf, labelBytes}
 use Rattle.heap.specs.Unfold.{Areas, itemsBy, membersBy, opened}
 use Rattle.writer.specs.Inner.{piece, valuePiece, insidePiece, labelText, commaText, frontText}
 use Rattle.writer.proofs.Pieces.{_⊕_, fronted}
@@ -26,15 +23,7 @@ use Rattle.writer.proofs.Pieces.{_⊕_, fronted}
 abbrev comma : Bytes
 comma = ascii ","
 
--- A member's name and its colon.
-row-label : (B T : Bytes) (row : ℕ) → labelText B (rowLabel T row) ≡ stringText (labelBytes B (rowLabel T row)) ++ ascii ":"
-unfolding rowLabel
-row-label B T row = go (ltb row (length T / rowBytes))
-  where
-    go : (b : Bool) → labelText B (cond b (Name (wordAt T (row * rowBytes + 4)) (wordAt T (row * rowBytes) / 256)) (Name 0 0)) ≡ stringText (labelBytes B (cond b (Name (wordAt T (row * rowBytes + 4)) (wordAt T (row * rowBytes) / 256)) (Name 0 0))) ++ ascii ":"
-    go true = refl
-    go false = refl
-
+-- A name of a context and its colon.
 context-label : (B : Bytes) (n : ℕ) → labelText B (contextLabel n) ≡ stringText (labelBytes B (contextLabel n)) ++ ascii ":"
 context-label B n = go (eqb n 1)
   where
@@ -83,7 +72,7 @@ module _ (a : Areas) (f : Handle → Value) where
       insidePiece (opened a f p) (commaText c) ≡ fronted (frontText (a .strings) (a .table) p c) (valuePiece (first p) ⊕ insidePiece (opened a f (others p)) comma)
   more form i zero c h = absurd (omega arith)
   more Items i (suc n) c h = items-more (parts Items i (suc n)) c n (suc n - 1) (omega arith)
-  more Members i (suc n) c h = members-more (parts Members i (suc n)) c n (suc n - 1) _ (omega arith) (row-label (a .strings) (a .table) i)
+  more Members i (suc n) c h = members-more (parts Members i (suc n)) c n (suc n - 1) _ (omega arith) refl
   more List i (suc n) c h = items-more (parts List i (suc n)) c n (suc n - 1) (omega arith)
   more Context i (suc n) c h = members-more (parts Context i (suc n)) c n (suc n - 1) _ (omega arith) (context-label (a .strings) (suc n))
 

@@ -14,6 +14,7 @@ use Rattle.model.specs.Value.{Value, scalar, instant, array, object}
 use Rattle.model.specs.Eval.{current, accumulator}
 use Rattle.model.specs.Writing.{integerText, stringText, valueText, itemsText, membersText}
 use Rattle.syntax.specs.Layout.{unbiased}
+use Rattle.table.specs.Strings.{bytesOf}
 use Rattle.heap.specs.declared.handle.Handle.{Handle}
 use Rattle.heap.specs.declared.handle.Handle.the-variants.{Null, False, True, Integer, Instant, String, Compound}
 use Rattle.heap.specs.declared.handle.Form.{Form}
@@ -22,7 +23,7 @@ use Rattle.heap.specs.declared.handle.Parts.{Parts}
 use Rattle.heap.specs.declared.part.Label.{Label}
 use Rattle.heap.specs.declared.part.Label.the-variants.{Nothing, Name, Current, Accumulator}
 use Rattle.heap.specs.Parts.{labelOf}
-use Rattle.heap.specs.Strings.{part, spanBytes}
+use Rattle.heap.specs.Strings.{spanBytes}
 use Rattle.heap.specs.Unfold.{Areas, instantAt, opened, unfolded}
 use Rattle.print.specs.Contract.{Put}
 use Rattle.writer.specs.declared.value.Progress.{Progress}
@@ -56,7 +57,7 @@ openingOf Context = 0x7b
 -- A name and its colon.
 abbrev pub labelText : Bytes → Label → Bytes
 labelText B Nothing = []
-labelText B (Name start size) = stringText (part B start size) ++ ascii ":"
+labelText B (Name s) = stringText (bytesOf B s) ++ ascii ":"
 labelText B Current = stringText current ++ ascii ":"
 labelText B Accumulator = stringText accumulator ++ ascii ":"
 

@@ -24,19 +24,19 @@ pub enum Answer {
 // Writes a value into the output, zeros behind its text; on a refusal zeros only. Its handle refers to the strings of the rule (`rule`), the
 // strings and the table of the record, and the cells of the heap, which may hold any bytes.
 pub fn write<'a>(
-    rule: &'a [u8],
-    strings: &'a [u8],
-    table: &[u8],
+    rule_strings: &'a [u8],
+    record_strings: &'a [u8],
+    record_table: &[u8],
     cells: &[u8],
     h: Handle,
     output: &mut [u8],
 ) -> Answer
-    ensures { λ r. ⌜ answered r (now (output .exit)) ≡ handleWritten (areas (now (rule .entry)) (now (strings .entry)) (now (table .entry)) (now (cells .entry))) h (length (now (output .entry))) ⌝ }
+    ensures { λ r. ⌜ answered r (now (output .exit)) ≡ handleWritten (areas (now («rule_strings» .entry)) (now («record_strings» .entry)) (now («record_table» .entry)) (now (cells .entry))) h (length (now (output .entry))) ⌝ }
 {
     let p = write_value(
-        rule,
-        strings,
-        table,
+        rule_strings,
+        record_strings,
+        record_table,
         cells,
         output,
         h,

@@ -3,10 +3,10 @@ use heap::handle::Form;
 use heap::handle::Parts;
 use heap::part::Label;
 use heap::part::name_of;
-use heap::string::part_of;
 use print::bytes::put_byte;
 use print::bytes::put_bytes;
 use print::string::put_string;
+use table::string::bytes_of;
 ghost use mathlib.Core.Path.{_≡_};
 ghost use Prim.Native.Nat.{_+_, _≤_};
 ghost use Rattle.model.specs.Limits.{maxTextBytes};
@@ -25,14 +25,14 @@ pub fn opening(form: Form) -> u8
 }
 
 // A name and its colon; nothing where there is no name.
-fn put_label(strings: &[u8], output: &mut [u8], name: Label, at: usize) -> usize
+fn put_label(record_strings: &[u8], output: &mut [u8], name: Label, at: usize) -> usize
     requires { ⌜ at ≤ maxTextBytes + 2 ⌝ }
-    ensures { λ r. ⌜ Puts (labelText (now (strings .entry)) name) at (now (output .entry)) r (now (output .exit)) ⌝ }
+    ensures { λ r. ⌜ Puts (labelText (now («record_strings» .entry)) name) at (now (output .entry)) r (now (output .exit)) ⌝ }
 {
     match name {
         Label::Nothing => at,
-        Label::Name { start, size } => {
-            let end = put_string(output, at, part_of(strings, start, size));
+        Label::Name(s) => {
+            let end = put_string(output, at, bytes_of(record_strings, s));
             put_byte(output, end, b':');
             end + 1
         }
@@ -49,20 +49,20 @@ fn put_label(strings: &[u8], output: &mut [u8], name: Label, at: usize) -> usize
 
 // A comma, if one is wanted, and the name of the first part with its colon.
 pub fn put_front(
-    strings: &[u8],
-    table: &[u8],
+    record_strings: &[u8],
+    record_table: &[u8],
     output: &mut [u8],
     p: Parts,
     comma: bool,
     at: usize,
 ) -> usize
     requires { ⌜ at ≤ maxTextBytes + 1 ⌝ }
-    ensures { λ r. ⌜ Puts (frontText (now (strings .entry)) (now (table .entry)) p comma) at (now (output .entry)) r (now (output .exit)) ⌝ }
+    ensures { λ r. ⌜ Puts (frontText (now («record_strings» .entry)) (now («record_table» .entry)) p comma) at (now (output .entry)) r (now (output .exit)) ⌝ }
 {
-    let name = name_of(table, p);
+    let name = name_of(record_table, p);
     if comma {
         put_byte(output, at, b',');
-        return put_label(strings, output, name, at + 1);
+        return put_label(record_strings, output, name, at + 1);
     }
-    put_label(strings, output, name, at)
+    put_label(record_strings, output, name, at)
 }

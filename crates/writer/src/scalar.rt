@@ -43,14 +43,14 @@ fn put_since(output: &mut [u8], at: usize, since: u64) -> usize
 
 // A value that is no array or object; nothing for one that is.
 pub fn put_scalar<'a>(
-    rule: &'a [u8],
-    strings: &'a [u8],
+    rule_strings: &'a [u8],
+    record_strings: &'a [u8],
     output: &mut [u8],
     h: Handle,
     at: usize,
 ) -> usize
     requires { ⌜ at ≤ maxTextBytes ⌝ }
-    ensures { λ r. ⌜ Puts (handleText (now (rule .entry)) (now (strings .entry)) h) at (now (output .entry)) r (now (output .exit)) ⌝ }
+    ensures { λ r. ⌜ Puts (handleText (now («rule_strings» .entry)) (now («record_strings» .entry)) h) at (now (output .entry)) r (now (output .exit)) ⌝ }
 {
     match h {
         Handle::Null => {
@@ -67,7 +67,7 @@ pub fn put_scalar<'a>(
         }
         Handle::Integer(n) => put_integer(output, at, n),
         Handle::Instant(n) => put_since(output, at, n),
-        Handle::String(s) => put_string(output, at, bytes(rule, strings, s)),
+        Handle::String(s) => put_string(output, at, bytes(rule_strings, record_strings, s)),
         Handle::Compound(_) => at,
     }
 }

@@ -32,9 +32,9 @@ fn up_to(at: usize, left: usize) -> Progress
 
 // A value at `at`, no deeper than `deep`, of no more than `left` values.
 pub fn write_value<'a>(
-    rule: &'a [u8],
-    strings: &'a [u8],
-    table: &[u8],
+    rule_strings: &'a [u8],
+    record_strings: &'a [u8],
+    record_table: &[u8],
     cells: &[u8],
     output: &mut [u8],
     h: Handle,
@@ -42,7 +42,7 @@ pub fn write_value<'a>(
     at: usize,
     left: usize,
 ) -> Progress
-    ensures { λ r. ⌜ ValueWrites (areas (now (rule .entry)) (now (strings .entry)) (now (table .entry)) (now (cells .entry))) h deep at left (now (output .entry)) r (now (output .exit)) ⌝ }
+    ensures { λ r. ⌜ ValueWrites (areas (now («rule_strings» .entry)) (now («record_strings» .entry)) (now («record_table» .entry)) (now (cells .entry))) h deep at left (now (output .entry)) r (now (output .exit)) ⌝ }
 {
     if left == 0 {
         return Progress::TooLarge;
@@ -51,17 +51,27 @@ pub fn write_value<'a>(
         return Progress::TooLarge;
     }
     let Handle::Compound(p) = h else {
-        let end = put_scalar(rule, strings, output, h, at);
+        let end = put_scalar(rule_strings, record_strings, output, h, at);
         return up_to(end, left - 1);
     };
-    write_compound(rule, strings, table, cells, output, p, deep, at, left)
+    write_compound(
+        rule_strings,
+        record_strings,
+        record_table,
+        cells,
+        output,
+        p,
+        deep,
+        at,
+        left,
+    )
 }
 
 // An array or object.
 fn write_compound<'a>(
-    rule: &'a [u8],
-    strings: &'a [u8],
-    table: &[u8],
+    rule_strings: &'a [u8],
+    record_strings: &'a [u8],
+    record_table: &[u8],
     cells: &[u8],
     output: &mut [u8],
     p: Parts,
@@ -70,7 +80,7 @@ fn write_compound<'a>(
     left: usize,
 ) -> Progress
     requires { ⌜ (at ≤ maxTextBytes) × (1 ≤ left) ⌝ }
-    ensures { λ r. ⌜ ValueWrites (areas (now (rule .entry)) (now (strings .entry)) (now (table .entry)) (now (cells .entry))) (Handle.Compound p) deep at left (now (output .entry)) r (now (output .exit)) ⌝ }
+    ensures { λ r. ⌜ ValueWrites (areas (now («rule_strings» .entry)) (now («record_strings» .entry)) (now («record_table» .entry)) (now (cells .entry))) (Handle.Compound p) deep at left (now (output .entry)) r (now (output .exit)) ⌝ }
 {
     if deep == 0 {
         return Progress::TooLarge;
@@ -81,7 +91,17 @@ fn write_compound<'a>(
     let inner = deep - 1;
     let start = at + 1;
     let others = left - 1;
-    let r = write_parts(rule, strings, table, cells, output, p, inner, start, others);
+    let r = write_parts(
+        rule_strings,
+        record_strings,
+        record_table,
+        cells,
+        output,
+        p,
+        inner,
+        start,
+        others,
+    );
     match r {
         Progress::TooLarge => Progress::TooLarge,
         Progress::At {
@@ -97,9 +117,9 @@ fn write_compound<'a>(
 
 // All parts of an array or object, with commas between them.
 fn write_parts<'a>(
-    rule: &'a [u8],
-    strings: &'a [u8],
-    table: &[u8],
+    rule_strings: &'a [u8],
+    record_strings: &'a [u8],
+    record_table: &[u8],
     cells: &[u8],
     output: &mut [u8],
     p: Parts,
@@ -108,17 +128,27 @@ fn write_parts<'a>(
     left: usize,
 ) -> Progress
     requires { ⌜ at ≤ maxTextBytes + 1 ⌝ }
-    ensures { λ r. ⌜ PartsWrite (areas (now (rule .entry)) (now (strings .entry)) (now (table .entry)) (now (cells .entry))) p deep at left (now (output .entry)) r (now (output .exit)) ⌝ }
+    ensures { λ r. ⌜ PartsWrite (areas (now («rule_strings» .entry)) (now («record_strings» .entry)) (now («record_table» .entry)) (now (cells .entry))) p deep at left (now (output .entry)) r (now (output .exit)) ⌝ }
 {
     let mut rest = p;
     let mut comma = false;
     let mut here = at;
     let mut more = left;
     while rest.count > 0 {
-        let part = head(table, cells, rest);
-        let next = tail(table, cells, rest);
-        let start = put_front(strings, table, output, rest, comma, here);
-        let r = write_value(rule, strings, table, cells, output, part, deep, start, more);
+        let part = head(record_table, cells, rest);
+        let next = tail(record_table, cells, rest);
+        let start = put_front(record_strings, record_table, output, rest, comma, here);
+        let r = write_value(
+            rule_strings,
+            record_strings,
+            record_table,
+            cells,
+            output,
+            part,
+            deep,
+            start,
+            more,
+        );
         match r {
             Progress::TooLarge => {
                 return Progress::TooLarge;

@@ -25,7 +25,7 @@ same-length c = search needs
 
 returns : tie.Need-returns
 unfolding maxNesting maxValues
-returns c = whole-short (unfolded (areas (c .before .before .before .before .before .before .before .before .before .before .before .before .before .before .before .before .before .args .rule .now) (c .before .before .before .before .before .before .before .before .before .before .before .before .before .before .before .before .before .args .strings .now) (c .before .before .before .before .before .before .before .before .before .before .before .before .before .before .before .before .before .args .table .now) (c .before .before .before .before .before .before .before .before .before .before .before .before .before .before .before .before .before .args .cells .now)) maxNesting (c .before .before .before .before .before .before .before .before .before .before .before .before .before .before .before .before .before .args .h)) (c .before .before .before .before .before .before .before .before .before .before .write-value .result) (c .before .before .before .before .before .before .p .given .0 .0) (c .before .before .before .before .before .before .p .given .0 .1 .0) (c .before .before .before .before .before .before .p .given .1) (c .before .before .before .before .before .before .before .before .before .before .write-value .ensures .writes) (c .before .before .before .before .before .before .before .before .before .before .write-value .kept .1 .1 .1 .1 .0) (c .before .before .before .before .if1 .taken) (c .before .before .clear-from2 .ensures)
+returns c = whole-short (unfolded (areas (c .before .before .before .before .before .before .before .before .before .before .before .before .before .before .before .before .before .args .rule-strings .now) (c .before .before .before .before .before .before .before .before .before .before .before .before .before .before .before .before .before .args .record-strings .now) (c .before .before .before .before .before .before .before .before .before .before .before .before .before .before .before .before .before .args .record-table .now) (c .before .before .before .before .before .before .before .before .before .before .before .before .before .before .before .before .before .args .cells .now)) maxNesting (c .before .before .before .before .before .before .before .before .before .before .before .before .before .before .before .before .before .args .h)) (c .before .before .before .before .before .before .before .before .before .before .write-value .result) (c .before .before .before .before .before .before .p .given .0 .0) (c .before .before .before .before .before .before .p .given .0 .1 .0) (c .before .before .before .before .before .before .p .given .1) (c .before .before .before .before .before .before .before .before .before .before .write-value .ensures .writes) (c .before .before .before .before .before .before .before .before .before .before .write-value .kept .1 .1 .1 .1 .0) (c .before .before .before .before .if1 .taken) (c .before .before .clear-from2 .ensures)
 
 clear-from-requires-3 : tie.Need-clear-from-requires-3
 clear-from-requires-3 c κs = search needs
@@ -35,14 +35,14 @@ same-length-2 c = search needs
 
 returns-2 : tie.Need-returns-2
 unfolding maxNesting maxValues
-returns-2 c = whole-over (unfolded (areas (c .before .before .before .before .before .before .before .before .before .before .before .before .before .before .before .args .rule .now) (c .before .before .before .before .before .before .before .before .before .before .before .before .before .before .before .args .strings .now) (c .before .before .before .before .before .before .before .before .before .before .before .before .before .before .before .args .table .now) (c .before .before .before .before .before .before .before .before .before .before .before .before .before .before .before .args .cells .now)) maxNesting (c .before .before .before .before .before .before .before .before .before .before .before .before .before .before .before .args .h)) (c .before .before .before .before .before .before .before .before .write-value .result) (c .before .before .before .before .enum-told .given .1) (c .before .before .before .before .before .before .before .before .write-value .ensures .writes) (c .before .before .before .before .before .before .before .before .write-value .kept .1 .1 .1 .1 .0) (c .before .before .clear-from .ensures)
+returns-2 c = whole-over (unfolded (areas (c .before .before .before .before .before .before .before .before .before .before .before .before .before .before .before .args .rule-strings .now) (c .before .before .before .before .before .before .before .before .before .before .before .before .before .before .before .args .record-strings .now) (c .before .before .before .before .before .before .before .before .before .before .before .before .before .before .before .args .record-table .now) (c .before .before .before .before .before .before .before .before .before .before .before .before .before .before .before .args .cells .now)) maxNesting (c .before .before .before .before .before .before .before .before .before .before .before .before .before .before .before .args .h)) (c .before .before .before .before .before .before .before .before .write-value .result) (c .before .before .before .before .enum-told .given .1) (c .before .before .before .before .before .before .before .before .write-value .ensures .writes) (c .before .before .before .before .before .before .before .before .write-value .kept .1 .1 .1 .1 .0) (c .before .before .clear-from .ensures)
 
 same-length-3 : tie.Need-same-length-3
 same-length-3 c = search needs
 
 returns-3 : tie.Need-returns-3
 unfolding maxNesting maxValues
-returns-3 c = whole-done (unfolded (areas (c .before .before .before .before .before .before .before .before .before .before .before .before .before .before .before .before .before .args .rule .now) (c .before .before .before .before .before .before .before .before .before .before .before .before .before .before .before .before .before .args .strings .now) (c .before .before .before .before .before .before .before .before .before .before .before .before .before .before .before .before .before .args .table .now) (c .before .before .before .before .before .before .before .before .before .before .before .before .before .before .before .before .before .args .cells .now)) maxNesting (c .before .before .before .before .before .before .before .before .before .before .before .before .before .before .before .before .before .args .h)) (c .before .before .before .before .before .before .before .before .before .before .write-value .result) (c .before .before .before .before .before .before .p .given .0 .0) (c .before .before .before .before .before .before .p .given .0 .1 .0) (c .before .before .before .before .before .before .p .given .1) (c .before .before .before .before .before .before .before .before .before .before .write-value .ensures .writes) (c .before .before .before .before .before .before .before .before .before .before .write-value .kept .1 .1 .1 .1 .0) (c .before .before .before .before .if1 .left) (c .before .before .clear-from3 .ensures)
+returns-3 c = whole-done (unfolded (areas (c .before .before .before .before .before .before .before .before .before .before .before .before .before .before .before .before .before .args .rule-strings .now) (c .before .before .before .before .before .before .before .before .before .before .before .before .before .before .before .before .before .args .record-strings .now) (c .before .before .before .before .before .before .before .before .before .before .before .before .before .before .before .before .before .args .record-table .now) (c .before .before .before .before .before .before .before .before .before .before .before .before .before .before .before .before .before .args .cells .now)) maxNesting (c .before .before .before .before .before .before .before .before .before .before .before .before .before .before .before .before .before .args .h)) (c .before .before .before .before .before .before .before .before .before .before .write-value .result) (c .before .before .before .before .before .before .p .given .0 .0) (c .before .before .before .before .before .before .p .given .0 .1 .0) (c .before .before .before .before .before .before .p .given .1) (c .before .before .before .before .before .before .before .before .before .before .write-value .ensures .writes) (c .before .before .before .before .before .before .before .before .before .before .write-value .kept .1 .1 .1 .1 .0) (c .before .before .before .before .if1 .left) (c .before .before .clear-from3 .ensures)
 
 pub write-spec : {M : Type 1} → statement M
 write-spec =

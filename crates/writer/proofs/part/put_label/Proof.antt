@@ -15,8 +15,8 @@ enum-told c = search needs
 enum-known-name : tie.Need-enum-known-name
 enum-known-name c = search needs
 
-part-of-requires : tie.Need-part-of-requires
-part-of-requires c κs = search needs
+bytes-of-requires : tie.Need-bytes-of-requires
+bytes-of-requires c κs = search needs
 
 put-string-requires : tie.Need-put-string-requires
 put-string-requires c κs = search needs
@@ -61,7 +61,7 @@ same-length : tie.Need-same-length
 same-length c = search needs
 
 returns-2 : tie.Need-returns-2
-returns-2 c = rw (c .before .before .before .before .before .before .before .before .before .before .name .given .1) (puts-then (puts-as (string-puts (c .before .before .before .before .before .before .put-string .ensures)) (ap stringText (c .before .before .before .before .before .before .before .part-of .ensures))) (put-byte (c .before .before .put-byte .ensures)))
+returns-2 c = rw (c .before .before .before .before .before .before .before .before .before .before .name .given .1) (puts-then (puts-as (string-puts (c .before .before .before .before .before .before .put-string .ensures)) (ap stringText (c .before .before .before .before .before .before .before .bytes-of .ensures))) (put-byte (c .before .before .put-byte .ensures)))
 
 same-length-2 : tie.Need-same-length-2
 same-length-2 c = search needs
@@ -81,7 +81,7 @@ put-label-spec =
     (tie.spec
     enum-told
     enum-known-name
-    part-of-requires
+    bytes-of-requires
     put-string-requires
     put-byte-requires
     add-result

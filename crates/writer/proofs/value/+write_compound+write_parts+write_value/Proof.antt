@@ -79,7 +79,7 @@ abbrev write-value-calls : ℕ → write-value-lts.Claims
 write-value-calls t = (put-scalar-reads.Asked, put-scalar-reads.Learnt, up-to-reads.Asked, up-to-reads.Learnt, write-compound-below t, write-compound.Post)
 
 write-compound-returns : (t : ℕ) → write-compound-lts.Need-returns (write-compound-calls t) (write-compound-at t) write-compound.Post
-write-compound-returns t c = record { writes = too-deep (areas (c .before .before .before .before .before .before .args .rule .now) (c .before .before .before .before .before .before .args .strings .now) (c .before .before .before .before .before .before .args .table .now) (c .before .before .before .before .before .before .args .cells .now)) (c .before .before .before .before .before .before .args .p) (c .if1 .taken) }
+write-compound-returns t c = record { writes = too-deep (areas (c .before .before .before .before .before .before .args .rule-strings .now) (c .before .before .before .before .before .before .args .record-strings .now) (c .before .before .before .before .before .before .args .record-table .now) (c .before .before .before .before .before .before .args .cells .now)) (c .before .before .before .before .before .before .args .p) (c .if1 .taken) }
 
 write-compound-opening-requires : (t : ℕ) → write-compound-lts.Need-opening-requires (write-compound-calls t) (write-compound-at t) write-compound.Post
 write-compound-opening-requires t c κs = search needs
@@ -123,13 +123,13 @@ write-compound-same-length : (t : ℕ) → write-compound-lts.Need-same-length (
 write-compound-same-length t c = search needs
 
 write-compound-returns-2 : (t : ℕ) → write-compound-lts.Need-returns-2 (write-compound-calls t) (write-compound-at t) write-compound.Post
-write-compound-returns-2 t c = compound-over (areas (c .before .before .before .before .before .before .before .before .before .before .before .before .before .before .before .before .before .args .rule .now) (c .before .before .before .before .before .before .before .before .before .before .before .before .before .before .before .before .before .args .strings .now) (c .before .before .before .before .before .before .before .before .before .before .before .before .before .before .before .before .before .args .table .now) (c .before .before .before .before .before .before .before .before .before .before .before .before .before .before .before .before .before .args .cells .now)) (c .before .before .before .before .before .before .before .before .before .before .before .before .before .before .before .before .before .args .p) (c .before .before .before .before .before .before .before .before .before .before .before .before .before .before .before .before .before .args .deep) (c .before .before .before .before .before .before .before .before .before .before .before .before .before .before .before .before .before .args .left) (c .before .before .before .before .before .before .before .before .before .before .before .before .before .before .before .before .before .args .at) (omega (arith, c .before .before .before .before .before .before .before .before .before .before .before .if1 .left)) (c .before .before .before .before .before .before .before .before .before .before .before .before .before .before .before .before .before .pre .1 .1) (c .before .before .before .before .before .before .before .before .before .before .before .before .before .before .before .before .before .args .output .now) (c .before .before .before .before .before .before .before .before .put-byte .last .0) (c .before .before .before .before .before .before .before .before .before .before .opening .result) (c .before .before .before .before .before .before .before .before .before .before .opening .ensures) (c .before .before .before .before .before .before .before .before .put-byte .ensures) (c .before .before .before .before .write-parts .result) (c .before .before .before .before .write-parts .ensures) (c .enum-told .given .1)
+write-compound-returns-2 t c = compound-over (areas (c .before .before .before .before .before .before .before .before .before .before .before .before .before .before .before .before .before .args .rule-strings .now) (c .before .before .before .before .before .before .before .before .before .before .before .before .before .before .before .before .before .args .record-strings .now) (c .before .before .before .before .before .before .before .before .before .before .before .before .before .before .before .before .before .args .record-table .now) (c .before .before .before .before .before .before .before .before .before .before .before .before .before .before .before .before .before .args .cells .now)) (c .before .before .before .before .before .before .before .before .before .before .before .before .before .before .before .before .before .args .p) (c .before .before .before .before .before .before .before .before .before .before .before .before .before .before .before .before .before .args .deep) (c .before .before .before .before .before .before .before .before .before .before .before .before .before .before .before .before .before .args .left) (c .before .before .before .before .before .before .before .before .before .before .before .before .before .before .before .before .before .args .at) (omega (arith, c .before .before .before .before .before .before .before .before .before .before .before .if1 .left)) (c .before .before .before .before .before .before .before .before .before .before .before .before .before .before .before .before .before .pre .1 .1) (c .before .before .before .before .before .before .before .before .before .before .before .before .before .before .before .before .before .args .output .now) (c .before .before .before .before .before .before .before .before .put-byte .last .0) (c .before .before .before .before .before .before .before .before .before .before .opening .result) (c .before .before .before .before .before .before .before .before .before .before .opening .ensures) (c .before .before .before .before .before .before .before .before .put-byte .ensures) (c .before .before .before .before .write-parts .result) (c .before .before .before .before .write-parts .ensures) (c .enum-told .given .1)
 
 write-compound-same-length-2 : (t : ℕ) → write-compound-lts.Need-same-length-2 (write-compound-calls t) (write-compound-at t) write-compound.Post
 write-compound-same-length-2 t c = search needs
 
 write-compound-returns-3 : (t : ℕ) → write-compound-lts.Need-returns-3 (write-compound-calls t) (write-compound-at t) write-compound.Post
-write-compound-returns-3 t c = compound-closes (areas (c .before .before .before .before .before .before .before .before .before .before .before .before .before .before .before .before .before .before .before .before .before .before .before .args .rule .now) (c .before .before .before .before .before .before .before .before .before .before .before .before .before .before .before .before .before .before .before .before .before .before .before .args .strings .now) (c .before .before .before .before .before .before .before .before .before .before .before .before .before .before .before .before .before .before .before .before .before .before .before .args .table .now) (c .before .before .before .before .before .before .before .before .before .before .before .before .before .before .before .before .before .before .before .before .before .before .before .args .cells .now)) (c .before .before .before .before .before .before .before .before .before .before .before .before .before .before .before .before .before .before .before .before .before .before .before .args .p) (c .before .before .before .before .before .before .before .before .before .before .before .before .before .before .before .before .before .before .before .before .before .before .before .args .deep) (c .before .before .before .before .before .before .before .before .before .before .before .before .before .before .before .before .before .before .before .before .before .before .before .args .left) (c .before .before .before .before .before .before .before .before .before .before .before .before .before .before .before .before .before .before .before .before .before .before .before .args .at) (omega (arith, c .before .before .before .before .before .before .before .before .before .before .before .before .before .before .before .before .before .if1 .left)) (c .before .before .before .before .before .before .before .before .before .before .before .before .before .before .before .before .before .before .before .before .before .before .before .pre .1 .1) (c .before .before .before .before .before .before .before .before .before .before .before .before .before .before .before .before .before .before .before .before .before .before .before .args .output .now) (c .before .before .before .before .before .before .before .before .before .before .before .before .before .before .put-byte .last .0) (c .before .before .before .before .before .before .before .before .before .before .before .before .before .before .before .before .opening .result) (c .before .before .before .before .before .before .before .before .before .before .before .before .before .before .before .before .opening .ensures) (c .before .before .before .before .before .before .before .before .before .before .before .before .before .before .put-byte .ensures) (c .before .before .before .before .before .before .before .before .before .before .write-parts .result) (c .before .before .before .before .before .before .before .before .before .before .write-parts .ensures) (c .before .before .before .before .before .before .r .given .0 .0) (c .before .before .before .before .before .before .r .given .0 .1 .0) (c .up-to .result) (c .before .before .before .before .before .before .r .given .1) (c .before .before .before .put-byte2 .ensures) (c .up-to .ensures)
+write-compound-returns-3 t c = compound-closes (areas (c .before .before .before .before .before .before .before .before .before .before .before .before .before .before .before .before .before .before .before .before .before .before .before .args .rule-strings .now) (c .before .before .before .before .before .before .before .before .before .before .before .before .before .before .before .before .before .before .before .before .before .before .before .args .record-strings .now) (c .before .before .before .before .before .before .before .before .before .before .before .before .before .before .before .before .before .before .before .before .before .before .before .args .record-table .now) (c .before .before .before .before .before .before .before .before .before .before .before .before .before .before .before .before .before .before .before .before .before .before .before .args .cells .now)) (c .before .before .before .before .before .before .before .before .before .before .before .before .before .before .before .before .before .before .before .before .before .before .before .args .p) (c .before .before .before .before .before .before .before .before .before .before .before .before .before .before .before .before .before .before .before .before .before .before .before .args .deep) (c .before .before .before .before .before .before .before .before .before .before .before .before .before .before .before .before .before .before .before .before .before .before .before .args .left) (c .before .before .before .before .before .before .before .before .before .before .before .before .before .before .before .before .before .before .before .before .before .before .before .args .at) (omega (arith, c .before .before .before .before .before .before .before .before .before .before .before .before .before .before .before .before .before .if1 .left)) (c .before .before .before .before .before .before .before .before .before .before .before .before .before .before .before .before .before .before .before .before .before .before .before .pre .1 .1) (c .before .before .before .before .before .before .before .before .before .before .before .before .before .before .before .before .before .before .before .before .before .before .before .args .output .now) (c .before .before .before .before .before .before .before .before .before .before .before .before .before .before .put-byte .last .0) (c .before .before .before .before .before .before .before .before .before .before .before .before .before .before .before .before .opening .result) (c .before .before .before .before .before .before .before .before .before .before .before .before .before .before .before .before .opening .ensures) (c .before .before .before .before .before .before .before .before .before .before .before .before .before .before .put-byte .ensures) (c .before .before .before .before .before .before .before .before .before .before .write-parts .result) (c .before .before .before .before .before .before .before .before .before .before .write-parts .ensures) (c .before .before .before .before .before .before .r .given .0 .0) (c .before .before .before .before .before .before .r .given .0 .1 .0) (c .up-to .result) (c .before .before .before .before .before .before .r .given .1) (c .before .before .before .put-byte2 .ensures) (c .up-to .ensures)
 
 abbrev write-parts-Inv-loop : write-parts-lts.InvT-loop
 write-parts-Inv-loop rule strings table cells output₀ deep at left rest₀ comma₀ here₀ more₀ output rest comma here more =
@@ -182,11 +182,11 @@ write-parts-returns-2 : (t : ℕ) → write-parts-lts.Need-returns-2 (write-part
 write-parts-returns-2 t c = parts-done (c .before .before .before .loop .inv) (c .up-to .result) (omega (arith, c .before .if1 .left)) (c .up-to .ensures)
 
 write-value-returns : (t : ℕ) → write-value-lts.Need-returns (write-value-calls t) (write-value-at t) write-value.Post
-write-value-returns t c = record { writes = none-left (unfolded (areas (c .before .before .before .before .before .before .args .rule .now) (c .before .before .before .before .before .before .args .strings .now) (c .before .before .before .before .before .before .args .table .now) (c .before .before .before .before .before .before .args .cells .now)) (c .before .before .before .before .before .before .args .deep) (c .before .before .before .before .before .before .args .h)) (c .if1 .taken) }
+write-value-returns t c = record { writes = none-left (unfolded (areas (c .before .before .before .before .before .before .args .rule-strings .now) (c .before .before .before .before .before .before .args .record-strings .now) (c .before .before .before .before .before .before .args .record-table .now) (c .before .before .before .before .before .before .args .cells .now)) (c .before .before .before .before .before .before .args .deep) (c .before .before .before .before .before .before .args .h)) (c .if1 .taken) }
 
 write-value-returns-2 : (t : ℕ) → write-value-lts.Need-returns-2 (write-value-calls t) (write-value-at t) write-value.Post
 unfolding maxTextBytes
-write-value-returns-2 t c = record { writes = too-long (unfolded (areas (c .before .before .before .before .before .before .before .args .rule .now) (c .before .before .before .before .before .before .before .args .strings .now) (c .before .before .before .before .before .before .before .args .table .now) (c .before .before .before .before .before .before .before .args .cells .now)) (c .before .before .before .before .before .before .before .args .deep) (c .before .before .before .before .before .before .before .args .h)) (c .if2 .taken) }
+write-value-returns-2 t c = record { writes = too-long (unfolded (areas (c .before .before .before .before .before .before .before .args .rule-strings .now) (c .before .before .before .before .before .before .before .args .record-strings .now) (c .before .before .before .before .before .before .before .args .record-table .now) (c .before .before .before .before .before .before .before .args .cells .now)) (c .before .before .before .before .before .before .before .args .deep) (c .before .before .before .before .before .before .before .args .h)) (c .if2 .taken) }
 
 write-value-enum-known-h : (t : ℕ) → write-value-lts.Need-enum-known-h (write-value-calls t) (write-value-at t) write-value.Post
 write-value-enum-known-h t c = search needs
@@ -205,7 +205,7 @@ write-value-same-length : (t : ℕ) → write-value-lts.Need-same-length (write-
 write-value-same-length t c = search needs
 
 write-value-returns-3 : (t : ℕ) → write-value-lts.Need-returns-3 (write-value-calls t) (write-value-at t) write-value.Post
-write-value-returns-3 t c = scalar-value (areas (c .before .before .before .before .before .before .before .before .before .before .before .before .before .args .rule .now) (c .before .before .before .before .before .before .before .before .before .before .before .before .before .args .strings .now) (c .before .before .before .before .before .before .before .before .before .before .before .before .before .args .table .now) (c .before .before .before .before .before .before .before .before .before .before .before .before .before .args .cells .now)) (c .before .before .before .before .before .before .before .before .before .before .before .before .before .args .deep) (c .up-to .result) (scalarlike (c .before .before .before .before .before .before .before .before .before .before .before .before .before .args .h) (c .before .before .before .before .before .match .keys2)) (omega (arith, c .before .before .before .before .before .before .before .if1 .left)) (c .before .before .before .put-scalar .ensures) (c .up-to .ensures)
+write-value-returns-3 t c = scalar-value (areas (c .before .before .before .before .before .before .before .before .before .before .before .before .before .args .rule-strings .now) (c .before .before .before .before .before .before .before .before .before .before .before .before .before .args .record-strings .now) (c .before .before .before .before .before .before .before .before .before .before .before .before .before .args .record-table .now) (c .before .before .before .before .before .before .before .before .before .before .before .before .before .args .cells .now)) (c .before .before .before .before .before .before .before .before .before .before .before .before .before .args .deep) (c .up-to .result) (scalarlike (c .before .before .before .before .before .before .before .before .before .before .before .before .before .args .h) (c .before .before .before .before .before .match .keys2)) (omega (arith, c .before .before .before .before .before .before .before .if1 .left)) (c .before .before .before .put-scalar .ensures) (c .up-to .ensures)
 
 write-value-write-compound-requires : (t : ℕ) → write-value-lts.Need-write-compound-requires (write-value-calls t) (write-value-at t) write-value.Post
 unfolding maxTextBytes
