@@ -19,18 +19,18 @@ const OUTPUT_TOO_SHORT: u32 = 12;
 // Writes the value whose handle stands in a cell: 0 and the length of its text, or 11 or 12 and 0.
 #[no_mangle]
 pub extern "C" fn writer_write<'a>(
-    rule: &'a [u8],
-    strings: &'a [u8],
-    table: &[u8],
+    rule_strings: &'a [u8],
+    record_strings: &'a [u8],
+    record_table: &[u8],
     cells: &[u8],
     cell: u64,
     output: &mut [u8],
     size: &mut u64,
 ) -> u32
-    ensures { λ r. ⌜ told r (now (size .exit)) (now (output .exit)) ≡ handleWritten (areas (now (rule .entry)) (now (strings .entry)) (now (table .entry)) (now (cells .entry))) (cellHandle (now (cells .entry)) cell) (length (now (output .entry))) ⌝ }
+    ensures { λ r. ⌜ told r (now (size .exit)) (now (output .exit)) ≡ handleWritten (areas (now («rule_strings» .entry)) (now («record_strings» .entry)) (now («record_table» .entry)) (now (cells .entry))) (cellHandle (now (cells .entry)) cell) (length (now (output .entry))) ⌝ }
 {
     let h = get(cells, cell as usize);
-    let answer = write(rule, strings, table, cells, h, output);
+    let answer = write(rule_strings, record_strings, record_table, cells, h, output);
     match answer {
         Answer::Written(n) => {
             *size = n as u64;
