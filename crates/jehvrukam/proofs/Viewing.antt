@@ -9,10 +9,11 @@ use Rattle.model.specs.Laws.Logic.{T→true}
 use Rattle.syntax.specs.Layout.{unbiased}
 use Rattle.viewer.specs.Answer.{integerOf, stringOf}
 use Rattle.viewer.specs.Form.{isInteger}
-use Rattle.viewer.specs.Row.{rowCount, joined}
+use Rattle.table.specs.Row.{joined}
+use Rattle.viewer.specs.Row.{rowCount}
 use Rattle.viewer.specs.View.{rowSeen}
 use Rattle.viewer.specs.Laws.Told.{told as seen-told, form-integer}
-use Rattle.viewer.specs.declared.row.Row.{Row}
+use Rattle.table.specs.declared.row.Row.{Row}
 use Rattle.viewer.specs.declared.row.RowAnswer.the-variants as rows
 use Rattle.jehvrukam.specs.Contract.{told, span}
 use Rattle.jehvrukam.specs.View.{toldOr}

@@ -3,7 +3,7 @@ use Prim.Native.Nat.{ℕ}
 use Rattle.model.specs.Bytes.{Bytes}
 use Rattle.syntax.specs.Entry.{ReadAnswer}
 use Rattle.stages.specs.Areas.{textAreas}
-use Rattle.viewer.specs.declared.row.Span.{Span}
+use Rattle.table.specs.declared.row.Span.{Span}
 use Rattle.viewer.specs.Answer.{Seen}
 use Rattle.jehvrukam.specs.Check.{CheckAreas, CheckNumbers}
 use Rattle.jehvrukam.specs.Entry.{Entry, workAreas}

@@ -7,7 +7,7 @@ use lib.IntN.{ℤ}
 use lib.ListN.{length}
 use Rattle.model.specs.Bytes.{Bytes}
 use Rattle.syntax.specs.Entry.{readEntry}
-use Rattle.viewer.specs.declared.row.Span.{Span}
+use Rattle.table.specs.declared.row.Span.{Span}
 use Rattle.viewer.specs.Answer.{Seen, seenOf, nameOf, integerOf, stringOf, placeOf}
 use Rattle.viewer.specs.View.{rowSeen, partSeen}
 use Rattle.jehvrukam.specs.Check.{CheckAreas, CheckNumbers, checkEntry}

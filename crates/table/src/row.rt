@@ -2,6 +2,7 @@
 use area::get_word;
 use syntax::ROW_BYTES;
 ghost use mathlib.Core.Path.{_≡_};
+ghost use Prim.Native.Nat.{_<_};
 ghost use Rattle.table.specs.Row.{rowAt, Halves, joined};
 
 // A part of a strings area.
@@ -48,7 +49,7 @@ pub fn row_at(table: &[u8], row: usize) -> Row
 
 // The number of 64 bits whose halves are a row's last two numbers.
 pub fn join(r: Row) -> u64
-    requires { ⌜ Halves r ⌝ }
+    requires { ⌜ joined r < 18446744073709551616 ⌝ }
     ensures { λ x. ⌜ x ≡ joined r ⌝ }
 {
     r.first as u64 + r.second as u64 * 4294967296

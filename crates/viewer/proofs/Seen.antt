@@ -10,11 +10,12 @@ use lib.ListN.{length}
 use Rattle.model.specs.Bytes.{Bytes}
 use Rattle.model.specs.Limits.{maxValues}
 use Rattle.syntax.specs.Layout.{rowBytes}
-use Rattle.viewer.specs.declared.row.Row.{Row}
+use Rattle.table.specs.declared.row.Row.{Row}
 use Rattle.viewer.specs.declared.row.RowAnswer.{RowAnswer}
 use Rattle.viewer.specs.declared.row.RowAnswer.the-variants as rows
 use Rattle.viewer.specs.Form.{hasForm}
-use Rattle.viewer.specs.Row.{rowCount, numbersAt, endOf}
+use Rattle.table.specs.Row.{numbersAt, rowAt}
+use Rattle.viewer.specs.Row.{rowCount, endOf}
 use Rattle.viewer.specs.View.{rowSeen}
 use Rattle.viewer.specs.Laws.Told.{told, form-behind}
 use Rattle.viewer.proofs.Tests.{held, failed}
@@ -37,6 +38,11 @@ rows-few table = less-both (length table / rowBytes) maxValues .1
 -- ---- a row is told
 abbrev toldOf : ℕ → ℕ → Row → RowAnswer
 toldOf n place r = cond (ltb place n && hasForm n place r) (rows.Is r) rows.NotThere
+
+-- A row that is there has its numbers.
+pub row-there : (table : Bytes) (place n : ℕ) → n ≡ rowCount table → place < n → rowAt table place ≡ numbersAt table place
+unfolding rowAt
+row-there table place n e l = rw (lt-ltb place (length table / rowBytes) (omega (arith, rows-fit table)))
 
 seen-of : (table : Bytes) (place n : ℕ) (r : Row) → n ≡ rowCount table → r ≡ numbersAt table place → toldOf n place r ≡ rowSeen table place
 seen-of table place n r e f = λ i. toldOf (e i) place (f i)

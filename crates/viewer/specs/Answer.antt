@@ -6,11 +6,12 @@ use lib.Dec.{eqb}
 use lib.IntN.{ℤ}
 use Rattle.syntax.specs.Layout.{unbiased}
 use Rattle.viewer.specs.declared.row.RowAnswer.{RowAnswer}
-use Rattle.viewer.specs.declared.row.Span.{Span}
+use Rattle.table.specs.declared.row.Span.{Span}
 use Rattle.viewer.specs.declared.row.RowAnswer.the-variants as rows
 use Rattle.viewer.specs.declared.part.PartAnswer.{PartAnswer}
 use Rattle.viewer.specs.declared.part.PartAnswer.the-variants as parts
-use Rattle.viewer.specs.Row.{countOf, joined}
+use Rattle.table.specs.Row.{joined}
+use Rattle.viewer.specs.Row.{countOf}
 
 pub record Seen : Type 0 where
   pub kind : ℕ

@@ -4,8 +4,8 @@ use Prim.Native.Nat.{ℕ, _+_, _*_, _-_}
 use lib.Dec.{eqb, ltb, leb}
 use Rattle.model.specs.Limits.{maxInteger}
 use Rattle.syntax.specs.Layout.{stringsBytes}
-use Rattle.viewer.specs.declared.row.Row.{Row}
-use Rattle.viewer.specs.Row.{joined}
+use Rattle.table.specs.declared.row.Row.{Row}
+use Rattle.table.specs.Row.{joined}
 
 -- A name or string lies within the stated size of a strings area.
 abbrev pub isWithin : ℕ → ℕ → Bool

@@ -9,10 +9,11 @@ use Rattle.model.specs.Bytes.{Bytes}
 use Rattle.model.specs.Value.{Value, withinLimits}
 use Rattle.syntax.specs.Layout.{tableBytes, stringsBytes, tableOf, stringsAreaOf}
 use Rattle.syntax.specs.Read.{done, read}
-use Rattle.viewer.specs.declared.row.Span.{Span}
+use Rattle.table.specs.declared.row.Span.{Span}
 use Rattle.viewer.specs.Answer.{Seen, seenOf, nameOf, integerOf, stringOf, placeOf}
 use Rattle.viewer.specs.Inside.{Inside}
-use Rattle.viewer.specs.Row.{rowCount, numbersAt, endOf}
+use Rattle.table.specs.Row.{numbersAt}
+use Rattle.viewer.specs.Row.{rowCount, endOf}
 use Rattle.viewer.specs.Shows.{Shows, ShowsText}
 use Rattle.viewer.specs.View.{rowSeen, partSeen}
 use Rattle.viewer.specs.Laws.ReadForm as ReadFormLaws

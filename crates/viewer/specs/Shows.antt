@@ -8,7 +8,7 @@ use Rattle.model.specs.Bytes.{Bytes}
 use Rattle.model.specs.Size.{valueCount}
 use Rattle.model.specs.Value.{Value, scalar, instant, array, object, Scalar, null, boolean, integer, string, Values, no-items, item, Members, no-members, member, memberCount}
 use Rattle.syntax.specs.Layout.{itemCount}
-use Rattle.viewer.specs.declared.row.Span.{Span}
+use Rattle.table.specs.declared.row.Span.{Span}
 use Rattle.viewer.specs.Answer.{seenOf, nameOf, integerOf, stringOf, placeOf}
 use Rattle.viewer.specs.View.{rowSeen, partSeen}
 

@@ -11,7 +11,8 @@ use Rattle.viewer.specs.declared.row.RowAnswer.the-variants as rows
 use Rattle.viewer.specs.declared.part.PartAnswer.{PartAnswer}
 use Rattle.viewer.specs.declared.part.PartAnswer.the-variants as parts
 use Rattle.viewer.specs.Form.{hasForm}
-use Rattle.viewer.specs.Row.{rowCount, numbersAt, countOf, endOf}
+use Rattle.table.specs.Row.{numbersAt}
+use Rattle.viewer.specs.Row.{rowCount, countOf, endOf}
 
 -- ---- the row at a place
 -- It is there and has the form.

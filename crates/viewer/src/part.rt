@@ -1,8 +1,9 @@
 // The parts of a container: where the nth item or member's content lies.
-use crate::row::Row;
 use crate::row::RowAnswer;
 use crate::row::count_of;
 use crate::row::find_row;
+use syntax::ARRAY_ROW;
+use table::row::Row;
 ghost use mathlib.Core.Path.{_≡_};
 ghost use Prim.Native.Nat.{_<_};
 ghost use Rattle.viewer.specs.Inner.{after, afterAll, partAfter};
@@ -20,7 +21,7 @@ fn end_of(place: usize, r: Row) -> usize
     requires { ⌜ place < 4294967296 ⌝ }
     ensures { λ x. ⌜ x ≡ endOf place r ⌝ }
 {
-    if r.kind < 6 {
+    if r.kind < ARRAY_ROW {
         return place + 1;
     }
     r.second

@@ -1,31 +1,24 @@
-// The rows of a table: their numbers, and whether these have the form of docs/LAYOUT.md.
-use area::get_word;
+// The rows of a table: how many there are, and whether their numbers have the form of docs/LAYOUT.md.
 use model::MAX_VALUES;
+use syntax::ARRAY_ROW;
 use syntax::BIAS;
+use syntax::INTEGER_ROW;
+use syntax::OBJECT_ROW;
 use syntax::ROW_BYTES;
+use syntax::STRING_ROW;
 use syntax::STRINGS_BYTES;
+use table::row::Row;
+use table::row::join;
+use table::row::row_at;
 ghost use mathlib.Core.Bool.{true};
 ghost use mathlib.Core.Path.{_≡_};
 ghost use Prim.Native.Nat.{_/_, _<_};
 ghost use lib.ListN.{length};
 ghost use Rattle.syntax.specs.Layout.{rowBytes, unbiased};
 ghost use Rattle.viewer.specs.Form.{isWithin, isInteger, isSpan, hasContent, hasForm};
-ghost use Rattle.viewer.specs.Row.{rowCount, numbersAt, Halves, joined, countOf};
+ghost use Rattle.table.specs.Row.{numbersAt, Halves, joined};
+ghost use Rattle.viewer.specs.Row.{rowCount, countOf};
 ghost use Rattle.viewer.specs.View.{rowSeen};
-
-// A part of a strings area.
-pub struct Span {
-    pub start: usize,
-    pub size: usize,
-}
-
-// The kind; where the member's name lies, in a read table 0 and 0 of no member; and two numbers by the kind.
-pub struct Row {
-    pub kind: usize,
-    pub name: Span,
-    pub first: usize,
-    pub second: usize,
-}
 
 // A row that is there and has the form; or refusal 1.
 pub enum RowAnswer {
@@ -42,35 +35,6 @@ fn row_count(table: &[u8]) -> usize
         return n;
     }
     MAX_VALUES
-}
-
-// The numbers of a row.
-fn numbers_at(table: &[u8], place: usize) -> Row
-    requires { ⌜ place < length (now table) / rowBytes ⌝ }
-    ensures { λ r. ⌜ (r ≡ numbersAt (now (table .entry)) place) × Halves r ⌝ }
-{
-    let at = place * ROW_BYTES;
-    let kind = get_word(table, at);
-    let start = get_word(table, at + 4);
-    let first = get_word(table, at + 8);
-    let second = get_word(table, at + 12);
-    Row {
-        kind: kind % 256,
-        name: Span {
-            start,
-            size: kind / 256,
-        },
-        first,
-        second,
-    }
-}
-
-// The number of 64 bits in a row's last two numbers.
-fn join(r: Row) -> u64
-    requires { ⌜ joined r < 18446744073709551616 ⌝ }
-    ensures { λ x. ⌜ x ≡ joined r ⌝ }
-{
-    r.first as u64 + r.second as u64 * 4294967296
 }
 
 // So many bytes from a start lie within a strings area.
@@ -119,16 +83,16 @@ fn has_content(rows: usize, place: usize, r: Row) -> bool
     if kind == 0 {
         return false;
     }
-    if kind < 4 {
+    if kind < INTEGER_ROW {
         return r.first + r.second == 0;
     }
-    if kind == 4 {
+    if kind == INTEGER_ROW {
         return is_integer(join(r));
     }
-    if kind == 5 {
+    if kind == STRING_ROW {
         return is_within(r.first, r.second);
     }
-    if kind < 8 {
+    if kind <= OBJECT_ROW {
         return is_span(rows, place, r.first, r.second);
     }
     false
@@ -154,7 +118,7 @@ pub fn find_row(table: &[u8], place: usize) -> RowAnswer
     if rows <= place {
         return RowAnswer::NotThere;
     }
-    let r = numbers_at(table, place);
+    let r = row_at(table, place);
     if has_form(rows, place, r) {
         return RowAnswer::Is(r);
     }
@@ -165,7 +129,7 @@ pub fn find_row(table: &[u8], place: usize) -> RowAnswer
 pub fn count_of(r: Row) -> usize
     ensures { λ x. ⌜ x ≡ countOf r ⌝ }
 {
-    if r.kind < 6 {
+    if r.kind < ARRAY_ROW {
         return 0;
     }
     r.first

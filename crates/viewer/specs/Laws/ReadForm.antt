@@ -26,13 +26,14 @@ use Rattle.syntax.specs.Laws.StringsFit.{strings-small}
 use Rattle.syntax.specs.Laws.WellFormed.{read-well-formed}
 use Rattle.syntax.specs.Laws.Widths.{text-small, values-small}
 use Rattle.syntax.specs.Read.{done, read}
-use Rattle.viewer.specs.declared.row.Row.{Row}
-use Rattle.viewer.specs.declared.row.Span.{Span}
+use Rattle.table.specs.declared.row.Row.{Row}
+use Rattle.table.specs.declared.row.Span.{Span}
 use Rattle.viewer.specs.declared.row.RowAnswer.{RowAnswer}
 use Rattle.viewer.specs.declared.row.RowAnswer.the-variants as rows
 use Rattle.viewer.specs.Answer.{Seen, nameOf, integerOf, stringOf, placeOf}
 use Rattle.viewer.specs.Form.{isInteger, isSpan, hasContent, hasForm}
-use Rattle.viewer.specs.Row.{rowCount, numbersAt, countOf, endOf}
+use Rattle.table.specs.Row.{numbersAt}
+use Rattle.viewer.specs.Row.{rowCount, countOf, endOf}
 use Rattle.viewer.specs.Shows.{kindOf, partCount, Tells, TellsScalar, Named, Shows, ShowsText, shows-scalar, shows-array, shows-object, ShowsItems, shows-no-items, shows-item, ShowsMembers, shows-no-members, shows-member}
 use Rattle.viewer.specs.View.{rowSeen, nextWithin, nthWithin, partOf, partSeen}
 

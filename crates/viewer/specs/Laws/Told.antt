@@ -14,14 +14,15 @@ use Rattle.model.specs.Limits.{maxInteger}
 use Rattle.model.specs.Option.{_>>=_}
 use Rattle.model.specs.Value.{withinLimits}
 use Rattle.syntax.specs.Layout.{stringsBytes, unbiased}
-use Rattle.viewer.specs.declared.row.Row.{Row}
-use Rattle.viewer.specs.declared.row.Span.{Span}
+use Rattle.table.specs.declared.row.Row.{Row}
+use Rattle.table.specs.declared.row.Span.{Span}
 use Rattle.viewer.specs.declared.row.RowAnswer.{RowAnswer}
 use Rattle.viewer.specs.declared.row.RowAnswer.the-variants as rows
 use Rattle.viewer.specs.declared.part.PartAnswer.the-variants as parts
 use Rattle.viewer.specs.Answer.{Seen, seenOf, nameOf, integerOf, stringOf, placeOf}
 use Rattle.viewer.specs.Form.{isWithin, isInteger, isSpan, hasContent, hasForm}
-use Rattle.viewer.specs.Row.{rowCount, numbersAt, joined, countOf, endOf}
+use Rattle.table.specs.Row.{numbersAt, joined}
+use Rattle.viewer.specs.Row.{rowCount, countOf, endOf}
 use Rattle.viewer.specs.Inside.{Inside}
 use Rattle.viewer.specs.View.{rowSeen, nextOf, nextWithin, nthWithin, partOf, partOfRow, partSeen}
 

@@ -1,5 +1,6 @@
 use borrow.Author.Needs.{needs}
 use mathlib.Core.Path.{ap, _∙_}
+use native.Mathlib.Omega.{arith}
 use borrow.Author.Tests.{lt-ltb, le-ltb, eq-eqb, ne-eqb}
 use Rattle.viewer.specs.Form.{isInteger}
 use Rattle.viewer.proofs.Tests.{sum-zero}
@@ -45,13 +46,13 @@ returns-5 : tie.Need-returns-5
 returns-5 c =
     let d = c .before .before .before in
     rw
-    (ne-eqb _ _ (d .before .before .if1 .left), le-ltb _ _ (d .before .if2 .left), ne-eqb _ _ (d .if3 .left), ne-eqb _ _ (c .before .before .if4 .left), lt-ltb _ _ (c .before .if5 .taken))
+    (ne-eqb _ _ (d .before .before .if1 .left), le-ltb _ _ (d .before .if2 .left), ne-eqb _ _ (d .if3 .left), ne-eqb _ _ (c .before .before .if4 .left), lt-ltb (d .before .before .before .args .r .kind) 8 (omega (arith, c .before .if5 .taken)))
     (c .is-span .ensures)
 
 returns-6 : tie.Need-returns-6
 returns-6 c =
     let d = c .before .before in
-    rw (ne-eqb _ _ (d .before .before .if1 .left), le-ltb _ _ (d .before .if2 .left), ne-eqb _ _ (d .if3 .left), ne-eqb _ _ (c .before .if4 .left), le-ltb _ _ (c .if5 .left))
+    rw (ne-eqb _ _ (d .before .before .if1 .left), le-ltb _ _ (d .before .if2 .left), ne-eqb _ _ (d .if3 .left), ne-eqb _ _ (c .before .if4 .left), le-ltb (d .before .before .before .args .r .kind) 8 (omega (arith, c .if5 .left)))
 
 pub has-content-spec : {M : Type 1} → statement M
 has-content-spec =

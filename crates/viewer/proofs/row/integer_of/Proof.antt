@@ -2,7 +2,7 @@ use borrow.Author.Needs.{needs}
 use mathlib.Core.Path.{ap, _∙_}
 use native.Mathlib.Omega.{arith}
 use Rattle.syntax.specs.Layout.{unbiased}
-use Rattle.viewer.specs.Row.{joined}
+use Rattle.table.specs.Row.{joined}
 use Rattle.viewer.proofs.Integers.{integer-small, minus-fits, integer-is}
 use Rattle.viewer.proofs.row.integer_of.Statement.{statement}
 use Rattle.viewer.proofs.row.integer_of.Tie as tie
