@@ -1,3 +1,4 @@
+<<<<<<< HEAD
 -- Names: names in one byte string, and the place of a name among them; what a table has there.
 use mathlib.Core.Bool.{cond}
 use mathlib.Core.List.{List, [], _∷_, _++_}
@@ -13,12 +14,33 @@ use Rattle.bytes.specs.declared.names.Position.the-variants.{Nowhere, At
 abbrev pub listed : List Bytes → Bytes
 listed [] = []
 listed (n ∷ l) = length n ∷ (n ++ listed l)
+=======
+-- Names: names in one byte string, and the place of a name among them.
+use mathlib.Core.Bool.{cond}
+use mathlib.Core.List.{List, [], _∷_, _++_}
+use mathlib.Core.Path.{_≡_}
+use Prim.Native.Nat.{ℕ, _+_}
+use lib.ListN.{length}
+use Rattle.model.specs.Bytes.{Bytes, byte, sameBytes}
+use Rattle.bytes.specs.declared.names.Position.{Position}
+use Rattle.bytes.specs.declared.names.Position.the-variants.{Nowhere, At}
+
+-- Each name with a space after it, and the length of each.
+abbrev pub spaced : List Bytes → Bytes
+spaced [] = []
+spaced (n ∷ l) = n ++ (byte " " ∷ spaced l)
+
+abbrev pub lengths : List Bytes → List ℕ
+lengths [] = []
+lengths (n ∷ l) = length n ∷ lengths l
+>>>>>>> 6b352f5 (bytes: the place of a name among others that lie in one byte string)
 
 -- The first place of a name among others, counted from i.
 abbrev pub positionFrom : ℕ → Bytes → List Bytes → Position
 positionFrom i name [] = Nowhere
 positionFrom i name (n ∷ l) = cond (sameBytes name n) (At i) (positionFrom (i + 1) name l)
 
+<<<<<<< HEAD
 pub record IsPosition (names name : Bytes) (r : Position) : Type 0 where
   pub is : (l : List Bytes) → names ≡ listed l → r ≡ positionFrom 0 name l
 
@@ -37,3 +59,7 @@ entryAt (e ∷ l) (suc i) = entryAt l i
 abbrev pub entryOf : {A : Type 0} → List (Bytes × A) → Position → Option A
 entryOf l Nowhere = none
 entryOf l (At i) = entryAt l i
+=======
+pub record IsPosition (names sizes name : Bytes) (r : Position) : Type 0 where
+  pub is : (l : List Bytes) → names ≡ spaced l → sizes ≡ lengths l → r ≡ positionFrom 0 name l
+>>>>>>> 6b352f5 (bytes: the place of a name among others that lie in one byte string)

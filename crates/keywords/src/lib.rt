@@ -1,16 +1,15 @@
 // The names of operations and units (01, Shape of a rule).
-use bytes::same;
+use bytes::names::Position;
+use bytes::names::position_of;
 use model::Comparison;
 use model::Domain;
 use model::TimeUnit;
 ghost use mathlib.Core.Path.{_≡_};
-ghost use lib.ListN.{drop};
-ghost use Rattle.model.specs.Bytes.{sameBytes};
-ghost use Rattle.model.specs.Lists.{find};
-ghost use Rattle.model.specs.Shape.{keywords, keywordNamed, unitNamed};
+ghost use Rattle.model.specs.Shape.{keywords, keywordNamed, units, unitNamed};
+ghost use Rattle.bytes.specs.Names.{entryAt};
 ghost use Rattle.keywords.specs.Keyword.{keywordOf, unitOf};
 
-// What is done with operands. 2^53 was added to an amount and an index.
+// An operation that evaluates all operands first. 2^53 was added to an amount and an index.
 pub enum Op {
     Array,
     Equal,
@@ -68,106 +67,68 @@ fn compare(domain: Domain, comparison: Comparison) -> Keyword
     }
 }
 
+// The keyword at a place of 01's table. "The four date words, in the table's order, mean >, <, <=, >= on instants."
+fn keyword_at(i: usize) -> Keyword
+    ensures { λ r. ⌜ keywordOf r ≡ entryAt keywords i ⌝ }
+{
+    match i {
+        0 => Keyword::Var,
+        1 => Keyword::If,
+        2 => Keyword::Reduce,
+        3 => exactly(2, Op::Equal),
+        4 => exactly(2, Op::MemberOf),
+        5 => exactly(2, Op::Plus),
+        6 => Keyword::And,
+        7 => compare(Domain::OnIntegers, Comparison::Greater),
+        8 => compare(Domain::OnIntegers, Comparison::Less),
+        9 => compare(Domain::OnIntegers, Comparison::GreaterOrEqual),
+        10 => compare(Domain::OnIntegers, Comparison::LessOrEqual),
+        11 => compare(Domain::OnInstants, Comparison::Greater),
+        12 => compare(Domain::OnInstants, Comparison::Less),
+        13 => compare(Domain::OnInstants, Comparison::LessOrEqual),
+        14 => compare(Domain::OnInstants, Comparison::GreaterOrEqual),
+        15 => exactly(1, Op::Not),
+        16 => exactly(1, Op::DateOfBirth),
+        17 => Keyword::PlusTime,
+        18 => Keyword::ExtractFromUvci,
+        _ => Keyword::NoKeyword,
+    }
+}
+
 // The keyword of this name.
 pub fn keyword_named(name: &[u8]) -> Keyword
     ensures { λ r. ⌜ keywordOf r ≡ keywordNamed (now (name .entry)) ⌝ }
 {
-    if same(name, b"var") {
-        return Keyword::Var;
+    let names =
+        b"var if reduce === in + and > < >= <= after before not-after not-before ! dccDateOfBirth plusTime extractFromUVCI ";
+    let sizes = [3, 2, 6, 3, 2, 1, 3, 1, 1, 2, 2, 5, 6, 9, 10, 1, 14, 8, 15];
+    match position_of(names, &sizes, name) {
+        Position::Nowhere => Keyword::NoKeyword,
+        Position::At(i) => keyword_at(i),
     }
-    if same(name, b"if") {
-        return Keyword::If;
-    }
-    if same(name, b"reduce") {
-        return Keyword::Reduce;
-    }
-    if same(name, b"===") {
-        return exactly(2, Op::Equal);
-    }
-    if same(name, b"in") {
-        return exactly(2, Op::MemberOf);
-    }
-    if same(name, b"+") {
-        return exactly(2, Op::Plus);
-    }
-    if same(name, b"and") {
-        return Keyword::And;
-    }
-    sign(name)
 }
 
-// Of a sign, or of a name after the signs in 01's table.
-fn sign(name: &[u8]) -> Keyword
-    ensures { λ r. ⌜ keywordOf r ≡ find (sameBytes (now (name .entry))) (drop 7 keywords) ⌝ }
+// The unit at a place of the table.
+fn unit_at(i: usize) -> UnitAnswer
+    ensures { λ r. ⌜ unitOf r ≡ entryAt units i ⌝ }
 {
-    if same(name, b">") {
-        return compare(Domain::OnIntegers, Comparison::Greater);
+    match i {
+        0 => UnitAnswer::Unit(TimeUnit::Year),
+        1 => UnitAnswer::Unit(TimeUnit::Month),
+        2 => UnitAnswer::Unit(TimeUnit::Day),
+        3 => UnitAnswer::Unit(TimeUnit::Hour),
+        _ => UnitAnswer::NoUnit,
     }
-    if same(name, b"<") {
-        return compare(Domain::OnIntegers, Comparison::Less);
-    }
-    if same(name, b">=") {
-        return compare(Domain::OnIntegers, Comparison::GreaterOrEqual);
-    }
-    if same(name, b"<=") {
-        return compare(Domain::OnIntegers, Comparison::LessOrEqual);
-    }
-    date_word(name)
-}
-
-// "The four date words, in the table's order, mean >, <, <=, >= on instants."
-fn date_word(name: &[u8]) -> Keyword
-    ensures { λ r. ⌜ keywordOf r ≡ find (sameBytes (now (name .entry))) (drop 11 keywords) ⌝ }
-{
-    if same(name, b"after") {
-        return compare(Domain::OnInstants, Comparison::Greater);
-    }
-    if same(name, b"before") {
-        return compare(Domain::OnInstants, Comparison::Less);
-    }
-    if same(name, b"not-after") {
-        return compare(Domain::OnInstants, Comparison::LessOrEqual);
-    }
-    if same(name, b"not-before") {
-        return compare(Domain::OnInstants, Comparison::GreaterOrEqual);
-    }
-    on_one_rule(name)
-}
-
-// Of an operation on one rule.
-fn on_one_rule(name: &[u8]) -> Keyword
-    ensures { λ r. ⌜ keywordOf r ≡ find (sameBytes (now (name .entry))) (drop 15 keywords) ⌝ }
-{
-    if same(name, b"!") {
-        return exactly(1, Op::Not);
-    }
-    if same(name, b"dccDateOfBirth") {
-        return exactly(1, Op::DateOfBirth);
-    }
-    if same(name, b"plusTime") {
-        return Keyword::PlusTime;
-    }
-    if same(name, b"extractFromUVCI") {
-        return Keyword::ExtractFromUvci;
-    }
-    Keyword::NoKeyword
 }
 
 // The unit of this name.
 pub fn unit_named(name: &[u8]) -> UnitAnswer
     ensures { λ r. ⌜ unitOf r ≡ unitNamed (now (name .entry)) ⌝ }
 {
-    if same(name, b"year") {
-        return UnitAnswer::Unit(TimeUnit::Year);
+    let names = b"year month day hour ";
+    let sizes = [4, 5, 3, 4];
+    match position_of(names, &sizes, name) {
+        Position::Nowhere => UnitAnswer::NoUnit,
+        Position::At(i) => unit_at(i),
     }
-    if same(name, b"month") {
-        return UnitAnswer::Unit(TimeUnit::Month);
-    }
-    if same(name, b"day") {
-        return UnitAnswer::Unit(TimeUnit::Day);
-    }
-    if same(name, b"hour") {
-        return UnitAnswer::Unit(TimeUnit::Hour);
-    }
-    UnitAnswer::NoUnit
 }

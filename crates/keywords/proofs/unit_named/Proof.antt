@@ -1,60 +1,32 @@
+use mathlib.Core.Path.{refl}
+use Rattle.model.specs.Shape.{units}
+use Rattle.bytes.specs.Laws.Names.{answered-at}
 use borrow.Author.Needs.{needs}
 use Rattle.keywords.proofs.unit_named.Statement.{statement}
 use Rattle.keywords.proofs.unit_named.Tie as tie
 
-slice-aggregate-same : tie.Need-slice-aggregate-same
-slice-aggregate-same c = search needs
+slice-aggregate-position-of : tie.Need-slice-aggregate-position-of
+slice-aggregate-position-of c = search needs
 
-same-requires : tie.Need-same-requires
-same-requires c κs = search needs
+position-of-requires : tie.Need-position-of-requires
+position-of-requires c κs = search needs
+
+enum-told : tie.Need-enum-told
+enum-told c = search needs
+
+enum-known-i : tie.Need-enum-known-i
+enum-known-i c = search needs
+
+unit-at-requires : tie.Need-unit-at-requires
+unit-at-requires c κs = search needs
 
 returns : tie.Need-returns
-returns c = rw (← c .before .same .ensures, c .if1 .taken)
-
-slice-aggregate-same-2 : tie.Need-slice-aggregate-same-2
-slice-aggregate-same-2 c = search needs
-
-same-requires-2 : tie.Need-same-requires-2
-same-requires-2 c κs = search needs
+returns c = answered-at units refl refl (c .before .before .position-of .ensures) (c .enum-told .given .1) refl
 
 returns-2 : tie.Need-returns-2
-returns-2 c = rw (← c .before .before .before .before .same .ensures, c .before .before .before .if1 .left, ← c .before .same2 .ensures, c .if2 .taken)
-
-slice-aggregate-same-3 : tie.Need-slice-aggregate-same-3
-slice-aggregate-same-3 c = search needs
-
-same-requires-3 : tie.Need-same-requires-3
-same-requires-3 c κs = search needs
-
-returns-3 : tie.Need-returns-3
-returns-3 c = rw (← c .before .before .before .before .before .before .before .same .ensures, c .before .before .before .before .before .before .if1 .left, ← c .before .before .before .before .same2 .ensures, c .before .before .before .if2 .left, ← c .before .same3 .ensures, c .if3 .taken)
-
-slice-aggregate-same-4 : tie.Need-slice-aggregate-same-4
-slice-aggregate-same-4 c = search needs
-
-same-requires-4 : tie.Need-same-requires-4
-same-requires-4 c κs = search needs
-
-returns-4 : tie.Need-returns-4
-returns-4 c = rw (← c .before .before .before .before .before .before .before .before .before .before .same .ensures, c .before .before .before .before .before .before .before .before .before .if1 .left, ← c .before .before .before .before .before .before .before .same2 .ensures, c .before .before .before .before .before .before .if2 .left, ← c .before .before .before .before .same3 .ensures, c .before .before .before .if3 .left, ← c .before .same4 .ensures, c .if4 .taken)
-
-returns-5 : tie.Need-returns-5
-returns-5 c = rw (← c .before .before .before .before .before .before .before .before .before .before .same .ensures, c .before .before .before .before .before .before .before .before .before .if1 .left, ← c .before .before .before .before .before .before .before .same2 .ensures, c .before .before .before .before .before .before .if2 .left, ← c .before .before .before .before .same3 .ensures, c .before .before .before .if3 .left, ← c .before .same4 .ensures, c .if4 .left)
+returns-2 c = answered-at units refl refl (c .before .before .before .before .position-of .ensures) (c .before .before .i .given .1) (c .unit-at .ensures)
 
 pub unit-named-spec : {M : Type 1} → statement M
 unit-named-spec =
     tie.close
-    (tie.spec
-    slice-aggregate-same
-    same-requires
-    returns
-    slice-aggregate-same-2
-    same-requires-2
-    returns-2
-    slice-aggregate-same-3
-    same-requires-3
-    returns-3
-    slice-aggregate-same-4
-    same-requires-4
-    returns-4
-    returns-5)
+    (tie.spec slice-aggregate-position-of position-of-requires enum-told enum-known-i unit-at-requires returns returns-2)

@@ -1,0 +1,2 @@
+-- Laws: what is proved of the definitions, a file for each subject.
+pub mod Stands
