@@ -6,6 +6,7 @@ use Rattle.bytes.proofs.Search.{Sought, sought-none, sought-all, sought
 use Rattle.bytes.proofs.names.position_of.Statement.{statement}
 use Rattle.bytes.proofs.names.position_of.Tie as tie
 <<<<<<< HEAD
+<<<<<<< HEAD
 
 abbrev Inv-loop : tie.InvT-loop
 Inv-loop names name at₀ i₀ at i = Sought names name at i
@@ -17,6 +18,8 @@ loop-holds : tie.Need-loop-holds Inv-loop μ-loop
 loop-holds c = sought-none _ _
 =======
 use Rattle.bytes.proofs.same.Reads as same-reads
+=======
+>>>>>>> 43cfd8d (bytes: one law over tables: what stands at a name's position)
 
 abbrev Inv-loop : tie.InvT-loop
 Inv-loop names sizes name at₀ i₀ at i = Sought names sizes name at i
