@@ -1,5 +1,6 @@
 // The type that a text names, and the types that a text has.
-use bytes::same;
+use bytes::names::Position;
+use bytes::names::position_of;
 use calendar::instant::DateAnswer;
 use dates::read_date;
 use dates::read_day;
@@ -7,14 +8,12 @@ use model::Ty;
 use types::set::TypeSet;
 use types::set::only;
 ghost use mathlib.Core.Path.{_≡_};
-ghost use lib.ListN.{drop};
-ghost use Rattle.model.specs.Bytes.{sameBytes};
 ghost use Rattle.model.specs.DateText.{isDate, isDay};
-ghost use Rattle.model.specs.Lists.{find};
 ghost use Rattle.model.specs.Result.{isOk};
 ghost use Rattle.model.specs.Rule.{Literal};
 ghost use Rattle.model.specs.Sheet.{words, typeNamed};
 ghost use Rattle.model.specs.TypeCheck.{literalTypes};
+ghost use Rattle.bytes.specs.Names.{entryAt};
 ghost use Rattle.calendar.specs.Answer.{dateResult};
 ghost use Rattle.types.specs.Set.{setOf};
 ghost use Rattle.words.specs.Named.{typeOf};
@@ -24,48 +23,35 @@ pub enum TypeAnswer {
     Named(Ty),
 }
 
+// The type at a place of the table of words.
+fn type_at(i: usize) -> TypeAnswer
+    ensures { λ r. ⌜ typeOf r ≡ entryAt words i ⌝ }
+{
+    match i {
+        0 => TypeAnswer::Named(Ty::Null),
+        1 => TypeAnswer::Named(Ty::Boolean),
+        2 => TypeAnswer::Named(Ty::Integer),
+        3 => TypeAnswer::Named(Ty::String),
+        4 => TypeAnswer::Named(Ty::Date),
+        5 => TypeAnswer::Named(Ty::Day),
+        6 => TypeAnswer::Named(Ty::Integers),
+        7 => TypeAnswer::Named(Ty::Strings),
+        8 => TypeAnswer::Named(Ty::Array),
+        9 => TypeAnswer::Named(Ty::Object),
+        _ => TypeAnswer::Unknown,
+    }
+}
+
 // The type that a word of a sheet names.
 pub fn type_named(name: &[u8]) -> TypeAnswer
     ensures { λ r. ⌜ typeOf r ≡ typeNamed (now (name .entry)) ⌝ }
 {
-    if same(name, b"null") {
-        return TypeAnswer::Named(Ty::Null);
+    let names = b"null boolean integer string date day integers strings array object ";
+    let sizes = [4, 7, 7, 6, 4, 3, 8, 7, 5, 6];
+    match position_of(names, &sizes, name) {
+        Position::Nowhere => TypeAnswer::Unknown,
+        Position::At(i) => type_at(i),
     }
-    if same(name, b"boolean") {
-        return TypeAnswer::Named(Ty::Boolean);
-    }
-    if same(name, b"integer") {
-        return TypeAnswer::Named(Ty::Integer);
-    }
-    if same(name, b"string") {
-        return TypeAnswer::Named(Ty::String);
-    }
-    if same(name, b"date") {
-        return TypeAnswer::Named(Ty::Date);
-    }
-    if same(name, b"day") {
-        return TypeAnswer::Named(Ty::Day);
-    }
-    array_type_named(name)
-}
-
-// Of an array's or an object's word, the last four.
-fn array_type_named(name: &[u8]) -> TypeAnswer
-    ensures { λ r. ⌜ typeOf r ≡ find (sameBytes (now (name .entry))) (drop 6 words) ⌝ }
-{
-    if same(name, b"integers") {
-        return TypeAnswer::Named(Ty::Integers);
-    }
-    if same(name, b"strings") {
-        return TypeAnswer::Named(Ty::Strings);
-    }
-    if same(name, b"array") {
-        return TypeAnswer::Named(Ty::Array);
-    }
-    if same(name, b"object") {
-        return TypeAnswer::Named(Ty::Object);
-    }
-    TypeAnswer::Unknown
 }
 
 // Whether a date text's answer is an instant.
