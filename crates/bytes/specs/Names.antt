@@ -1,25 +1,4 @@
-<<<<<<< HEAD
-<<<<<<< HEAD
 -- Names: names in one byte string, and the place of a name among them; what a table has there.
-use mathlib.Core.Bool.{cond}
-use mathlib.Core.List.{List, [], _∷_, _++_}
-use mathlib.Core.Option.{Option, none, some}
-use mathlib.Core.Path.{_≡_}
-use Prim.Native.Nat.{ℕ, zero, suc, _+_}
-use lib.ListN.{length}
-use Rattle.model.specs.Bytes.{Bytes, sameBytes}
-use Rattle.bytes.specs.declared.names.Position.{Position}
-use Rattle.bytes.specs.declared.names.Position.the-variants.{Nowhere, At}
-
--- Each name after a byte that is its length.
-abbrev pub listed : List Bytes → Bytes
-listed [] = []
-listed (n ∷ l) = length n ∷ (n ++ listed l)
-=======
--- Names: names in one byte string, and the place of a name among them.
-=======
--- Names: names in one byte string, and the place of a name among them; what a table has there.
->>>>>>> 43cfd8d (bytes: one law over tables: what stands at a name's position)
 use mathlib.Core.Bool.{cond}
 use mathlib.Core.List.{List, [], _∷_, _++_}
 use mathlib.Core.Option.{Option, none, some}
@@ -38,38 +17,14 @@ spaced (n ∷ l) = n ++ (byte " " ∷ spaced l)
 abbrev pub lengths : List Bytes → List ℕ
 lengths [] = []
 lengths (n ∷ l) = length n ∷ lengths l
->>>>>>> 6b352f5 (bytes: the place of a name among others that lie in one byte string)
 
 -- The first place of a name among others, counted from i.
 abbrev pub positionFrom : ℕ → Bytes → List Bytes → Position
 positionFrom i name [] = Nowhere
 positionFrom i name (n ∷ l) = cond (sameBytes name n) (At i) (positionFrom (i + 1) name l)
 
-<<<<<<< HEAD
-pub record IsPosition (names name : Bytes) (r : Position) : Type 0 where
-  pub is : (l : List Bytes) → names ≡ listed l → r ≡ positionFrom 0 name l
-
--- ---- tables
--- The names of a table of pairs,
-abbrev pub namesOf : {A : Type 0} → List (Bytes × A) → List Bytes
-namesOf [] = []
-namesOf (e ∷ l) = e .0 ∷ namesOf l
-
--- and what it has at a place.
-abbrev pub entryAt : {A : Type 0} → List (Bytes × A) → ℕ → Option A
-entryAt [] i = none
-entryAt (e ∷ l) zero = some (e .1)
-entryAt (e ∷ l) (suc i) = entryAt l i
-
-abbrev pub entryOf : {A : Type 0} → List (Bytes × A) → Position → Option A
-entryOf l Nowhere = none
-entryOf l (At i) = entryAt l i
-=======
 pub record IsPosition (names sizes name : Bytes) (r : Position) : Type 0 where
   pub is : (l : List Bytes) → names ≡ spaced l → sizes ≡ lengths l → r ≡ positionFrom 0 name l
-<<<<<<< HEAD
->>>>>>> 6b352f5 (bytes: the place of a name among others that lie in one byte string)
-=======
 
 -- ---- tables
 -- The names of a table of pairs,
@@ -86,4 +41,3 @@ entryAt (e ∷ l) (suc i) = entryAt l i
 abbrev pub entryOf : {A : Type 0} → List (Bytes × A) → Position → Option A
 entryOf l Nowhere = none
 entryOf l (At i) = entryAt l i
->>>>>>> 43cfd8d (bytes: one law over tables: what stands at a name's position)

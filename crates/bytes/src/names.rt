@@ -7,25 +7,6 @@ pub enum Position {
     At(usize),
 }
 
-<<<<<<< HEAD
-// The first place of a name among those of a list, each of them after a byte that is its length.
-pub fn position_of(names: &[u8], name: &[u8]) -> Position
-    ensures { λ r. ⌜ IsPosition (now (names .entry)) (now (name .entry)) r ⌝ }
-{
-    let mut at: usize = 0;
-    let mut i: usize = 0;
-    while at < names.len() {
-        let size = names[at] as usize;
-        let start = at + 1;
-        if names.len() - start < size {
-            return Position::Nowhere;
-        }
-        let end = start + size;
-        if same(name, &names[start..end]) {
-            return Position::At(i);
-        }
-        at = end;
-=======
 // The first place of a name among others. Each of them has a space after it; `sizes` has the length of each.
 pub fn position_of(names: &[u8], sizes: &[u8], name: &[u8]) -> Position
     ensures { λ r. ⌜ IsPosition (now (names .entry)) (now (sizes .entry)) (now (name .entry)) r ⌝ }
@@ -42,7 +23,6 @@ pub fn position_of(names: &[u8], sizes: &[u8], name: &[u8]) -> Position
             return Position::At(i);
         }
         at = end + 1;
->>>>>>> 6b352f5 (bytes: the place of a name among others that lie in one byte string)
         i = i + 1;
     }
     Position::Nowhere

@@ -3,24 +3,15 @@ use mathlib.Core.Path.{_≡_, refl, sym, ap, _∙_}
 use mathlib.Core.Bool.{Bool, true, false, cond}
 use mathlib.Core.List.{List, [], _∷_}
 use mathlib.Core.Option.{Option, none, some}
-<<<<<<< HEAD
-use Prim.Native.Nat.{ℕ, suc, _+_}
-use native.Mathlib.Omega.{arith}
-=======
 use Prim.Native.Nat.{ℕ, zero, suc, _+_, _≤_}
 use native.Mathlib.Omega.{arith}
 use types.Run.{OneOf}
 use lib.ListN.{length}
->>>>>>> 43cfd8d (bytes: one law over tables: what stands at a name's position)
 use Rattle.model.specs.Bytes.{Bytes, sameBytes}
 use Rattle.model.specs.Lists.{find}
 use Rattle.bytes.specs.declared.names.Position.{Position}
 use Rattle.bytes.specs.declared.names.Position.the-variants.{Nowhere, At}
-<<<<<<< HEAD
-use Rattle.bytes.specs.Names.{listed, positionFrom, IsPosition, namesOf, entryAt, entryOf}
-=======
 use Rattle.bytes.specs.Names.{spaced, lengths, positionFrom, IsPosition, namesOf, entryAt, entryOf}
->>>>>>> 43cfd8d (bytes: one law over tables: what stands at a name's position)
 
 module _ {A : Type 0} (name : Bytes) where
   -- What g has at a position.
@@ -38,20 +29,13 @@ module _ {A : Type 0} (name : Bytes) where
       go false k = k
 
 -- A table has for a name what stands at the name's position.
-<<<<<<< HEAD
-pub found-at : {A : Type 0} (l : List (Bytes × A)) {names name : Bytes} {r : Position} → names ≡ listed (namesOf l) → IsPosition names name r → find (sameBytes name) l ≡ entryOf l r
-found-at l {name = name} {r = r} e p = found-from name l 0 (entryAt l) (λ k. ap (entryAt l) (omega arith)) ∙ go r (p .is (namesOf l) e)
-=======
 pub found-at : {A : Type 0} (l : List (Bytes × A)) {names sizes name : Bytes} {r : Position}
     → names ≡ spaced (namesOf l) → sizes ≡ lengths (namesOf l) → IsPosition names sizes name r → find (sameBytes name) l ≡ entryOf l r
 found-at l {name = name} {r = r} e f p = found-from name l 0 (entryAt l) (λ k. ap (entryAt l) (omega arith)) ∙ go r (p .is (namesOf l) e f)
->>>>>>> 43cfd8d (bytes: one law over tables: what stands at a name's position)
   where
     go : (r : Position) {q : Position} → r ≡ q → given name (entryAt l) q ≡ entryOf l r
     go Nowhere h = ap (given name (entryAt l)) (sym h)
     go (At i) h = ap (given name (entryAt l)) (sym h)
-<<<<<<< HEAD
-=======
 
 -- So what a function of code answers at that position is what the table has for the name.
 pub answered-at : {A : Type 0} (l : List (Bytes × A)) {names sizes name : Bytes} {r q : Position} {o : Option A}
@@ -75,4 +59,3 @@ past-end (e ∷ l) (suc i) h = past-end l i (omega arith)
 
 pub no-entry : {A : Type 0} (l : List (Bytes × A)) (i : ℕ) → NoneOf (length l) i → none ≡ entryAt l i
 no-entry l i h = past-end l i (none-of (length l) i h)
->>>>>>> 43cfd8d (bytes: one law over tables: what stands at a name's position)

@@ -5,21 +5,6 @@ use lib.ListN.{length}
 use Rattle.bytes.proofs.Search.{Sought, sought-none, sought-all, sought-short, sought-found, sought-on}
 use Rattle.bytes.proofs.names.position_of.Statement.{statement}
 use Rattle.bytes.proofs.names.position_of.Tie as tie
-<<<<<<< HEAD
-<<<<<<< HEAD
-
-abbrev Inv-loop : tie.InvT-loop
-Inv-loop names name at₀ i₀ at i = Sought names name at i
-
-abbrev μ-loop : tie.MeasureT-loop
-μ-loop names name at₀ i₀ at i = length names - at
-
-loop-holds : tie.Need-loop-holds Inv-loop μ-loop
-loop-holds c = sought-none _ _
-=======
-use Rattle.bytes.proofs.same.Reads as same-reads
-=======
->>>>>>> 43cfd8d (bytes: one law over tables: what stands at a name's position)
 
 abbrev Inv-loop : tie.InvT-loop
 Inv-loop names sizes name at₀ i₀ at i = Sought names sizes name at i
@@ -29,26 +14,15 @@ abbrev μ-loop : tie.MeasureT-loop
 
 loop-holds : tie.Need-loop-holds Inv-loop μ-loop
 loop-holds c = sought-none _ _ _
->>>>>>> 6b352f5 (bytes: the place of a name among others that lie in one byte string)
 
 shared-slice-read-size : tie.Need-shared-slice-read-size Inv-loop μ-loop
 shared-slice-read-size c = omega arith
 
 cast-size : tie.Need-cast-size Inv-loop μ-loop
-<<<<<<< HEAD
-cast-size c = omega (arith, c .shared-slice-known3 .given (c .before .before .loop .at))
-
-add-start : tie.Need-add-start Inv-loop μ-loop
-add-start c = omega arith
-
-sub-if1 : tie.Need-sub-if1 Inv-loop μ-loop
-sub-if1 c = omega arith
-=======
 cast-size c = omega (arith, c .shared-slice-known4 .given (c .before .before .loop .i))
 
 sub-if1 : tie.Need-sub-if1 Inv-loop μ-loop
 sub-if1 c = omega (arith, c .before .before .loop .inv .inside)
->>>>>>> 6b352f5 (bytes: the place of a name among others that lie in one byte string)
 
 returns : tie.Need-returns Inv-loop μ-loop
 returns c = sought-short (c .before .before .before .loop .inv) (omega arith) (c .if1 .taken)
@@ -63,11 +37,7 @@ part-same-start : tie.Need-part-same-start Inv-loop μ-loop
 part-same-start c = search needs
 
 part-same-end : tie.Need-part-same-end Inv-loop μ-loop
-<<<<<<< HEAD
-part-same-end c = omega arith
-=======
 part-same-end c = omega (arith, c .before .before .before .loop .inv .inside)
->>>>>>> 6b352f5 (bytes: the place of a name among others that lie in one byte string)
 
 same-requires : tie.Need-same-requires Inv-loop μ-loop
 same-requires c κs = search needs
@@ -75,26 +45,17 @@ same-requires c κs = search needs
 returns-2 : tie.Need-returns-2 Inv-loop μ-loop
 returns-2 c = sought-found (c .before .before .before .before .before .before .loop .inv) (omega arith) (c .before .same .ensures) (c .if2 .taken)
 
-<<<<<<< HEAD
-add-i : tie.Need-add-i Inv-loop μ-loop
-add-i c = omega (arith, c .before .before .before .before .before .before .loop .inv .few)
-=======
 add-at : tie.Need-add-at Inv-loop μ-loop
 add-at c = omega (arith, c .before .before .before .before .before .before .loop .inv .inside)
 
 add-i : tie.Need-add-i Inv-loop μ-loop
 add-i c = omega arith
->>>>>>> 6b352f5 (bytes: the place of a name among others that lie in one byte string)
 
 loop-less : tie.Need-loop-less Inv-loop μ-loop
 loop-less c = omega arith
 
 loop-again : tie.Need-loop-again Inv-loop μ-loop
-<<<<<<< HEAD
-loop-again c = sought-on (c .before .before .before .before .before .before .loop .inv) (omega arith) (c .before .same .ensures) (c .if2 .left)
-=======
 loop-again c = sought-on (c .before .before .before .before .before .before .loop .inv) (omega arith) (c .before .same .ensures) (c .before .before .before .if1 .left) (c .if2 .left)
->>>>>>> 6b352f5 (bytes: the place of a name among others that lie in one byte string)
 
 returns-3 : tie.Need-returns-3 Inv-loop μ-loop
 returns-3 c = sought-all (c .before .loop .inv) (omega arith)
@@ -108,10 +69,6 @@ position-of-spec =
     loop-holds
     shared-slice-read-size
     cast-size
-<<<<<<< HEAD
-    add-start
-=======
->>>>>>> 6b352f5 (bytes: the place of a name among others that lie in one byte string)
     sub-if1
     returns
     add-end
@@ -120,10 +77,7 @@ position-of-spec =
     part-same-end
     same-requires
     returns-2
-<<<<<<< HEAD
-=======
     add-at
->>>>>>> 6b352f5 (bytes: the place of a name among others that lie in one byte string)
     add-i
     loop-less
     loop-again
