@@ -1,6 +1,3 @@
--- Laws for the proofs of lookup.
-pub mod Members
-pub mod Digits
-pub mod Items
+-- Laws for the proofs of the functions.
 pub mod Parts
-pub mod Paths
+pub mod Walk

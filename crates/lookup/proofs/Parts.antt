@@ -1,81 +1,150 @@
 -- Parts: what a fragment names, by the form of the value's handle.
 use mathlib.Core.Path.{_≡_, refl}
+use mathlib.Core.Bool.{Bool, true, false, cond}
 use mathlib.Core.List.{[], _∷_}
-use mathlib.Core.Logic.{⊎-elim}
-use Prim.Native.Nat.{ℕ, _≤_}
+use mathlib.Core.Option.{Option, none, some}
+use Prim.Native.Nat.{ℕ, zero, suc, _+_, _/_, _≤_, _<_}
+use native.Mathlib.Nat.{add-zero}
 use native.Mathlib.Omega.{arith}
+use borrow.Author.Tests.{le-ltb}
 use denote.Enum.Declared.{tagOf}
-use types.Run.{OneOf}
-use Rattle.model.specs.Bytes.{Bytes}
+use types.Run.{OneOf, miss}
+use lib.ListN.{length}
+use Rattle.model.specs.Bytes.{Bytes, sameBytes}
+use Rattle.model.specs.Eval.{current, accumulator}
 use Rattle.model.specs.Limits.{heapCells}
-use Rattle.model.specs.Path.{part}
-use Rattle.model.specs.Value.{Value, array, object, Values, Members}
+use Rattle.model.specs.Option.{_>>=_}
+use Rattle.model.specs.Path.{indexOf, itemAt, part}
+use Rattle.model.specs.Value.{Value, array, Values, no-items, item}
+use Rattle.model.specs.Laws.Logic.{clash}
+use Rattle.syntax.specs.Layout.{itemCount}
+use Rattle.table.specs.declared.node.Node.the-variants as nodes
+use Rattle.table.specs.Node.{rows}
+use Rattle.paths.proofs.index.Index.{the-type as index-type}
+use Rattle.paths.specs.declared.index.Index.{Index}
+use Rattle.paths.specs.declared.index.Index.the-variants.{At}
+use Rattle.paths.specs.Contract.{limit, IndexIs, inside, outside}
+use Rattle.paths.specs.Inner.{orNull}
 use Rattle.heap.proofs.handle.Handle.{the-type}
+use Rattle.heap.specs.declared.handle.Form.the-variants.{Items, Members, List, Context}
 use Rattle.heap.specs.declared.handle.Handle.{Handle}
-use Rattle.heap.specs.declared.handle.Handle.the-variants.{Compound}
-use Rattle.heap.specs.declared.handle.Form.{Form}
-use Rattle.heap.specs.declared.handle.Form.the-variants as forms
+use Rattle.heap.specs.declared.handle.Handle.the-variants.{Null, Compound}
 use Rattle.heap.specs.declared.handle.Parts.{Parts}
-use Rattle.heap.specs.Means.{Means, means-null, means-false, means-true, means-integer, means-instant, means-string, means-items, means-members, means-list, means-context}
+use Rattle.heap.specs.Cells.{cellBytes, cellHandle}
+use Rattle.heap.specs.Handles.{parts}
+use Rattle.heap.specs.Means.{Means, means-null, means-false, means-true, means-integer, means-instant, means-string, means-items, means-members, means-list, means-context, CellItems, cell-item}
 use Rattle.heap.specs.Unfold.{Areas, areas}
-use Rattle.lookup.specs.declared.Found.{Found}
-use Rattle.lookup.specs.declared.Found.the-variants.{Absent}
-use Rattle.lookup.specs.Inner.{Finds, absent, memberOf, ItemNamed, PartNamed}
-use Rattle.lookup.proofs.Members.{read-member, context-member}
+use Rattle.heap.specs.Laws.Means.{raised, means-small}
+use Rattle.heap.specs.Laws.Rows.{node-denotes}
+use Rattle.lookup.specs.declared.Step.the-variants.{Part, Record}
+use Rattle.lookup.specs.Inner.{memberOf, ItemNamed, to-part, to-record, StepIs}
 
--- The tag of an array or object is none of those before it.
-not-last : OneOf (0 ∷ 1 ∷ 2 ∷ 3 ∷ 4 ∷ 5 ∷ []) 6 → ⊥
-not-last k = ⊎-elim (λ x. omega arith) (⊎-elim (λ x. omega arith) (⊎-elim (λ x. omega arith) (⊎-elim (λ x. omega arith) (⊎-elim (λ x. omega arith) (λ x. omega arith))))) k
+-- ---- cells
+pub no-cell : (C : Bytes) (j : ℕ) → length C / 8 ≤ j → Null ≡ cellHandle C j
+unfolding cellHandle cellBytes
+no-cell C j l = rw (le-ltb j (length C / 8) l)
 
-no-part : {a : Areas} {top : ℕ} {v : Value} (f : Bytes) (h : Handle) → OneOf (0 ∷ 1 ∷ 2 ∷ 3 ∷ 4 ∷ 5 ∷ []) (tagOf the-type h) → Means a top v h → Finds a top (part f v) Absent
-no-part f h k means-null = absent refl refl
-no-part f h k means-false = absent refl refl
-no-part f h k means-true = absent refl refl
-no-part f h k (means-integer w e) = absent refl refl
-no-part f h k (means-instant w e) = absent refl refl
-no-part f h k (means-string l) = absent refl refl
-no-part f h k (means-items e l r) = absurd (not-last k)
-no-part f h k (means-members e l r) = absurd (not-last k)
-no-part f h k (means-list e l r) = absurd (not-last k)
-no-part f h k (means-context b i m n) = absurd (not-last k)
+-- ---- items
+-- The item so many after the first stands in the cell so many after the first's; behind the last there is none.
+cell-means : {a : Areas} {top : ℕ} (vs : Values) (cell k : ℕ) → CellItems a cell vs → cell + itemCount vs ≤ top → k < itemCount vs → Means a top (orNull (itemAt vs k)) (cellHandle (a .cells) (cell + k))
+unfolding itemCount
+cell-means no-items cell k c b l = absurd (omega arith)
+cell-means (item v vs) cell zero (cell-item i m r) b l = rw (add-zero cell) (raised m (omega arith))
+cell-means (item v vs) cell (suc k) (cell-item i m r) b l =
+    let e : cell + suc k ≡ suc cell + k = omega arith in
+    rw e (cell-means vs (suc cell) k r (omega arith) (omega arith))
 
--- Arrays and objects by the form of their handles.
-data Formed : Form → Value → Type 0 where
-  of-items : {vs : Values} → Formed forms.Items (array vs)
-  of-members : {ms : Members} → Formed forms.Members (object ms)
-  of-list : {vs : Values} → Formed forms.List (array vs)
-  of-context : {ms : Members} → Formed forms.Context (object ms)
+item-past : (vs : Values) (k : ℕ) → itemCount vs ≤ k → itemAt vs k ≡ none
+unfolding itemCount
+item-past no-items k l = refl
+item-past (item v vs) zero l = absurd (omega arith)
+item-past (item v vs) (suc k) l = item-past vs k (omega arith)
 
-formed : {a : Areas} {top : ℕ} {v : Value} {p : Parts} → Means a top v (Compound p) → Formed (p .form) v
-formed (means-items {vs = vs} e l r) = of-items {vs = vs}
-formed (means-members {ms = ms} e l r) = of-members {ms = ms}
-formed (means-list {vs = vs} e l r) = of-list {vs = vs}
-formed (means-context b i m n) = of-context
+list-item : {a : Areas} {top : ℕ} {vs : Values} {p : Parts} → Means a top (array vs) (Compound p) → p .form ≡ List → (k : ℕ) → k < p .count → Means a top (orNull (itemAt vs k)) (cellHandle (a .cells) (p .first + k))
+list-item (means-items e f r) q k l = clash cc
+list-item (means-list {vs = vs} {cell = cell} e b r) q k l = cell-means vs cell k r (omega arith) (omega arith)
 
-module _ {f B T C : Bytes} where
-  pub scalar-part : (h : Handle) → OneOf (0 ∷ 1 ∷ 2 ∷ 3 ∷ 4 ∷ 5 ∷ []) (tagOf the-type h) → PartNamed f B T C h Absent
-  scalar-part h k = record { finds = λ A top v l m. no-part f h k m }
+list-past : {a : Areas} {top : ℕ} {vs : Values} {p : Parts} → Means a top (array vs) (Compound p) → p .form ≡ List → (k : ℕ) → p .count ≤ k → Means a top (orNull (itemAt vs k)) Null
+list-past (means-items e f r) q k l = clash cc
+list-past (means-list {vs = vs} e b r) q k l = rw (item-past vs k (omega arith)) means-null
 
-  pub items-part : {p : Parts} {r : Found} → p .form ≡ forms.Items → ItemNamed f T C p r → PartNamed f B T C (Compound p) r
-  items-part {p} {r} e x = record { finds = λ A top v l m. go l (rw e at (formed m)) m }
+module _ {f C : Bytes} {p : Parts} where
+  pub named-outside : {i : Index} → IndexIs f i → OneOf (0 ∷ []) (tagOf index-type i) → ItemNamed f C p Null
+  named-outside (inside e) t = absurd (miss (0 ∷ []) 1 tt t)
+  named-outside (outside far) t = record { means = λ A B T top vs l q m. go m l q (indexOf f) far }
     where
-      go : {A : Bytes} {top : ℕ} {v : Value} → top ≤ heapCells → Formed forms.Items v → Means (areas A B T C) top v (Compound p) → Finds (areas A B T C) top (part f v) r
-      go {A} {top} l (of-items {vs}) m = x .finds A B top vs l m
+      go : {a : Areas} {top : ℕ} {vs : Values} → Means a top (array vs) (Compound p) → top ≤ heapCells → p .form ≡ List → (o : Option ℕ) → ((k : ℕ) → o ≡ some k → limit ≤ k)
+          → Means a top (orNull (o >>= itemAt vs)) Null
+      go m l q none x = means-null
+      go m l q (some k) x = list-past m q k (omega (arith, x k refl, means-small m l))
 
-  pub list-part : {p : Parts} {r : Found} → p .form ≡ forms.List → ItemNamed f T C p r → PartNamed f B T C (Compound p) r
-  list-part {p} {r} e x = record { finds = λ A top v l m. go l (rw e at (formed m)) m }
-    where
-      go : {A : Bytes} {top : ℕ} {v : Value} → top ≤ heapCells → Formed forms.List v → Means (areas A B T C) top v (Compound p) → Finds (areas A B T C) top (part f v) r
-      go {A} {top} l (of-list {vs}) m = x .finds A B top vs l m
+  module _ {k : ℕ} (x : IndexIs f (At k)) where
+    pub named-past : p .count ≤ k → ItemNamed f C p Null
+    named-past l = go x
+      where
+        go : IndexIs f (At k) → ItemNamed f C p Null
+        go (inside e) = record { means = λ A B T top vs b q m. rw e (list-past m q k l) }
 
-  pub member-part : {p : Parts} {r : Found} → p .form ≡ forms.Members → r ≡ memberOf f B T C (p .count) p → PartNamed f B T C (Compound p) r
-  member-part {p} {r} e x = record { finds = λ A top v l m. go (rw e at (formed m)) m }
-    where
-      go : {A : Bytes} {top : ℕ} {v : Value} → Formed forms.Members v → Means (areas A B T C) top v (Compound p) → Finds (areas A B T C) top (part f v) r
-      go (of-members {ms}) m = rw x (read-member f ms p e m)
+    pub named-at : {r : Handle} → k < p .count → r ≡ cellHandle C (p .first + k) → ItemNamed f C p r
+    named-at {r} l d = go x
+      where
+        go : IndexIs f (At k) → ItemNamed f C p r
+        go (inside e) = record { means = λ A B T top vs b q m. rw (e, d) (list-item m q k l) }
 
-  pub context-part : {p : Parts} {r : Found} → p .form ≡ forms.Context → r ≡ memberOf f B T C (p .count) p → PartNamed f B T C (Compound p) r
-  context-part {p} {r} e x = record { finds = λ A top v l m. go (rw e at (formed m)) m }
+list-named : {f A B T C : Bytes} {top : ℕ} {v : Value} {p : Parts} {r : Handle} → ItemNamed f C p r → top ≤ heapCells → Means (areas A B T C) top v (Compound p) → p .form ≡ List
+    → Means (areas A B T C) top (orNull (part f v)) r
+list-named x l (means-items e f r) q = clash cc
+list-named x l (means-members e f r) q = clash cc
+list-named {A = A} {B = B} {T = T} {top = top} x l (means-list {vs = vs} e b r) q = x .means A B T top vs l q (means-list e b r)
+list-named x l (means-context b i m n) q = clash cc
+
+-- ---- a context
+context-named : {a : Areas} {top : ℕ} {v : Value} {p : Parts} (f : Bytes) → Means a top v (Compound p) → p .form ≡ Context → Means a top (orNull (part f v)) (memberOf f (a .cells) (p .first))
+context-named f (means-items e l r) q = clash cc
+context-named f (means-members e l r) q = clash cc
+context-named f (means-list e l r) q = clash cc
+context-named {a} {top} f (means-context {cur = cur} {acc = acc} {cell = cell} b i m n) q = go (sameBytes f current) (sameBytes f accumulator)
+  where
+    go : (x y : Bool) → Means a top (orNull (cond x (some cur) (cond y (some acc) none))) (cond x (cellHandle (a .cells) cell) (cond y (cellHandle (a .cells) (cell + 1)) Null))
+    go true y = raised m (omega arith)
+    go false true = let e : cell + 1 ≡ suc cell = omega arith in rw e (raised n (omega arith))
+    go false false = means-null
+
+-- ---- a fragment
+module _ {f C : Bytes} where
+  -- What is no array and no object has no parts.
+  pub no-part : (h : Handle) → OneOf (0 ∷ 1 ∷ 2 ∷ 3 ∷ 4 ∷ 5 ∷ []) (tagOf the-type h) → StepIs f C h (Part Null)
+  no-part h k = record { steps = λ A B T top v l m. to-part (go k m) }
     where
-      go : {A : Bytes} {top : ℕ} {v : Value} → Formed forms.Context v → Means (areas A B T C) top v (Compound p) → Finds (areas A B T C) top (part f v) r
-      go (of-context {ms}) m = rw x (context-member f m e)
+      go : {a : Areas} {top : ℕ} {v : Value} {h : Handle} → OneOf (0 ∷ 1 ∷ 2 ∷ 3 ∷ 4 ∷ 5 ∷ []) (tagOf the-type h) → Means a top v h → Means a top (orNull (part f v)) Null
+      go k means-null = means-null
+      go k means-false = means-null
+      go k means-true = means-null
+      go k (means-integer w e) = means-null
+      go k (means-instant w e) = means-null
+      go k (means-string l) = means-null
+      go k (means-items e l r) = absurd (miss (0 ∷ 1 ∷ 2 ∷ 3 ∷ 4 ∷ 5 ∷ []) 6 tt k)
+      go k (means-members e l r) = absurd (miss (0 ∷ 1 ∷ 2 ∷ 3 ∷ 4 ∷ 5 ∷ []) 6 tt k)
+      go k (means-list e l r) = absurd (miss (0 ∷ 1 ∷ 2 ∷ 3 ∷ 4 ∷ 5 ∷ []) 6 tt k)
+      go k (means-context b i m n) = absurd (miss (0 ∷ 1 ∷ 2 ∷ 3 ∷ 4 ∷ 5 ∷ []) 6 tt k)
+
+  module _ {p : Parts} where
+    pub items-step : p .form ≡ Items → StepIs f C (Compound p) (Record (nodes.Array (rows (p .first) (p .count))))
+    items-step e = record {
+      steps = λ A B T top v l m.
+          let n : Means (areas A B T C) top v (Compound (parts (p .form) (p .first) (p .count))) = m in
+          to-record (node-denotes (nodes.Array (rows (p .first) (p .count))) (rw e at n));
+    }
+
+    pub members-step : p .form ≡ Members → StepIs f C (Compound p) (Record (nodes.Object (rows (p .first) (p .count))))
+    members-step e = record {
+      steps = λ A B T top v l m.
+          let n : Means (areas A B T C) top v (Compound (parts (p .form) (p .first) (p .count))) = m in
+          to-record (node-denotes (nodes.Object (rows (p .first) (p .count))) (rw e at n));
+    }
+
+    pub list-step : {r : Handle} → p .form ≡ List → ItemNamed f C p r → StepIs f C (Compound p) (Part r)
+    list-step e x = record { steps = λ A B T top v l m. to-part (list-named x l m e) }
+
+    pub context-step : {r : Handle} → p .form ≡ Context → r ≡ memberOf f C (p .first) → StepIs f C (Compound p) (Part r)
+    context-step {r} e d = record { steps = λ A B T top v l m. to-part {h = r} (rw d (context-named f m e)) }

@@ -1,157 +1,111 @@
-// `var`: the value at a path, by handles.
+// `var`: the value at a path, by handles: through cells here, through the record's rows by crate paths.
 use bytes::path::fragment_end;
 use bytes::same;
+use heap::cell::CELL_BYTES;
+use heap::cell::get;
 use heap::handle::Form;
 use heap::handle::Handle;
 use heap::handle::Parts;
-use heap::part::Label;
-use heap::part::head;
-use heap::part::name_of;
-use heap::part::tail;
-use heap::string::part_of;
+use heap::handle::of_node;
+use paths::find;
+use paths::index::Index;
+use paths::index::read_index;
+use table::node::Node;
+use table::node::Rows;
 ghost use mathlib.Core.Path.{_≡_};
-ghost use Rattle.model.specs.Bytes.{sameBytes};
-ghost use Rattle.heap.specs.Parts.{labelBytes};
+ghost use Prim.Native.Nat.{_+_};
+ghost use Rattle.heap.specs.Cells.{cellHandle};
 ghost use Rattle.lookup.specs.Contract.{Leads};
-ghost use Rattle.lookup.specs.Inner.{memberOf, plain, IndexIs, itemOf, ItemNamed, PartNamed};
+ghost use Rattle.lookup.specs.Inner.{memberOf, ItemNamed, StepIs};
 
-// A part, or that there is none.
-enum Found {
-    Absent,
+// Where a fragment leads: to a part of a value, null where it names none; or into the record, where the value is this.
+enum Step {
     Part(Handle),
+    Record(Node),
 }
 
-// Where an item stands, or that no array has such an item.
-enum Index {
-    Outside,
-    At(usize),
-}
-
-// No array has so many items.
-const LIMIT: usize = 16777216;
-
-// Whether a member's name is this fragment.
-fn is_named(strings: &[u8], name: Label, fragment: &[u8]) -> bool
-    ensures { λ r. ⌜ r ≡ sameBytes (now (fragment .entry)) (labelBytes (now (strings .entry)) name) ⌝ }
+// The handle so many cells after a cell; null where there is no such cell.
+fn cell_after(cells: &[u8], cell: usize, at: usize) -> Handle
+    ensures { λ r. ⌜ r ≡ cellHandle (now (cells .entry)) (cell + at) ⌝ }
 {
-    match name {
-        Label::Nothing => same(fragment, b""),
-        Label::Name { start, size } => same(fragment, part_of(strings, start, size)),
-        Label::Current => same(fragment, b"current"),
-        Label::Accumulator => same(fragment, b"accumulator"),
+    let count = cells.len() / CELL_BYTES;
+    if cell >= count {
+        return Handle::Null;
     }
+    if at >= count - cell {
+        return Handle::Null;
+    }
+    get(cells, cell + at)
 }
 
-// "on an object a fragment names a member"
-fn member(strings: &[u8], table: &[u8], cells: &[u8], p: Parts, fragment: &[u8]) -> Found
-    ensures { λ r. ⌜ r ≡ memberOf (now (fragment .entry)) (now (strings .entry)) (now (table .entry)) (now (cells .entry)) (p .count) p ⌝ }
+// The member of a context, which has `current` in a cell and `accumulator` in the next.
+fn member(fragment: &[u8], cells: &[u8], cell: usize) -> Handle
+    ensures { λ r. ⌜ r ≡ memberOf (now (fragment .entry)) (now (cells .entry)) cell ⌝ }
 {
-    let mut rest = p;
-    while rest.count > 0 {
-        if is_named(strings, name_of(table, rest), fragment) {
-            return Found::Part(head(table, cells, rest));
-        }
-        rest = tail(table, cells, rest);
+    if same(fragment, b"current") {
+        return get(cells, cell);
     }
-    Found::Absent
+    if same(fragment, b"accumulator") {
+        return cell_after(cells, cell, 1);
+    }
+    Handle::Null
 }
 
-// Whether a fragment has a byte, and does not begin with a zero that others follow.
-fn is_plain(fragment: &[u8]) -> bool
-    ensures { λ r. ⌜ r ≡ plain (now (fragment .entry)) ⌝ }
+// The item of a computed list.
+fn item_named(fragment: &[u8], cells: &[u8], p: Parts) -> Handle
+    ensures { λ r. ⌜ ItemNamed (now (fragment .entry)) (now (cells .entry)) p r ⌝ }
 {
-    let n = fragment.len();
-    if n == 0 {
-        return false;
-    }
-    if n == 1 {
-        return true;
-    }
-    fragment[0] != b'0'
-}
-
-// "0 or digits without a leading zero are an index"
-fn read_index(fragment: &[u8]) -> Index
-    ensures { λ r. ⌜ IndexIs (now (fragment .entry)) r ⌝ }
-{
-    if !is_plain(fragment) {
-        return Index::Outside;
-    }
-    let mut at: usize = 0;
-    let mut i: usize = 0;
-    while i < fragment.len() {
-        let digit = fragment[i];
-        if digit < b'0' {
-            return Index::Outside;
-        }
-        if digit > b'9' {
-            return Index::Outside;
-        }
-        at = at * 10 + (digit - b'0') as usize;
-        if at >= LIMIT {
-            return Index::Outside;
-        }
-        i = i + 1;
-    }
-    Index::At(at)
-}
-
-// The item so many after the first.
-fn item(table: &[u8], cells: &[u8], p: Parts, at: usize) -> Found
-    ensures { λ r. ⌜ r ≡ itemOf (now (table .entry)) (now (cells .entry)) p at ⌝ }
-{
+    let Index::At(at) = read_index(fragment) else {
+        return Handle::Null;
+    };
     if at >= p.count {
-        return Found::Absent;
+        return Handle::Null;
     }
-    let mut rest = p;
-    let mut left = at;
-    while left > 0 {
-        rest = tail(table, cells, rest);
-        left = left - 1;
-    }
-    Found::Part(head(table, cells, rest))
+    cell_after(cells, p.first, at)
 }
 
-// The item that a fragment names.
-fn item_named(table: &[u8], cells: &[u8], p: Parts, fragment: &[u8]) -> Found
-    ensures { λ r. ⌜ ItemNamed (now (fragment .entry)) (now (table .entry)) (now (cells .entry)) p r ⌝ }
-{
-    let index = read_index(fragment);
-    match index {
-        Index::Outside => Found::Absent,
-        Index::At(at) => item(table, cells, p, at),
-    }
-}
-
-// What a fragment names in a value.
-fn part(strings: &[u8], table: &[u8], cells: &[u8], h: Handle, fragment: &[u8]) -> Found
-    ensures { λ r. ⌜ PartNamed (now (fragment .entry)) (now (strings .entry)) (now (table .entry)) (now (cells .entry)) h r ⌝ }
+// Where a fragment leads from a value.
+fn next_step(fragment: &[u8], cells: &[u8], h: Handle) -> Step
+    ensures { λ r. ⌜ StepIs (now (fragment .entry)) (now (cells .entry)) h r ⌝ }
 {
     let Handle::Compound(p) = h else {
-        return Found::Absent;
+        return Step::Part(Handle::Null);
     };
     let form = p.form;
+    let first = p.first;
+    let count = p.count;
     match form {
-        Form::Items => item_named(table, cells, p, fragment),
-        Form::Members => member(strings, table, cells, p, fragment),
-        Form::List => item_named(table, cells, p, fragment),
-        Form::Context => member(strings, table, cells, p, fragment),
+        Form::Items => Step::Record(Node::Array(Rows { first, count })),
+        Form::Members => Step::Record(Node::Object(Rows { first, count })),
+        Form::List => Step::Part(item_named(fragment, cells, p)),
+        Form::Context => Step::Part(member(fragment, cells, first)),
     }
 }
 
 // The value at a path, which has the form that 01 wants of `var`, in a context; null where there is none.
-pub fn value_at(path: &[u8], strings: &[u8], table: &[u8], cells: &[u8], context: Handle) -> Handle
-    ensures { λ r. ⌜ Leads (now (path .entry)) (now (strings .entry)) (now (table .entry)) (now (cells .entry)) context r ⌝ }
+pub fn value_at(
+    path: &[u8],
+    record_strings: &[u8],
+    record_table: &[u8],
+    cells: &[u8],
+    context: Handle,
+) -> Handle
+    ensures { λ r. ⌜ Leads (now (path .entry)) (now («record_strings» .entry)) (now («record_table» .entry)) (now (cells .entry)) context r ⌝ }
 {
     let mut h = context;
     let mut at: usize = 0;
     while at < path.len() {
         let end = fragment_end(path, at, b".");
-        let Found::Part(inner) = part(strings, table, cells, h, &path[at..end]) else {
-            return Handle::Null;
-        };
-        h = inner;
-        at = end + 1;
+        let r = next_step(&path[at..end], cells, h);
+        match r {
+            Step::Record(n) => {
+                return of_node(find(&path[at..], record_table, record_strings, n));
+            }
+            Step::Part(inner) => {
+                h = inner;
+                at = end + 1;
+            }
+        }
     }
     h
 }

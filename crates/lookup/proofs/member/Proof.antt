@@ -1,54 +1,44 @@
-use mathlib.Core.Path.{refl}
-use native.Mathlib.Omega.{arith}
-use Rattle.lookup.proofs.Members.{Among, none-among, first-named, among-others}
+use borrow.Author.Needs.{needs}
 use Rattle.lookup.proofs.member.Statement.{statement}
 use Rattle.lookup.proofs.member.Tie as tie
 
-abbrev Inv-loop : tie.InvT-loop
-Inv-loop strings table cells fragment rest₀ rest = Among fragment strings table cells rest₀ rest
+slice-aggregate-same : tie.Need-slice-aggregate-same
+slice-aggregate-same c = search needs
 
-abbrev μ-loop : tie.MeasureT-loop
-μ-loop strings table cells fragment rest₀ rest = rest .count
+same-requires : tie.Need-same-requires
+same-requires c κs = search needs
 
-loop-holds : tie.Need-loop-holds Inv-loop μ-loop
-loop-holds c = record { is = refl }
+get-requires : tie.Need-get-requires
+get-requires c κs = search needs
 
-name-of-requires : tie.Need-name-of-requires Inv-loop μ-loop
-name-of-requires c κs = tt
+returns : tie.Need-returns
+returns c = rw (← (c .before .before .same .ensures), c .before .if1 .taken) (c .get .ensures)
 
-is-named-requires : tie.Need-is-named-requires Inv-loop μ-loop
-is-named-requires c κs = tt
+slice-aggregate-same-2 : tie.Need-slice-aggregate-same-2
+slice-aggregate-same-2 c = search needs
 
-head-requires : tie.Need-head-requires Inv-loop μ-loop
-head-requires c κs = tt
+same-requires-2 : tie.Need-same-requires-2
+same-requires-2 c κs = search needs
 
-returns : tie.Need-returns Inv-loop μ-loop
-returns c = first-named (c .before .before .before .before .before .before .loop .inv) (c .before .before .before .before .if1 .taken) (c .before .before .before .name-of .ensures) (c .before .before .is-named .ensures) (c .before .if2 .taken) (c .head .ensures)
+cell-after-requires : tie.Need-cell-after-requires
+cell-after-requires c κs = search needs
 
-tail-requires : tie.Need-tail-requires Inv-loop μ-loop
-tail-requires c κs = tt
+returns-2 : tie.Need-returns-2
+returns-2 c = rw (← (c .before .before .before .before .before .same .ensures), c .before .before .before .before .if1 .left, ← (c .before .before .same2 .ensures), c .before .if2 .taken) (c .cell-after .ensures)
 
-loop-less : tie.Need-loop-less Inv-loop μ-loop
-loop-less c = rw (c .tail .ensures) (omega arith)
-
-loop-again : tie.Need-loop-again Inv-loop μ-loop
-loop-again c = among-others (c .before .before .before .before .before .before .loop .inv) (c .before .before .before .before .if1 .taken) (c .before .before .before .name-of .ensures) (c .before .before .is-named .ensures) (c .before .if2 .left) (c .tail .ensures)
-
-returns-2 : tie.Need-returns-2 Inv-loop μ-loop
-returns-2 c = none-among (c .before .before .loop .inv) (omega arith)
+returns-3 : tie.Need-returns-3
+returns-3 c = rw (← (c .before .before .before .before .same .ensures), c .before .before .before .if1 .left, ← (c .before .same2 .ensures), c .if2 .left)
 
 pub member-spec : {M : Type 1} → statement M
 member-spec =
     tie.close
     (tie.spec
-    Inv-loop
-    μ-loop
-    loop-holds
-    name-of-requires
-    is-named-requires
-    head-requires
+    slice-aggregate-same
+    same-requires
+    get-requires
     returns
-    tail-requires
-    loop-less
-    loop-again
-    returns-2)
+    slice-aggregate-same-2
+    same-requires-2
+    cell-after-requires
+    returns-2
+    returns-3)
