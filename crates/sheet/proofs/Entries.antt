@@ -2,6 +2,7 @@
 use mathlib.Core.Path.{_≡_, sym, ap, _∙_}
 use mathlib.Core.List.{[], _∷_}
 use mathlib.Core.Option.{some}
+use Prim.Native.Nat.{ℕ}
 use lib.Dec.{leb}
 use Rattle.model.specs.Bytes.{Bytes}
 use Rattle.model.specs.Limits.{maxSheetMembers}
@@ -10,40 +11,38 @@ use Rattle.model.specs.Sheet.{Sheet, nonEmpty, contentTypes, entryPath, entries
 use Rattle.model.specs.Types.{Types}
 use Rattle.model.specs.Value.{Value, scalar, instant, array, object, Members, member, memberCount}
 use Rattle.model.specs.Laws.Option.{none-some, bind-some, when-some}
-use Rattle.heap.specs.declared.handle.Handle.{Handle}
-use Rattle.heap.specs.declared.handle.Handle.the-variants.{Compound}
-use Rattle.heap.specs.declared.handle.Parts.{Parts}
-use Rattle.heap.specs.Handles.{rowHandle}
-use Rattle.heap.specs.Means.{Means}
-use Rattle.heap.specs.Parts.{headOf}
-use Rattle.heap.specs.Unfold.{readAreas}
+use Rattle.table.specs.declared.node.Node.{Node}
+use Rattle.table.specs.declared.node.Node.the-variants.{Object}
+use Rattle.table.specs.declared.node.Rows.{Rows}
+use Rattle.table.specs.Denotes.{Denotes}
+use Rattle.table.specs.Node.{nodeAt}
 use Rattle.types.specs.declared.set.TypeSet.{TypeSet}
 use Rattle.sheet.specs.declared.content.Content.{Content}
 use Rattle.sheet.specs.Contract.{contentOf, Contains, HoldsSheet}
 use Rattle.sheet.specs.Inner.{typesListed, ListsTypes}
 use Rattle.sheet.proofs.Checking.{no-sheet}
-use Rattle.sheet.proofs.Handles.{NotCompound}
+use Rattle.sheet.proofs.Nodes.{NoObject}
 
 -- ---- members that are a sheet
-pub record Made (S Z : Bytes) (s : Sheet) (h : Handle) : Type 0 where
+pub record Made (S Z : Bytes) (s : Sheet) (q : Rows) : Type 0 where
   pub all : Members
-  pub means : Means (readAreas S Z) 0 (object all) h
+  pub denotes : Denotes S Z (object all) (Object q)
   pub entries : entriesOf all ≡ some s
 
-module _ {S Z : Bytes} {s : Sheet} (holds : HoldsSheet S Z s) {h : Handle} (loaded : h ≡ rowHandle S 0) where
-  pub made : {p : Parts} → h ≡ Compound p → Made S Z s (Compound p)
+module _ {S Z : Bytes} {s : Sheet} (holds : HoldsSheet S Z s) {n : Node} (loaded : n ≡ nodeAt S 0) where
+  pub made : {q : Rows} → n ≡ Object q → Made S Z s q
   unfolding sheetOf
-  made {p} e = go (holds .value) (rw (← e, loaded) (holds .means)) (holds .is-sheet)
+  made {q} e = go (holds .value) (rw (← e, loaded) (holds .denotes)) (holds .is-sheet)
     where
-      go : (v : Value) → Means (readAreas S Z) 0 v (Compound p) → sheetOf v ≡ some s → Made S Z s (Compound p)
-      go (scalar x) m f = none-some f
-      go (instant t) m f = none-some f
-      go (array vs) m f = none-some f
-      go (object ms) m f = record { all = ms; means = m; entries = when-some (leb (memberCount ms) maxSheetMembers) (entriesOf ms) f .1 }
+      go : (v : Value) → Denotes S Z v (Object q) → sheetOf v ≡ some s → Made S Z s q
+      go (scalar x) d f = none-some f
+      go (instant t) d f = none-some f
+      go (array vs) d f = none-some f
+      go (object ms) d f = record { all = ms; denotes = d; entries = when-some (leb (memberCount ms) maxSheetMembers) (entriesOf ms) f .1 }
 
   -- No other value is one.
-  pub not-made : {X : Type 0} → NotCompound h → X
-  not-made k = none-some (sym (no-sheet h k (rw (← loaded) at (holds .means))) ∙ holds .is-sheet)
+  pub not-made : {X : Type 0} → NoObject n → X
+  not-made k = none-some (sym (no-sheet S Z n (holds .value) k (rw loaded (holds .denotes))) ∙ holds .is-sheet)
 
 -- ---- the first entry and the others
 pub record Split (name : Bytes) (v : Value) (ms : Members) (s : Sheet) : Type 0 where
@@ -75,6 +74,6 @@ split name v ms s e =
       is = (let x : s ≡ (q, ts) ∷ es = cc in x);
     }))))
 
--- The types of the first member.
-pub lists-types : {S Z : Bytes} {p : Parts} {h : Handle} {c : Content} {r : TypeSet} → h ≡ headOf S [] p → Contains S Z h c → r ≡ typesListed c → ListsTypes S Z p r
-lists-types i x e = record { is = λ v ts m f. e ∙ ap typesListed (x .is v (rw i m) ∙ ap contentOf f) }
+-- The types of the member in a row.
+pub lists-types : {S Z : Bytes} {row : ℕ} {n : Node} {c : Content} {r : TypeSet} → n ≡ nodeAt S row → Contains S Z n c → r ≡ typesListed c → ListsTypes S Z row r
+lists-types i x e = record { is = λ v ts d f. e ∙ ap typesListed (x .is v (rw i d) ∙ ap contentOf f) }

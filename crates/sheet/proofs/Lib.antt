@@ -1,8 +1,7 @@
 -- Laws for the proofs of sheet.
-pub mod Handles
+pub mod Nodes
 pub mod Contents
 pub mod Paths
-pub mod Members
 pub mod Checking
 pub mod Entries
 pub mod Listing

@@ -11,21 +11,20 @@ use Rattle.model.specs.Path.{Path, pathOf, samePath}
 use Rattle.model.specs.Sheet.{Sheet, entriesOf}
 use Rattle.model.specs.TypeCheck.{outside, varTypes}
 use Rattle.model.specs.Types.{Types, anyOfRecord}
-use Rattle.model.specs.Value.{Value, Members, member}
-use Rattle.heap.specs.declared.handle.Handle.{Handle}
-use Rattle.heap.specs.declared.handle.Handle.the-variants.{Compound}
-use Rattle.heap.specs.declared.handle.Parts.{Parts}
-use Rattle.heap.specs.Handles.{rowHandle}
-use Rattle.heap.specs.Means.{Means}
-use Rattle.heap.specs.Parts.{headOf, tailOf, labelOf}
-use Rattle.heap.specs.Unfold.{readAreas}
+use Rattle.model.specs.Value.{Value, Members}
+use Rattle.paths.specs.Laws.Loops.{no-member, some-member}
+use Rattle.table.specs.declared.node.Node.{Node}
+use Rattle.table.specs.declared.node.Node.the-variants.{Object}
+use Rattle.table.specs.declared.node.Rows.{Rows}
+use Rattle.table.specs.Laws.Denotes.{ObjectParts}
+use Rattle.table.specs.Node.{nodeAt, nameAt, tailOf}
+use Rattle.table.specs.Strings.{bytesOf}
 use Rattle.types.specs.declared.set.TypeSet.{TypeSet}
 use Rattle.types.specs.Set.{setOf}
 use Rattle.sheet.specs.Contract.{ListsFor}
-use Rattle.sheet.specs.Inner.{nameText, ListsTypes, ListsAmong}
+use Rattle.sheet.specs.Inner.{ListsTypes, ListsAmong}
 use Rattle.sheet.proofs.Entries.{made, not-made, Split, split}
-use Rattle.sheet.proofs.Handles.{NotCompound}
-use Rattle.sheet.proofs.Members.{Walked, ends, stops, goes-on}
+use Rattle.sheet.proofs.Nodes.{NoObject}
 use Rattle.sheet.proofs.Paths.{same-texts}
 
 -- ---- the first entry, or a later one
@@ -41,45 +40,42 @@ first-listed t name v ms s q e x =
     ∙ either (sameBytes t name) q (x .types) (x .later)
 
 -- ---- the loop
-pub record Lists (t : Bytes) (r : TypeSet) (ms : Members) : Type 0 where
-  pub is : (s : Sheet) (q : Path) → entriesOf ms ≡ some s → pathOf t ≡ some q → r ≡ setOf (varTypes (outside s) q)
+abbrev Lists : Bytes → TypeSet → Members → Type 0
+Lists t r ms = (s : Sheet) (q : Path) → entriesOf ms ≡ some s → pathOf t ≡ some q → r ≡ setOf (varTypes (outside s) q)
 
-module _ {S Z t : Bytes} {p rest : Parts} (walked : Walked (Lists t) S Z p rest) where
-  pub none-listed : {r : TypeSet} → rest .count ≡ 0 → r ≡ setOf anyOfRecord → ListsAmong S Z t p r
-  none-listed {r} n e = record { is = λ ms m. ends walked n r (record { is = λ s q f g. e ∙ ap (λ (z : Sheet). setOf (varTypes (outside z) q)) (empty s f) }) ms m .is }
+module _ {S Z : Bytes} (t : Bytes) {q : Rows} where
+  pub none-listed : {r : TypeSet} → q .count ≡ 0 → r ≡ setOf anyOfRecord → ListsAmong S Z t q r
+  none-listed {r} n e = record { is = no-member (Lists t r) n (λ s p f g. e ∙ ap (λ (z : Sheet). setOf (varTypes (outside z) p)) (empty s f)) }
     where
       empty : (s : Sheet) → some [] ≡ some s → [] ≡ s
       empty s f = cc
 
-  module _ (some : 1 ≤ rest .count) {b : Bool} {name : Bytes} (is-test : b ≡ sameBytes t name) (is-name : name ≡ nameText Z (labelOf S rest)) where
-    name-test : {n : Bytes} → n ≡ nameText Z (labelOf S rest) → sameBytes t n ≡ b
-    name-test e = rw (e, ← is-name, ← is-test)
+  module _ (more : 1 ≤ q .count) {b : Bool} {name : Bytes} (is-test : b ≡ sameBytes t name) (is-name : name ≡ bytesOf Z (nameAt S (q .first))) where
+    -- What is listed, by whether the first entry's path is this one.
+    first-entry : (n : Bytes) (v : Value) (ms : Members) → ObjectParts S Z n v ms q → (s : Sheet) (p : Path) → pathOf t ≡ some p → (x : Split n v ms s)
+        → varTypes (outside s) p ≡ cond b (x .types) (varTypes (outside (x .later)) p)
+    first-entry n v ms y s p g x =
+        let e : sameBytes t n ≡ b = rw (y .name, ← is-name, ← is-test) in
+        first-listed t n v ms s p g x ∙ rw e
 
-    pub path-listed : {r : TypeSet} → b ≡ true → ListsTypes S Z rest r → ListsAmong S Z t p r
-    path-listed {r} y x = record { is = λ ms m. stops walked some r go ms m .is }
-      where
-        go : (n : Bytes) (v : Value) (others : Members) → n ≡ nameText Z (labelOf S rest) → Means (readAreas S Z) 0 v (headOf S [] rest) → Lists t r (member n v others)
-        go n v others e m = record {
-          is = λ s q f g.
-              let z = split n v others s f in
-              x .is v (z .types) m (z .is-types) ∙ ap setOf (sym (rw (name-test e, y) at (first-listed t n v others s q g z)));
-        }
+    pub path-listed : {r : TypeSet} → b ≡ true → ListsTypes S Z (q .first) r → ListsAmong S Z t q r
+    path-listed {r} e x = record {
+      is = some-member (Lists t r) more (λ n v ms y s p f g.
+          let z = split n v ms s f in
+          x .is v (z .types) (y .head) (z .is-types) ∙ ap setOf (sym (rw e at (first-entry n v ms y s p g z))));
+    }
 
-    pub listed-on : {u : Parts} → b ≡ false → u ≡ tailOf S [] rest → Walked (Lists t) S Z p u
-    listed-on y i = goes-on walked some go i
-      where
-        go : (n : Bytes) (v : Value) (others : Members) → n ≡ nameText Z (labelOf S rest) → Means (readAreas S Z) 0 v (headOf S [] rest)
-            → (r : TypeSet) → Lists t r others → Lists t r (member n v others)
-        go n v others e m r x = record {
-          is = λ s q f g.
-              let z = split n v others s f in
-              x .is (z .later) q (z .is-later) g ∙ ap setOf (sym (rw (name-test e, y) at (first-listed t n v others s q g z)));
-        }
+    pub listed-on : {u : Rows} → b ≡ false → u ≡ tailOf S q → (r : TypeSet) → ListsAmong S Z t u r → ListsAmong S Z t q r
+    listed-on e i r x = record {
+      is = some-member (Lists t r) more (λ n v ms y s p f g.
+          let z = split n v ms s f in
+          x .is ms (rw i (y .rest)) (z .later) p (z .is-later) g ∙ ap setOf (sym (rw e at (first-entry n v ms y s p g z))));
+    }
 
 -- ---- the whole sheet
-module _ {S Z t : Bytes} {h : Handle} {r : TypeSet} (loaded : h ≡ rowHandle S 0) where
-  pub lists-nothing : NotCompound h → ListsFor S Z t r
-  lists-nothing k = record { is = λ s q holds e. not-made holds loaded k }
+module _ {S Z t : Bytes} {n : Node} {r : TypeSet} (loaded : n ≡ nodeAt S 0) where
+  pub lists-nothing : NoObject n → ListsFor S Z t r
+  lists-nothing k = record { is = λ s p holds e. not-made holds loaded k }
 
-  pub lists-for : {p : Parts} → h ≡ Compound p → ListsAmong S Z t p r → ListsFor S Z t r
-  lists-for e x = record { is = λ s q holds f. let y = made holds loaded e in x .is (y .all) (y .means) s q (y .entries) f }
+  pub lists-for : {q : Rows} → n ≡ Object q → ListsAmong S Z t q r → ListsFor S Z t r
+  lists-for e x = record { is = λ s p holds f. let y = made holds loaded e in x .is (y .all) (y .denotes) s p (y .entries) f }

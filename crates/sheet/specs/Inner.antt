@@ -1,83 +1,57 @@
 -- Inner: what the private functions do.
-use mathlib.Core.Bool.{Bool, true, false, _&&_, _||_, cond}
+use mathlib.Core.Bool.{Bool, true, false, _&&_, cond}
 use mathlib.Core.List.{[], _∷_, _++_}
 use mathlib.Core.Option.{Option, none, some}
 use mathlib.Core.Path.{_≡_}
-use Prim.Native.Nat.{ℕ, zero, suc}
+use Prim.Native.Nat.{ℕ}
 use lib.Dec.{eqb, leb}
 use Rattle.model.specs.Bytes.{Bytes}
 use Rattle.model.specs.DateText.{isDate, isDay}
 use Rattle.model.specs.Limits.{maxSheetMembers}
-use Rattle.model.specs.Option.{isSome, when}
+use Rattle.model.specs.Lists.{any}
+use Rattle.model.specs.Option.{_>>=_, isSome, when}
 use Rattle.model.specs.Path.{Path, pathOf, valueAt}
-use Rattle.model.specs.Sheet.{Sheet, typeNamed, contentTypes, entryPath, entriesOf, fits}
+use Rattle.model.specs.Sheet.{Sheet, typeNamed, typesOf, contentTypes, entryPath, entriesOf, fits}
 use Rattle.model.specs.TypeCheck.{outside, varTypes}
 use Rattle.model.specs.Types.{Types, isIn, hasType}
-use Rattle.model.specs.Value.{Value, object, Members as ValueMembers, memberCount}
+use Rattle.model.specs.Value.{Value, array, object, Values, Members, allItems, asString, memberCount}
 use Rattle.model.specs.declared.Ty.{Ty}
-use Rattle.heap.specs.declared.handle.Form.{Form}
-use Rattle.heap.specs.declared.handle.Form.the-variants.{Items, Members, List, Context}
-use Rattle.heap.specs.declared.handle.Handle.{Handle}
-use Rattle.heap.specs.declared.handle.Handle.the-variants.{Null, False, True, Integer, Instant, String, Compound}
-use Rattle.heap.specs.declared.handle.Parts.{Parts}
-use Rattle.heap.specs.declared.part.Label.{Label}
-use Rattle.heap.specs.declared.part.Label.the-variants.{Nothing, Name, Current, Accumulator}
-use Rattle.heap.specs.Handles.{rowHandle}
-use Rattle.heap.specs.Means.{Means}
-use Rattle.heap.specs.Parts.{headOf, tailOf, labelOf}
-use Rattle.heap.specs.Strings.{part}
-use Rattle.heap.specs.Unfold.{readAreas}
+use Rattle.table.specs.declared.node.Node.{Node}
+use Rattle.table.specs.declared.node.Node.the-variants.{Null, False, True, Integer, String, Array, Object}
+use Rattle.table.specs.declared.node.Rows.{Rows}
+use Rattle.table.specs.Denotes.{Denotes}
+use Rattle.table.specs.Node.{nodeAt, nameAt}
+use Rattle.table.specs.Strings.{bytesOf}
 use Rattle.types.specs.declared.set.TypeSet.{TypeSet}
 use Rattle.types.specs.Set.{setOf, typesIn}
+use Rattle.words.specs.declared.TypeAnswer.{TypeAnswer}
+use Rattle.words.specs.Named.{typeOf}
 use Rattle.sheet.specs.declared.content.Content.{Content}
 use Rattle.sheet.specs.declared.content.Content.the-variants.{NotTypes, Types as Listed}
+use Rattle.sheet.specs.Contract.{contentOf}
 
 -- ---- contents
--- The type that a handle's string names.
-abbrev pub typeAt : Bytes → Handle → Option Ty
-typeAt Z Null = none
-typeAt Z False = none
-typeAt Z True = none
-typeAt Z (Integer n) = none
-typeAt Z (Instant n) = none
-typeAt Z (String s) = typeNamed (part Z (s .start) (s .size))
-typeAt Z (Compound p) = none
+-- The type that a string names.
+pub record NamesType (Z : Bytes) (n : Node) (r : TypeAnswer) : Type 0 where
+  pub is : (S : Bytes) (v : Value) → Denotes S Z v n → typeOf r ≡ (asString v >>= typeNamed)
 
 -- A type more, unless it is there.
 abbrev pub withType : TypeSet → Option Ty → Content
 withType s none = NotTypes
 withType s (some k) = cond (isIn (typesIn s) k) NotTypes (Listed (setOf (typesIn s ++ typesIn (setOf (k ∷ [])))))
 
--- What follows from the set, if there is one.
-abbrev pub thenTypes : Content → (TypeSet → Content) → Content
-thenTypes NotTypes f = NotTypes
-thenTypes (Listed s) f = f s
+-- The types of a set and others, each there once.
+abbrev pub joined : TypeSet → Option Types → Content
+joined s none = NotTypes
+joined s (some ts) = cond (any (isIn (typesIn s)) ts) NotTypes (Listed (setOf (typesIn s ++ ts)))
 
--- The types of so many parts and of a set, each there once.
-unfoldable pub collected : Bytes → Bytes → TypeSet → ℕ → Parts → Content
-collected S Z s zero p = Listed s
-collected S Z s (suc n) p = thenTypes (withType s (typeAt Z (headOf S [] p))) (λ t. collected S Z t n (tailOf S [] p))
+-- The types of a set and of an array's items.
+pub record Collects (S Z : Bytes) (s : TypeSet) (q : Rows) (r : Content) : Type 0 where
+  pub is : (vs : Values) → Denotes S Z (array vs) (Array q) → r ≡ joined s (typesOf vs)
 
 -- "a non-empty array of distinct words"
-abbrev pub wordsIn : Bytes → Bytes → Parts → Content
-wordsIn S Z p = cond (eqb (p .count) 0) NotTypes (collected S Z (setOf []) (p .count) p)
-
--- The types of an array's items; an object lists none.
-abbrev pub compoundTypes : Bytes → Bytes → Form → Parts → Content
-compoundTypes S Z Items p = wordsIn S Z p
-compoundTypes S Z Members p = NotTypes
-compoundTypes S Z List p = wordsIn S Z p
-compoundTypes S Z Context p = NotTypes
-
--- The types of the content with this handle.
-abbrev pub contentAt : Bytes → Bytes → Handle → Content
-contentAt S Z Null = NotTypes
-contentAt S Z False = NotTypes
-contentAt S Z True = NotTypes
-contentAt S Z (Integer n) = NotTypes
-contentAt S Z (Instant n) = NotTypes
-contentAt S Z (String s) = NotTypes
-contentAt S Z (Compound p) = compoundTypes S Z (p .form) p
+pub record ListsWords (S Z : Bytes) (q : Rows) (r : Content) : Type 0 where
+  pub is : (vs : Values) → Denotes S Z (array vs) (Array q) → r ≡ contentOf (contentTypes (array vs))
 
 -- There are types.
 abbrev pub isListed : Content → Bool
@@ -90,93 +64,61 @@ typesListed NotTypes = setOf []
 typesListed (Listed s) = s
 
 -- ---- members
--- A member's name, which lies in the strings Z.
-abbrev pub nameText : Bytes → Label → Bytes
-nameText Z Nothing = []
-nameText Z (Name start size) = part Z start size
-nameText Z Current = []
-nameText Z Accumulator = []
+-- The types of the member in a row.
+pub record ListsTypes (S Z : Bytes) (row : ℕ) (r : TypeSet) : Type 0 where
+  pub is : (v : Value) (ts : Types) → Denotes S Z v (nodeAt S row) → contentTypes v ≡ some ts → r ≡ setOf ts
 
--- The types of the first member.
-pub record ListsTypes (S Z : Bytes) (p : Parts) (r : TypeSet) : Type 0 where
-  pub is : (v : Value) (ts : Types) → Means (readAreas S Z) 0 v (headOf S [] p) → contentTypes v ≡ some ts → r ≡ setOf ts
-
--- Whether the first member lists types for a path.
-pub record ChecksEntry (S Z : Bytes) (p : Parts) (r : Bool) : Type 0 where
-  pub is : (v : Value) → Means (readAreas S Z) 0 v (headOf S [] p) → r ≡ isSome (entryPath (nameText Z (labelOf S p))) && isSome (contentTypes v)
+-- Whether the member in a row lists types for a path.
+pub record ChecksEntry (S Z : Bytes) (row : ℕ) (r : Bool) : Type 0 where
+  pub is : (v : Value) → Denotes S Z v (nodeAt S row) → r ≡ isSome (entryPath (bytesOf Z (nameAt S row))) && isSome (contentTypes v)
 
 -- Whether all members do.
-pub record ChecksEntries (S Z : Bytes) (p : Parts) (r : Bool) : Type 0 where
-  pub is : (ms : ValueMembers) → Means (readAreas S Z) 0 (object ms) (Compound p) → r ≡ isSome (entriesOf ms)
+pub record ChecksEntries (S Z : Bytes) (q : Rows) (r : Bool) : Type 0 where
+  pub is : (ms : Members) → Denotes S Z (object ms) (Object q) → r ≡ isSome (entriesOf ms)
 
 -- Whether an object is a sheet: all members do, and they are not too many.
-pub record ChecksObject (S Z : Bytes) (p : Parts) (r : Bool) : Type 0 where
-  pub is : (ms : ValueMembers) → Means (readAreas S Z) 0 (object ms) (Compound p) → r ≡ isSome (when (leb (memberCount ms) maxSheetMembers) (entriesOf ms))
+pub record ChecksObject (S Z : Bytes) (q : Rows) (r : Bool) : Type 0 where
+  pub is : (ms : Members) → Denotes S Z (object ms) (Object q) → r ≡ isSome (when (leb (memberCount ms) maxSheetMembers) (entriesOf ms))
 
 -- The types of a path's text t among members.
-pub record ListsAmong (S Z t : Bytes) (p : Parts) (r : TypeSet) : Type 0 where
+pub record ListsAmong (S Z t : Bytes) (q : Rows) (r : TypeSet) : Type 0 where
   pub is :
-      (ms : ValueMembers) → Means (readAreas S Z) 0 (object ms) (Compound p)
-      → (s : Sheet) (q : Path) → entriesOf ms ≡ some s → pathOf t ≡ some q → r ≡ setOf (varTypes (outside s) q)
+      (ms : Members) → Denotes S Z (object ms) (Object q)
+      → (s : Sheet) (p : Path) → entriesOf ms ≡ some s → pathOf t ≡ some p → r ≡ setOf (varTypes (outside s) p)
 
 -- ---- what belongs
--- The handle of an integer.
-abbrev pub integerHandle : Handle → Bool
-integerHandle Null = false
-integerHandle False = false
-integerHandle True = false
-integerHandle (Integer n) = true
-integerHandle (Instant n) = false
-integerHandle (String s) = false
-integerHandle (Compound p) = false
+-- The kind of a node's row.
+abbrev pub kindOf : Node → ℕ
+kindOf Null = 1
+kindOf False = 2
+kindOf True = 3
+kindOf (Integer n) = 4
+kindOf (String s) = 5
+kindOf (Array q) = 6
+kindOf (Object q) = 7
 
--- The handle of a string.
-abbrev pub stringHandle : Handle → Bool
-stringHandle Null = false
-stringHandle False = false
-stringHandle True = false
-stringHandle (Integer n) = false
-stringHandle (Instant n) = false
-stringHandle (String s) = true
-stringHandle (Compound p) = false
+-- A test of values that is one of kinds.
+pub record TestsKind (k : ℕ) (R B : Bytes) (test : Value → Bool) : Type 0 where
+  pub is : (v : Value) (n : Node) → Denotes R B v n → eqb (kindOf n) k ≡ test v
 
--- A test holds of so many parts.
-unfoldable pub allHeads : (Handle → Bool) → Bytes → ℕ → Parts → Bool
-allHeads f T zero p = true
-allHeads f T (suc n) p = f (headOf T [] p) && allHeads f T n (tailOf T [] p)
+-- Whether all items of an array are of one kind.
+pub record AllOfKind (k : ℕ) (R : Bytes) (q : Rows) (r : Bool) : Type 0 where
+  pub is : (B : Bytes) (test : Value → Bool) → TestsKind k R B test → (vs : Values) → Denotes R B (array vs) (Array q) → r ≡ allItems test vs
 
 -- Of a string's types the widest one in the set decides.
 abbrev pub stringBelongs : TypeSet → Bytes → Bool
 stringBelongs s t = cond (s .string) true (cond (s .date) (isDate t) (cond (s .day) (isDay t) false))
 
--- Of an array: array itself, or integers or strings and nothing else.
-abbrev pub arrayBelongs : TypeSet → Bytes → Parts → Bool
-arrayBelongs s T p = s .array || ((s .integers && allHeads integerHandle T (p .count) p) || (s .strings && allHeads stringHandle T (p .count) p))
-
--- An array or an object, by the form of its handle.
-abbrev pub compoundBelongs : TypeSet → Bytes → Form → Parts → Bool
-compoundBelongs s T Items p = arrayBelongs s T p
-compoundBelongs s T Members p = s .object
-compoundBelongs s T List p = arrayBelongs s T p
-compoundBelongs s T Context p = s .object
-
--- Whether the value of this handle belongs to one of the types.
-abbrev pub handleBelongs : TypeSet → Bytes → Bytes → Handle → Bool
-handleBelongs s T Z Null = s .null
-handleBelongs s T Z False = s .boolean
-handleBelongs s T Z True = s .boolean
-handleBelongs s T Z (Integer n) = s .integer
-handleBelongs s T Z (Instant n) = s .instant
-handleBelongs s T Z (String t) = stringBelongs s (part Z (t .start) (t .size))
-handleBelongs s T Z (Compound p) = compoundBelongs s T (p .form) p
+pub record ArrayBelongs (t : TypeSet) (R : Bytes) (q : Rows) (r : Bool) : Type 0 where
+  pub is : (B : Bytes) (vs : Values) → Denotes R B (array vs) (Array q) → r ≡ hasType (typesIn t) (array vs)
 
 -- ---- what fits: a record in the table R and the strings B
 -- The value at a path's text t belongs to one of the types.
 pub record FitsEntry (t : Bytes) (listed : TypeSet) (R B : Bytes) (r : Bool) : Type 0 where
-  pub is : (q : Path) (c : Value) → pathOf t ≡ some q → Means (readAreas R B) 0 c (rowHandle R 0) → r ≡ hasType (typesIn listed) (valueAt q c)
+  pub is : (p : Path) (c : Value) → pathOf t ≡ some p → Denotes R B c (nodeAt R 0) → r ≡ hasType (typesIn listed) (valueAt p c)
 
 -- The record fits every entry of the members.
-pub record FitsAll (S Z : Bytes) (p : Parts) (R B : Bytes) (r : Bool) : Type 0 where
+pub record FitsAll (S Z : Bytes) (q : Rows) (R B : Bytes) (r : Bool) : Type 0 where
   pub is :
-      (ms : ValueMembers) → Means (readAreas S Z) 0 (object ms) (Compound p)
-      → (s : Sheet) (c : Value) → entriesOf ms ≡ some s → Means (readAreas R B) 0 c (rowHandle R 0) → r ≡ fits s c
+      (ms : Members) → Denotes S Z (object ms) (Object q)
+      → (s : Sheet) (c : Value) → entriesOf ms ≡ some s → Denotes R B c (nodeAt R 0) → r ≡ fits s c

@@ -1,69 +1,48 @@
 // Whether a value belongs to one of some types.
-use heap::handle::Form;
-use heap::handle::Handle;
-use heap::handle::Parts;
-use heap::part::head;
-use heap::part::tail;
-use heap::string::part_of;
+use syntax::ARRAY_ROW;
+use syntax::FALSE_ROW;
+use syntax::INTEGER_ROW;
+use syntax::NULL_ROW;
+use syntax::OBJECT_ROW;
+use syntax::STRING_ROW;
+use syntax::TRUE_ROW;
+use table::node::Node;
+use table::node::Rows;
+use table::node::node_at;
+use table::node::tail;
+use table::string::bytes_of;
 use types::set::TypeSet;
 use words::is_date;
 use words::is_day;
 ghost use mathlib.Core.Path.{_≡_};
 ghost use Rattle.sheet.specs.Contract.{Belongs};
-ghost use Rattle.sheet.specs.Inner.{integerHandle, stringHandle, allHeads, stringBelongs, arrayBelongs, compoundBelongs};
+ghost use Rattle.sheet.specs.Inner.{kindOf, AllOfKind, stringBelongs, ArrayBelongs};
 
-fn is_integer(h: Handle) -> bool
-    ensures { λ r. ⌜ r ≡ integerHandle h ⌝ }
+// The kind of a value's row.
+fn kind_of(n: Node) -> usize
+    ensures { λ r. ⌜ r ≡ kindOf n ⌝ }
 {
-    match h {
-        Handle::Null => false,
-        Handle::False => false,
-        Handle::True => false,
-        Handle::Integer(_) => true,
-        Handle::Instant(_) => false,
-        Handle::String(_) => false,
-        Handle::Compound(_) => false,
+    match n {
+        Node::Null => NULL_ROW,
+        Node::False => FALSE_ROW,
+        Node::True => TRUE_ROW,
+        Node::Integer(_) => INTEGER_ROW,
+        Node::String(_) => STRING_ROW,
+        Node::Array(_) => ARRAY_ROW,
+        Node::Object(_) => OBJECT_ROW,
     }
 }
 
-fn is_string(h: Handle) -> bool
-    ensures { λ r. ⌜ r ≡ stringHandle h ⌝ }
+// "integers, strings (arrays of nothing else)"
+fn all_of_kind(kind: usize, record_table: &[u8], q: Rows) -> bool
+    ensures { λ r. ⌜ AllOfKind kind (now («record_table» .entry)) q r ⌝ }
 {
-    match h {
-        Handle::Null => false,
-        Handle::False => false,
-        Handle::True => false,
-        Handle::Integer(_) => false,
-        Handle::Instant(_) => false,
-        Handle::String(_) => true,
-        Handle::Compound(_) => false,
-    }
-}
-
-// "integers .. (arrays of nothing else)"
-fn all_integers(table: &[u8], p: Parts) -> bool
-    ensures { λ r. ⌜ r ≡ allHeads integerHandle (now (table .entry)) (p .count) p ⌝ }
-{
-    let mut rest = p;
+    let mut rest = q;
     while rest.count > 0 {
-        if !is_integer(head(table, b"", rest)) {
+        if kind_of(node_at(record_table, rest.first)) != kind {
             return false;
         }
-        rest = tail(table, b"", rest);
-    }
-    true
-}
-
-// "strings (arrays of nothing else)"
-fn all_strings(table: &[u8], p: Parts) -> bool
-    ensures { λ r. ⌜ r ≡ allHeads stringHandle (now (table .entry)) (p .count) p ⌝ }
-{
-    let mut rest = p;
-    while rest.count > 0 {
-        if !is_string(head(table, b"", rest)) {
-            return false;
-        }
-        rest = tail(table, b"", rest);
+        rest = tail(record_table, rest);
     }
     true
 }
@@ -85,41 +64,29 @@ fn string_belongs(s: TypeSet, text: &[u8]) -> bool
 }
 
 // An array.
-fn array_belongs(s: TypeSet, table: &[u8], p: Parts) -> bool
-    ensures { λ r. ⌜ r ≡ arrayBelongs s (now (table .entry)) p ⌝ }
+fn array_belongs(s: TypeSet, record_table: &[u8], q: Rows) -> bool
+    ensures { λ r. ⌜ ArrayBelongs s (now («record_table» .entry)) q r ⌝ }
 {
     if s.array {
         return true;
     }
-    if s.integers & all_integers(table, p) {
+    if s.integers & all_of_kind(INTEGER_ROW, record_table, q) {
         return true;
     }
-    s.strings & all_strings(table, p)
-}
-
-fn compound_belongs(s: TypeSet, table: &[u8], p: Parts) -> bool
-    ensures { λ r. ⌜ r ≡ compoundBelongs s (now (table .entry)) (p .form) p ⌝ }
-{
-    let form = p.form;
-    match form {
-        Form::Items => array_belongs(s, table, p),
-        Form::Members => s.object,
-        Form::List => array_belongs(s, table, p),
-        Form::Context => s.object,
-    }
+    s.strings & all_of_kind(STRING_ROW, record_table, q)
 }
 
 // A value of a record.
-pub fn has_type(s: TypeSet, table: &[u8], strings: &[u8], h: Handle) -> bool
-    ensures { λ r. ⌜ Belongs s (now (table .entry)) (now (strings .entry)) h r ⌝ }
+pub fn has_type(s: TypeSet, record_table: &[u8], record_strings: &[u8], n: Node) -> bool
+    ensures { λ r. ⌜ Belongs s (now («record_table» .entry)) (now («record_strings» .entry)) n r ⌝ }
 {
-    match h {
-        Handle::Null => s.null,
-        Handle::False => s.boolean,
-        Handle::True => s.boolean,
-        Handle::Integer(_) => s.integer,
-        Handle::Instant(_) => s.instant,
-        Handle::String(t) => string_belongs(s, part_of(strings, t.start, t.size)),
-        Handle::Compound(p) => compound_belongs(s, table, p),
+    match n {
+        Node::Null => s.null,
+        Node::False => s.boolean,
+        Node::True => s.boolean,
+        Node::Integer(_) => s.integer,
+        Node::String(t) => string_belongs(s, bytes_of(record_strings, t)),
+        Node::Array(q) => array_belongs(s, record_table, q),
+        Node::Object(_) => s.object,
     }
 }

@@ -1,16 +1,14 @@
 // Whether a read text is a sheet; 14 where it is not.
 use crate::content::Content;
 use crate::content::types_in;
-use crate::entry::name_text;
 use bytes::path::is_path;
-use heap::handle::Form;
-use heap::handle::Handle;
-use heap::handle::Parts;
-use heap::handle::load;
-use heap::part::head;
-use heap::part::name_of;
-use heap::part::tail;
 use model::MAX_SHEET_MEMBERS;
+use table::node::Node;
+use table::node::Rows;
+use table::node::name_at;
+use table::node::node_at;
+use table::node::tail;
+use table::string::bytes_of;
 ghost use mathlib.Core.Path.{_≡_};
 ghost use Rattle.model.specs.Option.{isSome};
 ghost use Rattle.model.specs.Sheet.{entryPath};
@@ -37,52 +35,46 @@ fn lists_types(c: Content) -> bool
     }
 }
 
-// The first member lists types for a path.
-fn is_entry(table: &[u8], strings: &[u8], p: Parts) -> bool
-    ensures { λ r. ⌜ ChecksEntry (now (table .entry)) (now (strings .entry)) p r ⌝ }
+// The member in a row lists types for a path.
+fn is_entry(sheet_table: &[u8], sheet_strings: &[u8], row: usize) -> bool
+    ensures { λ r. ⌜ ChecksEntry (now («sheet_table» .entry)) (now («sheet_strings» .entry)) row r ⌝ }
 {
-    if !is_listed_path(name_text(strings, name_of(table, p))) {
+    if !is_listed_path(bytes_of(sheet_strings, name_at(sheet_table, row))) {
         return false;
     }
-    lists_types(types_in(table, strings, head(table, b"", p)))
+    lists_types(types_in(sheet_table, sheet_strings, node_at(sheet_table, row)))
 }
 
 // All members do.
-fn are_entries(table: &[u8], strings: &[u8], p: Parts) -> bool
-    ensures { λ r. ⌜ ChecksEntries (now (table .entry)) (now (strings .entry)) p r ⌝ }
+fn are_entries(sheet_table: &[u8], sheet_strings: &[u8], q: Rows) -> bool
+    ensures { λ r. ⌜ ChecksEntries (now («sheet_table» .entry)) (now («sheet_strings» .entry)) q r ⌝ }
 {
-    let mut rest = p;
+    let mut rest = q;
     while rest.count > 0 {
-        if !is_entry(table, strings, rest) {
+        if !is_entry(sheet_table, sheet_strings, rest.first) {
             return false;
         }
-        rest = tail(table, b"", rest);
+        rest = tail(sheet_table, rest);
     }
     true
 }
 
 // "A sheet is an object of at most 256 members."
-fn is_sheet_object(table: &[u8], strings: &[u8], p: Parts) -> bool
-    ensures { λ r. ⌜ ChecksObject (now (table .entry)) (now (strings .entry)) p r ⌝ }
+fn is_sheet_object(sheet_table: &[u8], sheet_strings: &[u8], q: Rows) -> bool
+    ensures { λ r. ⌜ ChecksObject (now («sheet_table» .entry)) (now («sheet_strings» .entry)) q r ⌝ }
 {
-    if MAX_SHEET_MEMBERS < p.count {
+    if MAX_SHEET_MEMBERS < q.count {
         return false;
     }
-    are_entries(table, strings, p)
+    are_entries(sheet_table, sheet_strings, q)
 }
 
 // Whether the text that was read into the table and the strings is a sheet.
-pub fn is_sheet(table: &[u8], strings: &[u8]) -> bool
-    ensures { λ r. ⌜ ChecksSheet (now (table .entry)) (now (strings .entry)) r ⌝ }
+pub fn is_sheet(sheet_table: &[u8], sheet_strings: &[u8]) -> bool
+    ensures { λ r. ⌜ ChecksSheet (now («sheet_table» .entry)) (now («sheet_strings» .entry)) r ⌝ }
 {
-    let Handle::Compound(p) = load(table, 0) else {
+    let Node::Object(q) = node_at(sheet_table, 0) else {
         return false;
     };
-    let form = p.form;
-    match form {
-        Form::Items => false,
-        Form::Members => is_sheet_object(table, strings, p),
-        Form::List => false,
-        Form::Context => false,
-    }
+    is_sheet_object(sheet_table, sheet_strings, q)
 }

@@ -1,10 +1,9 @@
 // The types that the content of a sheet's member lists.
-use heap::handle::Form;
-use heap::handle::Handle;
-use heap::handle::Parts;
-use heap::part::head;
-use heap::part::tail;
-use heap::string::part_of;
+use table::node::Node;
+use table::node::Rows;
+use table::node::node_at;
+use table::node::tail;
+use table::string::bytes_of;
 use types::set::TypeSet;
 use types::set::has;
 use types::set::none;
@@ -17,7 +16,7 @@ ghost use mathlib.Core.Path.{_≡_};
 ghost use Rattle.words.specs.Named.{typeOf};
 ghost use Rattle.types.specs.Set.{setOf};
 ghost use Rattle.sheet.specs.Contract.{Contains};
-ghost use Rattle.sheet.specs.Inner.{typeAt, withType, collected, wordsIn};
+ghost use Rattle.sheet.specs.Inner.{NamesType, withType, Collects, ListsWords};
 
 // A set of types, or that a content is none.
 pub enum Content {
@@ -26,18 +25,13 @@ pub enum Content {
 }
 
 // The type that a string names.
-fn type_at(strings: &[u8], h: Handle) -> TypeAnswer
-    ensures { λ r. ⌜ typeOf r ≡ typeAt (now (strings .entry)) h ⌝ }
+fn type_at(sheet_strings: &[u8], n: Node) -> TypeAnswer
+    ensures { λ r. ⌜ NamesType (now («sheet_strings» .entry)) n r ⌝ }
 {
-    match h {
-        Handle::Null => TypeAnswer::Unknown,
-        Handle::False => TypeAnswer::Unknown,
-        Handle::True => TypeAnswer::Unknown,
-        Handle::Integer(_) => TypeAnswer::Unknown,
-        Handle::Instant(_) => TypeAnswer::Unknown,
-        Handle::String(s) => type_named(part_of(strings, s.start, s.size)),
-        Handle::Compound(_) => TypeAnswer::Unknown,
-    }
+    let Node::String(s) = n else {
+        return TypeAnswer::Unknown;
+    };
+    type_named(bytes_of(sheet_strings, s))
 }
 
 // "distinct words": a type more, unless it is there.
@@ -56,43 +50,38 @@ fn with(s: TypeSet, a: TypeAnswer) -> Content
 }
 
 // The types of all items, each named once.
-fn collect(table: &[u8], strings: &[u8], p: Parts) -> Content
-    ensures { λ r. ⌜ r ≡ collected (now (table .entry)) (now (strings .entry)) (setOf []) (p .count) p ⌝ }
+fn collect(sheet_table: &[u8], sheet_strings: &[u8], q: Rows) -> Content
+    ensures { λ r. ⌜ Collects (now («sheet_table» .entry)) (now («sheet_strings» .entry)) (setOf []) q r ⌝ }
 {
     let mut set = none();
-    let mut rest = p;
+    let mut rest = q;
     while rest.count > 0 {
-        let Content::Types(more) = with(set, type_at(strings, head(table, b"", rest))) else {
+        let word = type_at(sheet_strings, node_at(sheet_table, rest.first));
+        let Content::Types(more) = with(set, word) else {
             return Content::NotTypes;
         };
         set = more;
-        rest = tail(table, b"", rest);
+        rest = tail(sheet_table, rest);
     }
     Content::Types(set)
 }
 
 // "a non-empty array of distinct words"
-fn words(table: &[u8], strings: &[u8], p: Parts) -> Content
-    ensures { λ r. ⌜ r ≡ wordsIn (now (table .entry)) (now (strings .entry)) p ⌝ }
+fn words(sheet_table: &[u8], sheet_strings: &[u8], q: Rows) -> Content
+    ensures { λ r. ⌜ ListsWords (now («sheet_table» .entry)) (now («sheet_strings» .entry)) q r ⌝ }
 {
-    if p.count == 0 {
+    if q.count == 0 {
         return Content::NotTypes;
     }
-    collect(table, strings, p)
+    collect(sheet_table, sheet_strings, q)
 }
 
 // The types of a content.
-pub fn types_in(table: &[u8], strings: &[u8], h: Handle) -> Content
-    ensures { λ r. ⌜ Contains (now (table .entry)) (now (strings .entry)) h r ⌝ }
+pub fn types_in(sheet_table: &[u8], sheet_strings: &[u8], n: Node) -> Content
+    ensures { λ r. ⌜ Contains (now («sheet_table» .entry)) (now («sheet_strings» .entry)) n r ⌝ }
 {
-    let Handle::Compound(p) = h else {
+    let Node::Array(q) = n else {
         return Content::NotTypes;
     };
-    let form = p.form;
-    match form {
-        Form::Items => words(table, strings, p),
-        Form::Members => Content::NotTypes,
-        Form::List => words(table, strings, p),
-        Form::Context => Content::NotTypes,
-    }
+    words(sheet_table, sheet_strings, q)
 }

@@ -1,26 +1,11 @@
-// An entry of a sheet: the path that a member's name is, and the types that its content lists.
+// An entry of a sheet: the types that a member's content lists.
 use crate::content::Content;
 use crate::content::types_in;
-use heap::handle::Parts;
-use heap::part::Label;
-use heap::part::head;
-use heap::string::part_of;
+use table::node::node_at;
 use types::set::TypeSet;
 use types::set::none;
 ghost use mathlib.Core.Path.{_≡_};
-ghost use Rattle.sheet.specs.Inner.{nameText, typesListed, ListsTypes};
-
-// A member's name as it lies in the strings.
-pub fn name_text(strings: &[u8], name: Label) -> &[u8]
-    ensures { λ r. ⌜ now r ≡ nameText (now (strings .entry)) name ⌝ }
-{
-    match name {
-        Label::Nothing => part_of(strings, 0, 0),
-        Label::Name { start, size } => part_of(strings, start, size),
-        Label::Current => part_of(strings, 0, 0),
-        Label::Accumulator => part_of(strings, 0, 0),
-    }
-}
+ghost use Rattle.sheet.specs.Inner.{typesListed, ListsTypes};
 
 // The types of a content; none where it lists none.
 fn types_of(c: Content) -> TypeSet
@@ -32,9 +17,9 @@ fn types_of(c: Content) -> TypeSet
     }
 }
 
-// The types of the first member.
-pub fn types_at(table: &[u8], strings: &[u8], p: Parts) -> TypeSet
-    ensures { λ r. ⌜ ListsTypes (now (table .entry)) (now (strings .entry)) p r ⌝ }
+// The types of the member in a row.
+pub fn types_at(sheet_table: &[u8], sheet_strings: &[u8], row: usize) -> TypeSet
+    ensures { λ r. ⌜ ListsTypes (now («sheet_table» .entry)) (now («sheet_strings» .entry)) row r ⌝ }
 {
-    types_of(types_in(table, strings, head(table, b"", p)))
+    types_of(types_in(sheet_table, sheet_strings, node_at(sheet_table, row)))
 }

@@ -1,50 +1,59 @@
 // Whether a record fits a sheet.
 use crate::belong::has_type;
-use crate::entry::name_text;
 use crate::entry::types_at;
-use heap::handle::Handle;
-use heap::handle::Parts;
-use heap::handle::load;
-use heap::part::name_of;
-use heap::part::tail;
-use lookup::value_at;
+use paths::find;
+use table::node::Node;
+use table::node::Rows;
+use table::node::name_at;
+use table::node::node_at;
+use table::node::tail;
+use table::string::bytes_of;
 use types::set::TypeSet;
 ghost use Rattle.sheet.specs.Contract.{Fits};
 ghost use Rattle.sheet.specs.Inner.{FitsEntry, FitsAll};
 
 // Whether the value at a path, "null where missing", belongs to a listed type.
-fn entry_fits(path: &[u8], listed: TypeSet, table: &[u8], strings: &[u8]) -> bool
-    ensures { λ r. ⌜ FitsEntry (now (path .entry)) listed (now (table .entry)) (now (strings .entry)) r ⌝ }
+fn entry_fits(path: &[u8], listed: TypeSet, record_table: &[u8], record_strings: &[u8]) -> bool
+    ensures { λ r. ⌜ FitsEntry (now (path .entry)) listed (now («record_table» .entry)) (now («record_strings» .entry)) r ⌝ }
 {
-    has_type(
-        listed,
-        table,
-        strings,
-        value_at(path, strings, table, b"", load(table, 0)),
-    )
+    let whole = node_at(record_table, 0);
+    let value = find(path, record_table, record_strings, whole);
+    has_type(listed, record_table, record_strings, value)
 }
 
-// Every entry does. The sheet is in its table and strings (`names`).
-fn all_fit(sheet: &[u8], names: &[u8], p: Parts, table: &[u8], strings: &[u8]) -> bool
-    ensures { λ r. ⌜ FitsAll (now (sheet .entry)) (now (names .entry)) p (now (table .entry)) (now (strings .entry)) r ⌝ }
+// Every entry does.
+fn all_fit(
+    sheet_table: &[u8],
+    sheet_strings: &[u8],
+    q: Rows,
+    record_table: &[u8],
+    record_strings: &[u8],
+) -> bool
+    ensures { λ r. ⌜ FitsAll (now («sheet_table» .entry)) (now («sheet_strings» .entry)) q (now («record_table» .entry)) (now («record_strings» .entry)) r ⌝ }
 {
-    let mut rest = p;
+    let mut rest = q;
     while rest.count > 0 {
-        let path = name_text(names, name_of(sheet, rest));
-        if !entry_fits(path, types_at(sheet, names, rest), table, strings) {
+        let path = bytes_of(sheet_strings, name_at(sheet_table, rest.first));
+        let listed = types_at(sheet_table, sheet_strings, rest.first);
+        if !entry_fits(path, listed, record_table, record_strings) {
             return false;
         }
-        rest = tail(sheet, b"", rest);
+        rest = tail(sheet_table, rest);
     }
     true
 }
 
 // "A record fits if at each path its value, null where missing, belongs to a listed word".
-pub fn fits(sheet: &[u8], names: &[u8], table: &[u8], strings: &[u8]) -> bool
-    ensures { λ r. ⌜ Fits (now (sheet .entry)) (now (names .entry)) (now (table .entry)) (now (strings .entry)) r ⌝ }
+pub fn fits(
+    sheet_table: &[u8],
+    sheet_strings: &[u8],
+    record_table: &[u8],
+    record_strings: &[u8],
+) -> bool
+    ensures { λ r. ⌜ Fits (now («sheet_table» .entry)) (now («sheet_strings» .entry)) (now («record_table» .entry)) (now («record_strings» .entry)) r ⌝ }
 {
-    let Handle::Compound(p) = load(sheet, 0) else {
+    let Node::Object(q) = node_at(sheet_table, 0) else {
         return true;
     };
-    all_fit(sheet, names, p, table, strings)
+    all_fit(sheet_table, sheet_strings, q, record_table, record_strings)
 }

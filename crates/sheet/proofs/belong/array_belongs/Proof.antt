@@ -1,22 +1,23 @@
-use Rattle.sheet.proofs.Belonging.{of-integers, of-strings}
+use Rattle.sheet.proofs.Belonging.{of-arrays, of-integers, of-strings}
+use borrow.Author.Needs.{needs}
 use Rattle.sheet.proofs.belong.array_belongs.Statement.{statement}
 use Rattle.sheet.proofs.belong.array_belongs.Tie as tie
 
 returns : tie.Need-returns
-returns c = rw (c .if1 .taken)
+returns c = of-arrays _ (c .if1 .taken)
 
-all-integers-requires : tie.Need-all-integers-requires
-all-integers-requires c κs = tt
+all-of-kind-requires : tie.Need-all-of-kind-requires
+all-of-kind-requires c κs = search needs
 
 returns-2 : tie.Need-returns-2
-returns-2 c = of-integers (c .before .before .before .before .before .args .s) _ (c .before .before .before .before .before .args .p) (c .before .before .before .if1 .left) (c .before .before .all-integers .ensures) (c .if2 .taken)
+returns-2 c = of-integers _ (c .before .before .before .if1 .left) (c .before .before .all-of-kind .ensures) (c .if2 .taken)
 
-all-strings-requires : tie.Need-all-strings-requires
-all-strings-requires c κs = tt
+all-of-kind-requires-2 : tie.Need-all-of-kind-requires-2
+all-of-kind-requires-2 c κs = search needs
 
 returns-3 : tie.Need-returns-3
-returns-3 c = of-strings (c .before .before .before .before .before .before .before .args .s) _ (c .before .before .before .before .before .before .before .args .p) (c .before .before .before .before .before .if1 .left) (c .before .before .before .before .all-integers .ensures) (c .before .before .if2 .left) (c .before .all-strings .ensures)
+returns-3 c = of-strings _ (c .before .before .before .before .before .if1 .left) (c .before .before .before .before .all-of-kind .ensures) (c .before .before .if2 .left) (c .before .all-of-kind2 .ensures)
 
 pub array-belongs-spec : {M : Type 1} → statement M
 array-belongs-spec =
-    tie.close (tie.spec returns all-integers-requires returns-2 all-strings-requires returns-3)
+    tie.close (tie.spec returns all-of-kind-requires returns-2 all-of-kind-requires-2 returns-3)

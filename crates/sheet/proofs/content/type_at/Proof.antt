@@ -1,73 +1,24 @@
 use mathlib.Core.Path.{_∙_}
+use Rattle.sheet.proofs.Contents.{string-names, names-none}
 use borrow.Author.Needs.{needs}
 use Rattle.sheet.proofs.content.type_at.Statement.{statement}
 use Rattle.sheet.proofs.content.type_at.Tie as tie
 
-enum-told : tie.Need-enum-told
-enum-told c = search needs
-
-enum-told-2 : tie.Need-enum-told-2
-enum-told-2 c = search needs
-
-enum-told-3 : tie.Need-enum-told-3
-enum-told-3 c = search needs
-
-enum-told-4 : tie.Need-enum-told-4
-enum-told-4 c = search needs
-
-enum-told-5 : tie.Need-enum-told-5
-enum-told-5 c = search needs
-
-enum-known-h : tie.Need-enum-known-h
-enum-known-h c = search needs
-
-part-of-requires : tie.Need-part-of-requires
-part-of-requires c κs = tt
-
-type-named-requires : tie.Need-type-named-requires
-type-named-requires c κs = tt
-
-enum-told-6 : tie.Need-enum-told-6
-enum-told-6 c = search needs
+enum-known-n : tie.Need-enum-known-n
+enum-known-n c = search needs
 
 returns : tie.Need-returns
-returns c = search needs
+returns c = names-none (c .before .before .args .n) (c .match .keys2)
+
+bytes-of-requires : tie.Need-bytes-of-requires
+bytes-of-requires c κs = search needs
+
+type-named-requires : tie.Need-type-named-requires
+type-named-requires c κs = search needs
 
 returns-2 : tie.Need-returns-2
-returns-2 c = search needs
-
-returns-3 : tie.Need-returns-3
-returns-3 c = search needs
-
-returns-4 : tie.Need-returns-4
-returns-4 c = search needs
-
-returns-5 : tie.Need-returns-5
-returns-5 c = search needs
-
-returns-6 : tie.Need-returns-6
-returns-6 c = c .type-named .ensures ∙ rw (c .before .part-of .ensures, c .before .before .before .h .given .1)
-
-returns-7 : tie.Need-returns-7
-returns-7 c = search needs
+returns-2 c = rw (c .before .before .before .n .given .1) (string-names (c .type-named .ensures ∙ rw (c .before .bytes-of .ensures)))
 
 pub type-at-spec : {M : Type 1} → statement M
 type-at-spec =
-    tie.close
-    (tie.spec
-    enum-told
-    enum-told-2
-    enum-told-3
-    enum-told-4
-    enum-told-5
-    enum-known-h
-    part-of-requires
-    type-named-requires
-    enum-told-6
-    returns
-    returns-2
-    returns-3
-    returns-4
-    returns-5
-    returns-6
-    returns-7)
+    tie.close (tie.spec enum-known-n returns bytes-of-requires type-named-requires returns-2)

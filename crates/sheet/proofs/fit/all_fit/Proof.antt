@@ -1,25 +1,25 @@
 use mathlib.Core.Path.{_∙_}
 use native.Mathlib.Omega.{arith}
-use borrow.Author.Needs.{needs}
-use Rattle.sheet.proofs.Members.{Walked, begins}
-use Rattle.sheet.proofs.Fitting.{AllFit, fit-end, one-unfit, fit-on}
+use Rattle.paths.specs.Laws.Loops.{Left, begins, goes-on}
+use Rattle.sheet.specs.Inner.{FitsAll}
+use Rattle.sheet.proofs.Fitting.{fit-end, one-unfit, fit-on}
 use Rattle.sheet.proofs.fit.all_fit.Statement.{statement}
 use Rattle.sheet.proofs.fit.all_fit.Tie as tie
 
 abbrev Inv-loop : tie.InvT-loop
-Inv-loop sheet names table strings rest₀ t8 rest = Walked (AllFit table strings) sheet names rest₀ rest
+Inv-loop sheet-table sheet-strings record-table record-strings rest₀ rest = Left (FitsAll sheet-table sheet-strings rest record-table record-strings) (FitsAll sheet-table sheet-strings rest₀ record-table record-strings)
 
 abbrev μ-loop : tie.MeasureT-loop
-μ-loop sheet names table strings rest₀ t8 rest = rest .count
+μ-loop sheet-table sheet-strings record-table record-strings rest₀ rest = rest .count
 
 loop-holds : tie.Need-loop-holds Inv-loop μ-loop
-loop-holds c = begins (AllFit _ _) _ _ _
+loop-holds c = begins
 
-name-of-requires : tie.Need-name-of-requires Inv-loop μ-loop
-name-of-requires c κs = tt
+name-at-requires : tie.Need-name-at-requires Inv-loop μ-loop
+name-at-requires c κs = tt
 
-name-text-requires : tie.Need-name-text-requires Inv-loop μ-loop
-name-text-requires c κs = tt
+bytes-of-requires : tie.Need-bytes-of-requires Inv-loop μ-loop
+bytes-of-requires c κs = tt
 
 types-at-requires : tie.Need-types-at-requires Inv-loop μ-loop
 types-at-requires c κs = tt
@@ -28,10 +28,7 @@ entry-fits-requires : tie.Need-entry-fits-requires Inv-loop μ-loop
 entry-fits-requires c κs = tt
 
 returns : tie.Need-returns Inv-loop μ-loop
-returns c = one-unfit (c .before .before .before .before .before .before .before .loop .inv) (c .before .before .before .before .before .if1 .taken) (c .before .before .before .name-text .ensures ∙ rw (c .before .before .before .before .name-of .ensures)) (c .before .before .types-at .ensures) (c .before .entry-fits .ensures) (c .if2 .taken)
-
-slice-aggregate-tail : tie.Need-slice-aggregate-tail Inv-loop μ-loop
-slice-aggregate-tail c = search needs
+returns c = c .before .before .before .before .before .before .before .loop .inv .goes _ (one-unfit (omega arith) (c .before .before .before .bytes-of .ensures ∙ rw (c .before .before .before .before .name-at .ensures)) (c .before .before .types-at .ensures) (c .before .entry-fits .ensures) (c .if2 .taken))
 
 tail-requires : tie.Need-tail-requires Inv-loop μ-loop
 tail-requires c κs = tt
@@ -40,10 +37,10 @@ loop-less : tie.Need-loop-less Inv-loop μ-loop
 loop-less c = rw (c .tail .ensures) (omega arith)
 
 loop-again : tie.Need-loop-again Inv-loop μ-loop
-loop-again c = fit-on (c .before .before .before .before .before .before .before .before .before .loop .inv) (c .before .before .before .before .before .before .before .if1 .taken) (c .before .before .before .before .before .name-text .ensures ∙ rw (c .before .before .before .before .before .before .name-of .ensures)) (c .before .before .before .before .types-at .ensures) (c .before .before .before .entry-fits .ensures) (c .before .before .if2 .left) (c .tail .ensures)
+loop-again c = goes-on (c .before .before .before .before .before .before .before .before .loop .inv) (fit-on (omega arith) (c .before .before .before .before .bytes-of .ensures ∙ rw (c .before .before .before .before .before .name-at .ensures)) (c .before .before .before .types-at .ensures) (c .before .before .entry-fits .ensures) (c .before .if2 .left) (c .tail .ensures))
 
 returns-2 : tie.Need-returns-2 Inv-loop μ-loop
-returns-2 c = fit-end (c .before .before .loop .inv) (omega arith)
+returns-2 c = c .before .before .loop .inv .goes _ (fit-end (omega arith))
 
 pub all-fit-spec : {M : Type 1} → statement M
 all-fit-spec =
@@ -52,12 +49,11 @@ all-fit-spec =
     Inv-loop
     μ-loop
     loop-holds
-    name-of-requires
-    name-text-requires
+    name-at-requires
+    bytes-of-requires
     types-at-requires
     entry-fits-requires
     returns
-    slice-aggregate-tail
     tail-requires
     loop-less
     loop-again
