@@ -23,6 +23,7 @@ abbrev pub positionFrom : ℕ → Bytes → List Bytes → Position
 positionFrom i name [] = Nowhere
 positionFrom i name (n ∷ l) = cond (sameBytes name n) (At i) (positionFrom (i + 1) name l)
 
+-- Of whatever names these are.
 pub record IsPosition (names sizes name : Bytes) (r : Position) : Type 0 where
   pub is : (l : List Bytes) → names ≡ spaced l → sizes ≡ lengths l → r ≡ positionFrom 0 name l
 

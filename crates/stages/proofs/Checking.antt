@@ -1,6 +1,5 @@
 -- Checking: a rule's text and a sheet's, one after the other; a sheet's and a record's.
 use mathlib.Core.Bool.{Bool, false}
-use mathlib.Core.List.{[]}
 use mathlib.Core.Option.{Option, none, some}
 use mathlib.Core.Path.{_≡_, refl, sym, ap, _∙_}
 use Rattle.kinds.specs.Contract.{foundOf, Checks}
@@ -19,7 +18,7 @@ use Rattle.stages.specs.declared.text.Stop.{Stop}
 use Rattle.stages.specs.Areas.{TextAreas, textAreas}
 use Rattle.stages.specs.Contract.{stopOf, Reads, ReadsRule, ReadsSheet, leftAfter, wordsOf, ChecksTexts, fitOf, FitsTexts}
 use Rattle.stages.specs.Inner.{foundAs}
-use Rattle.stages.specs.Laws.{Passed, Stopped, zero-passed, some-stopped, text-held, record-held, left-rule, left-sheet, left-means}
+use Rattle.stages.specs.Laws.{Passed, Stopped, zero-passed, some-stopped, text-held, record-held, left-rule, left-sheet, left-denotes}
 use Rattle.stages.specs.Stage.{Stage, passed, _>>=_, ruleText, sheetText, recordText, readAs, asJudged}
 use Rattle.stages.specs.Texts.{TextRead, ruleStage, sheetStage, TextsChecked, checkStage, fitsStage}
 use Rattle.types.specs.Laws.{bits-set}
@@ -114,4 +113,4 @@ module _ (sheet record′ : Bytes) {S Z S′ Z′ : Bytes} {r : Stop} (h : Reads
         fit-is =
             k .is (fit-sheet-passes .result .content) (record-passes .result)
             (left-sheet sheet (fit-sheet-passes .result) S Z S′ Z′ (text-held sheetText sheetIn sheet (fit-sheet-passes .result) (fit-sheet-passes .is)) (h .areas))
-            (left-means record′ (record-passes .result) R B R′ B′ (record-held record′ (record-passes .result) (record-passes .is)) (g .areas) [] [])
+            (left-denotes record′ (record-passes .result) R B R′ B′ (record-held record′ (record-passes .result) (record-passes .is)) (g .areas))

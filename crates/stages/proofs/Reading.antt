@@ -1,6 +1,5 @@
 -- Reading: a text read into its areas, and judged.
 use mathlib.Core.Bool.{Bool, true, false}
-use mathlib.Core.List.{[]}
 use mathlib.Core.Option.{Option, none, some}
 use mathlib.Core.Path.{_≡_, refl, sym, ap, _∙_}
 use Prim.Native.Nat.{ℕ}
@@ -17,13 +16,13 @@ use Rattle.model.specs.Sheet.{sheetOf}
 use Rattle.model.specs.Value.{Value}
 use Rattle.syntax.specs.Read as readings
 use Rattle.syntax.specs.Read.{Read, read}
-use Rattle.shape.specs.Check.{Readable, Checks}
+use Rattle.shape.specs.Contract.{Checks}
 use Rattle.sheet.specs.Contract.{ChecksSheet}
 use Rattle.stages.specs.declared.text.Stop.{Stop}
 use Rattle.stages.specs.Areas.{TextAreas, textAreas, leftBy}
 use Rattle.stages.specs.Contract.{Long, stopOf, Reads, ReadsRule, ReadsSheet}
 use Rattle.stages.specs.Inner.{stopped, toldOf}
-use Rattle.stages.specs.Laws.{number-some, left-means, left-readable}
+use Rattle.stages.specs.Laws.{number-some, left-denotes, left-readable}
 use Rattle.stages.specs.Stage.{asRead, ruleText, sheetText}
 use Rattle.stages.specs.Texts.{textStage}
 
@@ -124,12 +123,9 @@ module _ {s T A T′ A′ : Bytes} {r : Stop} (h : Reads ruleText s (textAreas T
   pub rule-unread : (r .refusal ≡ 0 → ⊥) → ReadsRule s (textAreas T A) r (textAreas T′ A′)
   rule-unread n = record { stop = unread ruleText ruleIn h n; areas = h .areas }
 
-  pub rule-readable : r .refusal ≡ 0 → Readable T′ A′
-  rule-readable e = let w = reads-as ruleText ruleIn h e in left-readable s (w .value) T A T′ A′ (w .reads) (h .areas)
-
   module _ (zero : r .refusal ≡ 0) (b : Bool) (c : Checks T′ A′ b) where
     is-tested : (v : Value) → read s ≡ readings.done v → b ≡ isSome (shape v)
-    is-tested v e = c .is v (left-means s v T A T′ A′ e (h .areas) [] [])
+    is-tested v e = c .is v (left-denotes s v T A T′ A′ e (h .areas)) (left-readable s v T A T′ A′ e (h .areas) .nests)
 
     pub no-rule : {x : Stop} → b ≡ false → x ≡ stopped 6 → ReadsRule s (textAreas T A) x (textAreas T′ A′)
     no-rule e f = record { stop = f ∙ tested-not ruleText notRule shape h zero b is-tested e; areas = h .areas }
@@ -144,7 +140,7 @@ module _ {s T A T′ A′ : Bytes} {r : Stop} (h : Reads sheetText s (textAreas 
 
   module _ (zero : r .refusal ≡ 0) (b : Bool) (c : ChecksSheet T′ A′ b) where
     sheet-tested : (v : Value) → read s ≡ readings.done v → b ≡ isSome (sheetOf v)
-    sheet-tested v e = c .is v (left-means s v T A T′ A′ e (h .areas) [] [])
+    sheet-tested v e = c .is v (left-denotes s v T A T′ A′ e (h .areas))
 
     pub no-sheet : {x : Stop} → b ≡ false → x ≡ stopped 14 → ReadsSheet s (textAreas T A) x (textAreas T′ A′)
     no-sheet e f = record { stop = f ∙ tested-not sheetText notSheet sheetOf h zero b sheet-tested e; areas = h .areas }

@@ -1,5 +1,4 @@
 -- Laws: what a stage that is passed, or not, tells of the texts and of their areas.
-use mathlib.Core.List.{[]}
 use mathlib.Core.Option.{Option, none, some}
 use mathlib.Core.Path.{_≡_, refl, sym, ap, _∙_}
 use Prim.Native.Nat.{ℕ}
@@ -19,13 +18,12 @@ use Rattle.syntax.specs.Entry.{readInto}
 use Rattle.syntax.specs.Laws.Sound.{sound}
 use Rattle.syntax.specs.Read as readings
 use Rattle.syntax.specs.Read.{Read, read}
-use Rattle.heap.specs.Handles.{rowHandle}
-use Rattle.heap.specs.Main.{what-was-read}
-use Rattle.heap.specs.Means.{Means}
-use Rattle.heap.specs.Unfold.{areas}
 use Rattle.rule.specs.Holds.{Holds}
-use Rattle.shape.specs.Check.{Readable}
+use Rattle.shape.specs.Contract.{Readable}
 use Rattle.sheet.specs.Contract.{HoldsSheet}
+use Rattle.table.specs.Denotes.{Denotes}
+use Rattle.table.specs.Main.{what-was-read}
+use Rattle.table.specs.Node.{nodeAt}
 use Rattle.stages.specs.Areas.{TextAreas, textAreas, holding, readAreasOf, leftBy}
 use Rattle.stages.specs.Contract.{stopOf}
 use Rattle.stages.specs.Stage.{Stage, passed, refused, _>>=_, recordText, asRead, readAs, asJudged}
@@ -109,27 +107,27 @@ record-held s v e = ofRead (read s) refl e
 pub left-holding : (s : Bytes) (v : Value) (a : TextAreas) → read s ≡ readings.done v → leftBy s a ≡ holding v a
 left-holding s v a e = ap (λ (g : Read). readAreasOf (readInto g (length (a .table)) (length (a .strings)))) e
 
--- What the areas hold means the value, whatever the other strings and the cells are.
+-- What the areas hold denotes the value.
 module _ (s : Bytes) (v : Value) (T A T′ A′ : Bytes) (reads : read s ≡ readings.done v) (left : textAreas T′ A′ ≡ leftBy s (textAreas T A)) where
   left-is : textAreas T′ A′ ≡ holding v (textAreas T A)
   left-is = left ∙ left-holding s v (textAreas T A) reads
 
-  pub left-means : (B C : Bytes) → Means (areas B A′ T′ C) 0 v (rowHandle T′ 0)
-  left-means B C =
-      what-was-read s v (areas B A′ T′ C) (length T) (length A) reads
+  pub left-denotes : Denotes T′ A′ v (nodeAt T′ 0)
+  left-denotes =
+      what-was-read s v T′ A′ (length T) (length A) reads
       (ap (λ (x : TextAreas). x .table) left-is)
       (ap (λ (x : TextAreas). x .strings) left-is)
 
   pub left-readable : Readable T′ A′
-  left-readable = record { value = v; means = left-means [] []; nests = sound s v reads .0 .flat }
+  left-readable = record { value = v; denotes = left-denotes; nests = sound s v reads .0 .flat }
 
-pub left-rule : (s : Bytes) (x : TextRead Rule) (T A T′ A′ : Bytes) → TextHeld ruleIn s x → textAreas T′ A′ ≡ leftBy s (textAreas T A) → Holds T′ A′ maxNesting (rowHandle T′ 0) (x .content)
+pub left-rule : (s : Bytes) (x : TextRead Rule) (T A T′ A′ : Bytes) → TextHeld ruleIn s x → textAreas T′ A′ ≡ leftBy s (textAreas T A) → Holds T′ A′ maxNesting 0 (x .content)
 left-rule s x T A T′ A′ h left =
-    record { value = x .value; means = left-means s (x .value) T A T′ A′ (h .reads) left [] []; shaped = not-refused notRule (shape (x .value)) (x .content) (h .judged); nests = sound s (x .value) (h .reads) .0 .flat }
+    record { value = x .value; denotes = left-denotes s (x .value) T A T′ A′ (h .reads) left; shaped = not-refused notRule (shape (x .value)) (x .content) (h .judged); nests = sound s (x .value) (h .reads) .0 .flat }
 
 pub left-sheet : (s : Bytes) (x : TextRead Sheet) (T A T′ A′ : Bytes) → TextHeld sheetIn s x → textAreas T′ A′ ≡ leftBy s (textAreas T A) → HoldsSheet T′ A′ (x .content)
 left-sheet s x T A T′ A′ h left =
-    record { value = x .value; means = left-means s (x .value) T A T′ A′ (h .reads) left [] []; is-sheet = not-refused notSheet (sheetOf (x .value)) (x .content) (h .judged) }
+    record { value = x .value; denotes = left-denotes s (x .value) T A T′ A′ (h .reads) left; is-sheet = not-refused notSheet (sheetOf (x .value)) (x .content) (h .judged) }
 
 -- ---- several texts
 pub record Bound {A B : Type 0} (x : Stage A) (f : A → Stage B) (b : B) : Type 0 where

@@ -1,5 +1,5 @@
 use borrow.Author.Tests.{not-true, not-false}
-use Rattle.stages.proofs.Reading.{rule-unread, rule-readable, no-rule, a-rule}
+use Rattle.stages.proofs.Reading.{rule-unread, no-rule, a-rule}
 use borrow.Author.Needs.{needs}
 use Rattle.stages.proofs.text.read_rule.Statement.{statement}
 use Rattle.stages.proofs.text.read_rule.Tie as tie
@@ -22,7 +22,7 @@ returns c = rule-unread (c .before .before .before .before .before .before .read
 
 -- src/text.rt:72:9
 is-rule-requires : tie.Need-is-rule-requires
-is-rule-requires c κs = rule-readable (c .before .before .before .before .before .before .before .before .read-text .ensures) (c .before .before .if1 .left)
+is-rule-requires c κs = search needs
 
 -- src/text.rt:73:9
 numbered-requires : tie.Need-numbered-requires
