@@ -24,8 +24,7 @@ use Rattle.types.specs.declared.set.TypeSet.{TypeSet}
 use Rattle.types.specs.Set.{setOf}
 use Rattle.kinds.specs.declared.env.Env.{Env}
 use Rattle.kinds.specs.declared.env.Env.the-variants.{Outside, Lambda}
-use Rattle.kinds.specs.Contract.{Stands, stands-outside, stands-in-lambda, VarTypes}
-use Rattle.kinds.specs.Inner.{partBy, firstBy, lambdaBy}
+use Rattle.kinds.specs.Inner.{Stands, stands-outside, stands-in-lambda, VarTypes, partBy, firstBy, lambdaBy}
 
 -- ---- the first fragment, and the others
 -- Where the first one ends.

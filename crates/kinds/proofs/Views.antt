@@ -1,112 +1,104 @@
 -- Views: a rule by its view.
 use mathlib.Core.Bool.{Bool, true, false}
 use mathlib.Core.Option.{some}
-use mathlib.Core.Path.{_≡_, refl, sym, ap, _∙_}
-use Prim.Native.Nat.{ℕ, _-_, _≤_}
-use native.Mathlib.Omega.{arith}
+use mathlib.Core.Path.{_≡_, refl, sym, ap, _∙_, subst}
+use Prim.Native.Nat.{ℕ, suc, _≤_}
+use lib.ListN.{length}
 use Rattle.model.specs.Bytes.{Bytes}
-use Rattle.model.specs.Laws.Logic.{clash}
 use Rattle.model.specs.Limits.{maxNesting}
 use Rattle.model.specs.Option.{when}
-use Rattle.model.specs.Rule.{Operation, Rule, Rules}
-use Rattle.model.specs.TypeCheck.{Env as ModelEnv, outside, typesFor, accepts}
+use Rattle.model.specs.Rule.{Literal as ModelLiteral, Rule, if, reduce, Rules, no-rules, rule}
+use Rattle.model.specs.TypeCheck.{Env as ModelEnv, outside, literalTypes, typesFor, typesForAll, accepts, acceptsAll}
 use Rattle.model.specs.Types.{Types}
-use Rattle.heap.specs.declared.handle.Handle.{Handle}
-use Rattle.heap.specs.declared.handle.Parts.{Parts}
-use Rattle.heap.specs.Handles.{rowHandle}
-use Rattle.heap.specs.Strings.{part}
 use Rattle.keywords.specs.declared.Op.{Op}
+use Rattle.rule.specs.declared.view.Literal.{Literal}
 use Rattle.rule.specs.declared.view.View.{View}
 use Rattle.rule.specs.declared.view.View.the-variants as Seen
-use Rattle.rule.specs.Holds.{HoldsAll}
+use Rattle.rule.specs.Holds.{Holds, ruleCount}
 use Rattle.rule.specs.Laws.Holds.{holds-count}
-use Rattle.rule.specs.View.{Viewed, viewed-literal, viewed-var, viewed-if, viewed-and, viewed-reduce, viewed-apply, Built, built-if, built-and, built-reduce, built-apply, ViewsAs}
+use Rattle.rule.specs.View.{Spells, spells-false, spells-true, spells-integer, spells-string, Viewed, viewed-literal, viewed-var, viewed-if, viewed-and, viewed-reduce, viewed-apply, nested, ViewsAs}
+use Rattle.table.specs.declared.node.Rows.{Rows}
+use Rattle.table.specs.declared.row.Span.{Span}
+use Rattle.table.specs.Strings.{bytesOf}
 use Rattle.types.specs.declared.set.TypeSet.{TypeSet}
-use Rattle.kinds.specs.declared.env.Env.{Env}
+use Rattle.types.specs.Set.{setOf}
 use Rattle.kinds.specs.declared.env.Env.the-variants.{Outside}
+use Rattle.kinds.specs.declared.env.Scope.{Scope}
 use Rattle.kinds.specs.declared.found.Found.{Found}
-use Rattle.kinds.specs.declared.found.Found.the-variants.{NotAccepted, Types as Accepted}
-use Rattle.kinds.specs.Contract.{Stands, stands-outside, VarTypes, foundOf, Checks}
-use Rattle.kinds.specs.Inner.{foundBy, literalBy, Finds, FindsBuilt}
-use Rattle.kinds.proofs.Literals.{literal-is}
+use Rattle.kinds.specs.declared.found.Found.the-variants.{Types as Accepted}
+use Rattle.kinds.specs.declared.operation.FoundAll.{FoundAll}
+use Rattle.kinds.specs.Contract.{foundOf, Checks}
+use Rattle.kinds.specs.Inner.{Stands, stands-outside, innerOf, VarTypes, literalBy, andBy, operationBy, foundBy, Finds, FindsAll, FindsThree}
+use Rattle.kinds.proofs.Operations.{and-by, operation-by}
 
--- Of two views of operations.
-same-op : {op op₁ : Op} {p p₁ : Parts} → Seen.Operation op p ≡ Seen.Operation op₁ p₁ → op ≡ op₁
-same-op e = cc
+literal-is : {A : Bytes} {g : Literal} {l : ModelLiteral} → Spells A g l → literalBy A g ≡ setOf (literalTypes l)
+literal-is spells-false = refl
+literal-is spells-true = refl
+literal-is (spells-integer x e) = refl
+literal-is (spells-string x) = ap (λ t. setOf (literalTypes (ModelLiteral.string t))) (sym (x .is))
 
-same-parts : {op op₁ : Op} {p p₁ : Parts} → Seen.Operation op p ≡ Seen.Operation op₁ p₁ → p ≡ p₁
-same-parts e = cc
+types-count : (rs : Rules) (e : ModelEnv) → length (typesForAll rs e) ≡ ruleCount rs
+unfolding typesForAll
+types-count no-rules e = refl
+types-count (rule ρ rs) e = ap suc (types-count rs e)
 
--- The operands of a rule that is seen as an operation.
-record Operands (T A : Bytes) (deep : ℕ) (op : Op) (p : Parts) (ρ : Rule) : Type 0 where
-  rules : Rules
-  built : Built op rules ρ
-  hold : HoldsAll T A (deep - 1) p rules
-  nests : 1 ≤ deep
+module _ {T A : Bytes} {row deep : ℕ} {w : View} (seen : ViewsAs T A row deep w) where
+  viewed : {v : View} {ρ : Rule} → w ≡ v → Holds T A deep row ρ → Viewed T A deep v ρ
+  viewed {ρ = ρ} a k = subst (λ v. Viewed T A deep v ρ) a (seen .viewed ρ k)
 
-seen-as : {T A : Bytes} {deep : ℕ} {op op₁ : Op} {p p₁ : Parts} {rs : Rules} {ρ : Rule} → Seen.Operation op p ≡ Seen.Operation op₁ p₁ → 1 ≤ deep → Built op₁ rs ρ → HoldsAll T A (deep - 1) p₁ rs → Operands T A deep op p ρ
-seen-as {rs = rs} g d b n = record { rules = rs; built = rw (same-op g) b; hold = rw (same-parts g) n; nests = d }
+  -- The operands of an operation nest less deep.
+  pub nests : {v : View} → w ≡ v → nested v ≤ deep
+  nests a = subst (λ v. nested v ≤ deep) a (seen .bound)
 
-operands : {T A : Bytes} {deep : ℕ} {w : View} {op : Op} {p : Parts} (ρ : Rule) → w ≡ Seen.Operation op p → Viewed T A deep w ρ → Operands T A deep op p ρ
-operands ρ a (viewed-literal f n) = clash cc
-operands ρ a (viewed-var f n) = clash cc
-operands ρ a (viewed-if f d n) = seen-as (sym a ∙ f) d built-if n
-operands ρ a (viewed-and f d n) = seen-as (sym a ∙ f) d built-and n
-operands ρ a (viewed-reduce f d n) = seen-as (sym a ∙ f) d built-reduce n
-operands ρ a (viewed-apply f d o n) = seen-as (sym a ∙ f) d (built-apply (rw (holds-count n) at o)) n
-
-module _ {T A S Z : Bytes} {h : Handle} {env : Env} {deep : ℕ} (w : View) (seen : ViewsAs T A h w) where
-  pub no-rule : w ≡ Seen.NotRule → Finds T A S Z h env deep NotAccepted
-  no-rule a = record { is = λ ρ e k s. absurd (go ρ (seen .viewed deep ρ k)) }
-    where
-      go : (ρ : Rule) → Viewed T A deep w ρ → ⊥
-      go ρ (viewed-literal f n) = clash cc
-      go ρ (viewed-var f n) = clash cc
-      go ρ (viewed-if f d n) = clash cc
-      go ρ (viewed-and f d n) = clash cc
-      go ρ (viewed-reduce f d n) = clash cc
-      go ρ (viewed-apply f d t n) = clash cc
-
-  pub literal-found : {g : Handle} {t : TypeSet} → w ≡ Seen.Literal g → t ≡ literalBy A g → Finds T A S Z h env deep (Accepted t)
+module _ {T A S Z : Bytes} {row : ℕ} {s : Scope} {w : View} (seen : ViewsAs T A row (s .deep) w) where
+  pub literal-found : {g : Literal} {t : TypeSet} → w ≡ Seen.Literal g → t ≡ literalBy A g → Finds T A S Z row s (Accepted t)
   unfolding accepts typesFor
-  literal-found {g} {t} a b = record { is = λ ρ e k s. go ρ e (seen .viewed deep ρ k) }
+  literal-found {g} {t} a b = record { is = λ ρ e k z. go e (viewed seen a k) }
     where
-      go : (ρ : Rule) (e : ModelEnv) → Viewed T A deep w ρ → Accepted t ≡ foundBy (accepts ρ e) (typesFor ρ e)
-      go ρ e (viewed-literal {g = g₁} {l = l} f n) =
-          let i : g ≡ g₁ = cc in
-          ap Accepted (b ∙ rw i (literal-is l n))
-      go ρ e (viewed-var f n) = clash cc
-      go ρ e (viewed-if f d n) = clash cc
-      go ρ e (viewed-and f d n) = clash cc
-      go ρ e (viewed-reduce f d n) = clash cc
-      go ρ e (viewed-apply f d o n) = clash cc
+      go : {ρ : Rule} (e : ModelEnv) → Viewed T A (s .deep) (Seen.Literal g) ρ → Accepted t ≡ foundBy (accepts ρ e) (typesFor ρ e)
+      go e (viewed-literal x) = ap Accepted (b ∙ literal-is x)
 
-  pub var-found : {start size : ℕ} {text : Bytes} {t : TypeSet} → w ≡ Seen.Var start size → text ≡ part A start size → VarTypes S Z text env t → Finds T A S Z h env deep (Accepted t)
+  pub var-found : {p : Span} {text : Bytes} {t : TypeSet} → w ≡ Seen.Var p → text ≡ bytesOf A p → VarTypes S Z text (s .env) t → Finds T A S Z row s (Accepted t)
   unfolding accepts typesFor
-  var-found {start} {size} {text} {t} a b v = record { is = λ ρ e k s. go ρ e (seen .viewed deep ρ k) s }
+  var-found {p} {text} {t} a b v = record { is = λ ρ e k z. go e (viewed seen a k) z }
     where
-      go : (ρ : Rule) (e : ModelEnv) → Viewed T A deep w ρ → Stands S Z env e → Accepted t ≡ foundBy (accepts ρ e) (typesFor ρ e)
-      go ρ e (viewed-var {start = start₁} {size = size₁} {q = q} f n) s =
-          let i : start ≡ start₁ = cc in
-          let j : size ≡ size₁ = cc in
-          ap Accepted (v .is e q s (rw (b, i, j) n))
-      go ρ e (viewed-literal f n) s = clash cc
-      go ρ e (viewed-if f d n) s = clash cc
-      go ρ e (viewed-and f d n) s = clash cc
-      go ρ e (viewed-reduce f d n) s = clash cc
-      go ρ e (viewed-apply f d o n) s = clash cc
+      go : {ρ : Rule} (e : ModelEnv) → Viewed T A (s .deep) (Seen.Var p) ρ → Stands S Z (s .env) e → Accepted t ≡ foundBy (accepts ρ e) (typesFor ρ e)
+      go e (viewed-var {q = q} x) z = ap Accepted (v .is e q z (rw b x))
 
-  module _ {op : Op} {p : Parts} (is-op : w ≡ Seen.Operation op p) where
-    -- An operation is never seen at no depth.
-    pub no-depth : deep ≡ 0 → Finds T A S Z h env deep NotAccepted
-    no-depth a = record { is = λ ρ e k s. absurd (omega (arith, operands ρ is-op (seen .viewed deep ρ k) .nests)) }
+  module _ {q : Rows} {s₁ : Scope} (is-inner : s₁ ≡ innerOf s) where
+    pub if-seen : {r : Found} → w ≡ Seen.If q → FindsThree if T A S Z q s₁ r → Finds T A S Z row s r
+    if-seen {r} a f = record { is = λ ρ e k z. go e (viewed seen a k) z }
+      where
+        go : {ρ : Rule} (e : ModelEnv) → Viewed T A (s .deep) (Seen.If q) ρ → Stands S Z (s .env) e → r ≡ foundBy (accepts ρ e) (typesFor ρ e)
+        go e (viewed-if {r₀ = r₀} {r₁ = r₁} {r₂ = r₂} h) z = subst (λ s. FindsThree if T A S Z q s r) is-inner f .is r₀ r₁ r₂ e h z
 
-    pub operation-of : {r : Found} → FindsBuilt T A S Z op p env (deep - 1) r → Finds T A S Z h env deep r
-    operation-of f = record { is = λ ρ e k s. let o = operands ρ is-op (seen .viewed deep ρ k) in f .is (o .rules) ρ e (o .built) (o .hold) s }
+    pub reduce-seen : {r : Found} → w ≡ Seen.Reduce q → FindsThree reduce T A S Z q s₁ r → Finds T A S Z row s r
+    reduce-seen {r} a f = record { is = λ ρ e k z. go e (viewed seen a k) z }
+      where
+        go : {ρ : Rule} (e : ModelEnv) → Viewed T A (s .deep) (Seen.Reduce q) ρ → Stands S Z (s .env) e → r ≡ foundBy (accepts ρ e) (typesFor ρ e)
+        go e (viewed-reduce {r₀ = r₀} {r₁ = r₁} {r₂ = r₂} h) z = subst (λ s. FindsThree reduce T A S Z q s r) is-inner f .is r₀ r₁ r₂ e h z
+
+    module _ {x : FoundAll} (f : FindsAll T A S Z q s₁ x) where
+      all : FindsAll T A S Z q (innerOf s) x
+      all = subst (λ s. FindsAll T A S Z q s x) is-inner f
+
+      pub and-seen : {r : Found} → w ≡ Seen.And q → r ≡ andBy x → Finds T A S Z row s r
+      unfolding accepts acceptsAll typesFor typesForAll
+      and-seen {r} a b = record { is = λ ρ e k z. go e (viewed seen a k) z }
+        where
+          go : {ρ : Rule} (e : ModelEnv) → Viewed T A (s .deep) (Seen.And q) ρ → Stands S Z (s .env) e → r ≡ foundBy (accepts ρ e) (typesFor ρ e)
+          go e (viewed-and {r = ρ} {rs = rs} h) z = b ∙ (ap andBy (all .is (rule ρ rs) e h z) ∙ and-by (accepts ρ e) (acceptsAll rs e) (typesFor ρ e) (typesForAll rs e))
+
+      pub apply-seen : {op : Op} {r : Found} → w ≡ Seen.Apply op q → r ≡ operationBy op x → Finds T A S Z row s r
+      unfolding accepts typesFor
+      apply-seen {op} {r} a b = record { is = λ ρ e k z. go e (viewed seen a k) z }
+        where
+          go : {ρ : Rule} (e : ModelEnv) → Viewed T A (s .deep) (Seen.Apply op q) ρ → Stands S Z (s .env) e → r ≡ foundBy (accepts ρ e) (typesFor ρ e)
+          go e (viewed-apply {rs = rs} o h) z = b ∙ (ap (operationBy op) (all .is rs e h z) ∙ operation-by (acceptsAll rs e) (typesForAll rs e) o (types-count rs e ∙ sym (holds-count h)))
 
 -- ---- the whole rule
-pub whole : {T A S Z : Bytes} {h : Handle} {r : Found} → h ≡ rowHandle T 0 → Finds T A S Z h Outside maxNesting r → Checks T A S Z r
-whole {r = r} a f = record { is = λ ρ s k z. f .is ρ (outside s) (rw a k) (stands-outside z) ∙ go (accepts ρ (outside s)) (typesFor ρ (outside s)) }
+pub whole : {T A S Z : Bytes} {r : Found} → Finds T A S Z 0 (record { env = Outside; deep = maxNesting }) r → Checks T A S Z r
+whole {r = r} f = record { is = λ ρ s k z. f .is ρ (outside s) k (stands-outside z) ∙ go (accepts ρ (outside s)) (typesFor ρ (outside s)) }
   where
     go : (b : Bool) (ts : Types) → foundBy b ts ≡ foundOf (when b (some ts))
     go true ts = refl

@@ -1,44 +1,51 @@
 -- Inner: what the private functions do. A rule's table T and strings A, and a sheet's table S and strings Z, are as reading left them.
 use mathlib.Core.Bool.{Bool, true, false, _&&_, cond}
-use mathlib.Core.List.{[], _∷_}
+use mathlib.Core.List.{List, [], _∷_, _++_}
+use mathlib.Core.Option.{some}
 use mathlib.Core.Path.{_≡_}
-use Prim.Native.Nat.{ℕ}
+use Prim.Native.Nat.{ℕ, _-_}
 use lib.Dec.{eqb}
 use lib.ListN.{length, take}
 use Rattle.model.specs.Bytes.{Bytes, ascii, sameBytes}
 use Rattle.model.specs.Eval.{current, accumulator}
-use Rattle.model.specs.Rule.{Literal, Rule, Rules}
-use Rattle.model.specs.TypeCheck.{Env as ModelEnv, literalTypes, domainType, union, typesFor, typesForAll, accepts, acceptsAll}
+use Rattle.model.specs.Path.{Path, pathOf}
+use Rattle.model.specs.Rule.{Literal as ModelLiteral, Rule, Rules, no-rules, rule}
+use Rattle.model.specs.Sheet.{Sheet}
+use Rattle.model.specs.TypeCheck.{Env as ModelEnv, outside, inLambda, varTypes, literalTypes, domainType, typesFor, typesForAll, accepts, acceptsAll}
 use Rattle.model.specs.Types.{Types, passes, scalars, anyOfRecord, anyValue}
 use Rattle.model.specs.declared.Ty.the-variants as Ty
 use Rattle.bytes.specs.Fragment.{fragmentLength}
-use Rattle.heap.specs.declared.handle.Handle.{Handle}
-use Rattle.heap.specs.declared.handle.Handle.the-variants as Handles
-use Rattle.heap.specs.declared.handle.Parts.{Parts}
-use Rattle.heap.specs.Strings.{spanBytes}
 use Rattle.keywords.specs.declared.Op.{Op}
 use Rattle.keywords.specs.declared.Op.the-variants as Ops
+use Rattle.rule.specs.declared.view.Literal.{Literal}
+use Rattle.rule.specs.declared.view.Literal.the-variants as Literals
 use Rattle.rule.specs.Holds.{Holds, HoldsAll}
-use Rattle.rule.specs.View.{Built}
+use Rattle.sheet.specs.Contract.{HoldsSheet}
+use Rattle.table.specs.declared.node.Rows.{Rows}
+use Rattle.table.specs.Strings.{bytesOf}
 use Rattle.types.specs.declared.set.TypeSet.{TypeSet}
 use Rattle.types.specs.Set.{setOf, typesIn}
 use Rattle.kinds.specs.declared.env.Env.{Env}
+use Rattle.kinds.specs.declared.env.Env.the-variants.{Outside, Lambda}
+use Rattle.kinds.specs.declared.env.Scope.{Scope}
 use Rattle.kinds.specs.declared.found.Found.{Found}
 use Rattle.kinds.specs.declared.found.Found.the-variants as Founds
-use Rattle.kinds.specs.Contract.{Stands}
+use Rattle.kinds.specs.declared.operation.FoundAll.{FoundAll}
+use Rattle.kinds.specs.declared.operation.FoundAll.the-variants as FoundsAll
+use Rattle.kinds.specs.declared.operation.Operands.{Operands}
 
--- ---- what is found
--- These types, if the rule is accepted.
-abbrev pub acceptedAs : Bool → TypeSet → Found
-acceptedAs true s = Founds.Types s
-acceptedAs false s = Founds.NotAccepted
+-- ---- where a rule stands
+-- In the model's terms.
+pub data Stands (S Z : Bytes) : Env → ModelEnv → Type 0 where
+  stands-outside : {s : Sheet} → HoldsSheet S Z s → Stands S Z Outside (outside s)
+  stands-in-lambda : {cur acc : Types} {c a : TypeSet} → c ≡ setOf cur → a ≡ setOf acc → Stands S Z (Lambda c a) (inLambda cur acc)
 
--- Of a rule that is accepted or not, and has these types.
-abbrev pub foundBy : Bool → Types → Found
-foundBy ok ts = acceptedAs ok (setOf ts)
+-- Its operands nest less deep.
+abbrev pub innerOf : Scope → Scope
+innerOf s = record { env = s .env; deep = s .deep - 1 }
 
--- ---- variables in a lambda
--- Of a path that ends with its first fragment, or goes on.
+-- ---- variables
+-- In a lambda, of a path that ends with its first fragment, or goes on.
 abbrev pub partBy : Bool → TypeSet → TypeSet
 partBy whole s = cond whole s (setOf anyValue)
 
@@ -55,76 +62,102 @@ lambdaBy p cur acc =
     cond (eqb (length p) 0) (setOf (Ty.Object ∷ []))
     (let size = fragmentLength (ascii ".") p in firstBy (take size p) (eqb size (length p)) cur acc)
 
--- ---- literals and operations
--- By a literal's handle. No literal is null, an instant, an array or an object.
-abbrev pub literalBy : Bytes → Handle → TypeSet
-literalBy A Handles.Null = setOf []
-literalBy A Handles.False = setOf (Ty.Boolean ∷ [])
-literalBy A Handles.True = setOf (Ty.Boolean ∷ [])
-literalBy A (Handles.Integer n) = setOf (Ty.Integer ∷ [])
-literalBy A (Handles.Instant n) = setOf []
-literalBy A (Handles.String s) = setOf (literalTypes (Literal.string (spanBytes A A s)))
-literalBy A (Handles.Compound p) = setOf []
+-- The types of the variable at a path whose text is p.
+pub record VarTypes (S Z p : Bytes) (env : Env) (r : TypeSet) : Type 0 where
+  pub is : (e : ModelEnv) (q : Path) → Stands S Z env e → pathOf p ≡ some q → r ≡ setOf (varTypes e q)
 
--- All types of a set pass where these are allowed.
+-- ---- literals
+abbrev pub literalBy : Bytes → Literal → TypeSet
+literalBy A Literals.False = setOf (Ty.Boolean ∷ [])
+literalBy A Literals.True = setOf (Ty.Boolean ∷ [])
+literalBy A (Literals.Integer n) = setOf (Ty.Integer ∷ [])
+literalBy A (Literals.String s) = setOf (literalTypes (ModelLiteral.string (bytesOf A s)))
+
+-- ---- the types of operands
+abbrev pub noOperands : Operands
+noOperands = record { before = setOf []; last = setOf [] }
+
+-- The types that any operand has.
+abbrev pub allOf : Operands → TypeSet
+allOf o = setOf (typesIn (o .before) ++ typesIn (o .last))
+
+abbrev pub oneMore : Operands → TypeSet → Operands
+oneMore o t = record { before = allOf o; last = t }
+
+-- These operands, and after them those with these types.
+abbrev pub operandsAfter : Operands → List Types → Operands
+operandsAfter o [] = o
+operandsAfter o (ts ∷ l) = operandsAfter (oneMore o (setOf ts)) l
+
+-- ---- operations by the types of their operands
+-- These types, if the rule is accepted.
+abbrev pub acceptedAs : Bool → TypeSet → Found
+acceptedAs true s = Founds.Types s
+acceptedAs false s = Founds.NotAccepted
+
+-- All types of a set pass where those of another are allowed.
+abbrev pub passesAs : TypeSet → TypeSet → Bool
+passesAs s allowed = passes (typesIn s) (typesIn allowed)
+
 abbrev pub passAs : TypeSet → Types → Bool
-passAs s allowed = passes (typesIn s) (typesIn (setOf allowed))
+passAs s allowed = passesAs s (setOf allowed)
 
--- Of an array by the types that any of its items has.
+-- What is given, if all types pass.
+abbrev pub passingAs : TypeSet → Types → Types → Found
+passingAs s allowed given = acceptedAs (passAs s allowed) (setOf given)
+
+-- An array by the types that any of its items has.
 abbrev pub arrayBy : TypeSet → TypeSet
 arrayBy s =
     cond (passAs s (Ty.Integer ∷ [])) (setOf (Ty.Integers ∷ []))
     (cond (passAs s (Ty.String ∷ [])) (setOf (Ty.Strings ∷ []))
     (setOf (Ty.Array ∷ [])))
 
--- ---- an operation by the types that any of its operands has: all but `if`, `reduce` and `in`
--- The types that every operand may have.
-abbrev pub allowedFor : Op → Types
-allowedFor Ops.Array = anyValue
-allowedFor Ops.If = []
-allowedFor Ops.And = anyOfRecord
-allowedFor Ops.Reduce = []
-allowedFor Ops.Equal = scalars
-allowedFor Ops.MemberOf = []
-allowedFor Ops.Plus = Ty.Integer ∷ []
-allowedFor Ops.Not = anyOfRecord
-allowedFor Ops.DateOfBirth = Ty.Day ∷ []
-allowedFor (Ops.Compare d c) = domainType d ∷ []
-allowedFor (Ops.PlusTime n u) = Ty.Date ∷ []
-allowedFor (Ops.ExtractFromUvci n) = Ty.Null ∷ Ty.String ∷ []
-
--- The types of the result.
-abbrev pub givenBy : Op → TypeSet → TypeSet
-givenBy Ops.Array s = arrayBy s
-givenBy Ops.If s = setOf []
-givenBy Ops.And s = s
-givenBy Ops.Reduce s = setOf []
-givenBy Ops.Equal s = setOf (Ty.Boolean ∷ [])
-givenBy Ops.MemberOf s = setOf []
-givenBy Ops.Plus s = setOf (Ty.Integer ∷ [])
-givenBy Ops.Not s = setOf (Ty.Boolean ∷ [])
-givenBy Ops.DateOfBirth s = setOf (Ty.Instant ∷ [])
-givenBy (Ops.Compare d c) s = setOf (Ty.Boolean ∷ [])
-givenBy (Ops.PlusTime n u) s = setOf (Ty.Instant ∷ [])
-givenBy (Ops.ExtractFromUvci n) s = setOf (Ty.Null ∷ Ty.String ∷ [])
-
--- These, if every operand's types are allowed.
-abbrev pub operationBy : Op → TypeSet → Found
-operationBy op s = acceptedAs (passAs s (allowedFor op)) (givenBy op s)
-
 -- `in`, by the types of each operand.
 abbrev pub memberBy : TypeSet → TypeSet → Found
 memberBy element items = acceptedAs (passAs element scalars && passAs items (Ty.Array ∷ [])) (setOf (Ty.Boolean ∷ []))
 
+-- If all operands are accepted.
+abbrev pub branchesBy : FoundAll → Found
+branchesBy FoundsAll.NotAccepted = Founds.NotAccepted
+branchesBy (FoundsAll.Types o) = Founds.Types (allOf o)
+
+abbrev pub andBy : FoundAll → Found
+andBy FoundsAll.NotAccepted = Founds.NotAccepted
+andBy (FoundsAll.Types o) = acceptedAs (passAs (allOf o) anyOfRecord) (allOf o)
+
+abbrev pub operationOn : Op → Operands → Found
+operationOn Ops.Array o = Founds.Types (arrayBy (allOf o))
+operationOn Ops.Equal o = passingAs (allOf o) scalars (Ty.Boolean ∷ [])
+operationOn Ops.MemberOf o = memberBy (o .before) (o .last)
+operationOn Ops.Plus o = passingAs (allOf o) (Ty.Integer ∷ []) (Ty.Integer ∷ [])
+operationOn Ops.Not o = passingAs (allOf o) anyOfRecord (Ty.Boolean ∷ [])
+operationOn Ops.DateOfBirth o = passingAs (allOf o) (Ty.Day ∷ []) (Ty.Instant ∷ [])
+operationOn (Ops.Compare d c) o = passingAs (allOf o) (domainType d ∷ []) (Ty.Boolean ∷ [])
+operationOn (Ops.PlusTime n u) o = passingAs (allOf o) (Ty.Date ∷ []) (Ty.Instant ∷ [])
+operationOn (Ops.ExtractFromUvci n) o = passingAs (allOf o) (Ty.Null ∷ Ty.String ∷ []) (Ty.Null ∷ Ty.String ∷ [])
+
+abbrev pub operationBy : Op → FoundAll → Found
+operationBy op FoundsAll.NotAccepted = Founds.NotAccepted
+operationBy op (FoundsAll.Types o) = operationOn op o
+
 -- ---- rules
--- What is found for the rule of a handle,
-pub record Finds (T A S Z : Bytes) (h : Handle) (env : Env) (deep : ℕ) (r : Found) : Type 0 where
-  pub is : (ρ : Rule) (e : ModelEnv) → Holds T A deep h ρ → Stands S Z env e → r ≡ foundBy (accepts ρ e) (typesFor ρ e)
+-- Of a rule that is accepted or not, and has these types.
+abbrev pub foundBy : Bool → Types → Found
+foundBy ok ts = acceptedAs ok (setOf ts)
 
--- for that of an operation and its operands,
-pub record FindsBuilt (T A S Z : Bytes) (op : Op) (p : Parts) (env : Env) (deep : ℕ) (r : Found) : Type 0 where
-  pub is : (rs : Rules) (ρ : Rule) (e : ModelEnv) → Built op rs ρ → HoldsAll T A deep p rs → Stands S Z env e → r ≡ foundBy (accepts ρ e) (typesFor ρ e)
+abbrev pub allFoundBy : Bool → Operands → FoundAll
+allFoundBy true o = FoundsAll.Types o
+allFoundBy false o = FoundsAll.NotAccepted
 
--- and for all operands: the types that any of them has.
-pub record FindsAll (T A S Z : Bytes) (p : Parts) (env : Env) (deep : ℕ) (r : Found) : Type 0 where
-  pub is : (rs : Rules) (e : ModelEnv) → HoldsAll T A deep p rs → Stands S Z env e → r ≡ foundBy (acceptsAll rs e) (union (typesForAll rs e))
+-- What is found for the rule in a row,
+pub record Finds (T A S Z : Bytes) (row : ℕ) (s : Scope) (r : Found) : Type 0 where
+  pub is : (ρ : Rule) (e : ModelEnv) → Holds T A (s .deep) row ρ → Stands S Z (s .env) e → r ≡ foundBy (accepts ρ e) (typesFor ρ e)
+
+-- for all operands,
+pub record FindsAll (T A S Z : Bytes) (q : Rows) (s : Scope) (r : FoundAll) : Type 0 where
+  pub is : (rs : Rules) (e : ModelEnv) → HoldsAll T A (s .deep) q rs → Stands S Z (s .env) e → r ≡ allFoundBy (acceptsAll rs e) (operandsAfter noOperands (typesForAll rs e))
+
+-- and for the rule with these three operands.
+pub record FindsThree (make : Rule → Rule → Rule → Rule) (T A S Z : Bytes) (q : Rows) (s : Scope) (r : Found) : Type 0 where
+  pub is : (r₀ r₁ r₂ : Rule) (e : ModelEnv) → HoldsAll T A (s .deep) q (rule r₀ (rule r₁ (rule r₂ no-rules))) → Stands S Z (s .env) e → r ≡ foundBy (accepts (make r₀ r₁ r₂) e) (typesFor (make r₀ r₁ r₂) e)

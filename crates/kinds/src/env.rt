@@ -7,13 +7,31 @@ use types::set::TypeSet;
 use types::set::any_value;
 use types::set::only;
 ghost use mathlib.Core.Path.{_≡_};
-ghost use Rattle.kinds.specs.Contract.{VarTypes};
-ghost use Rattle.kinds.specs.Inner.{partBy, lambdaBy};
+ghost use Prim.Native.Nat.{_≤_};
+ghost use Rattle.kinds.specs.Inner.{innerOf, partBy, lambdaBy, VarTypes};
 
 // Outside every lambda, or in one: the types of `current`, and of `accumulator`.
 pub enum Env {
     Outside,
     Lambda(TypeSet, TypeSet),
+}
+
+// Where a rule stands, and how deep it nests at most.
+pub struct Scope {
+    pub env: Env,
+    pub deep: usize,
+}
+
+// Where the operands of a rule stand.
+pub fn inner(s: Scope) -> Scope
+    requires { ⌜ 1 ≤ s .deep ⌝ }
+    ensures { λ r. ⌜ r ≡ innerOf s ⌝ }
+{
+    let env = s.env;
+    Scope {
+        env,
+        deep: s.deep - 1,
+    }
 }
 
 // "`current` and `accumulator` have their sets"; "a longer path from either has those six and instant".
@@ -45,12 +63,12 @@ fn lambda_types(path: &[u8], current: TypeSet, accumulator: TypeSet) -> TypeSet
     only(Ty::Null)
 }
 
-// The types of the variable at a path. The sheet is in its table and strings (`names`).
-pub fn var_types(sheet: &[u8], names: &[u8], path: &[u8], env: Env) -> TypeSet
-    ensures { λ r. ⌜ VarTypes (now (sheet .entry)) (now (names .entry)) (now (path .entry)) env r ⌝ }
+// The types of the variable at a path.
+pub fn var_types(sheet_table: &[u8], sheet_strings: &[u8], path: &[u8], env: Env) -> TypeSet
+    ensures { λ r. ⌜ VarTypes (now («sheet_table» .entry)) (now («sheet_strings» .entry)) (now (path .entry)) env r ⌝ }
 {
     match env {
-        Env::Outside => types_for(sheet, names, path),
+        Env::Outside => types_for(sheet_table, sheet_strings, path),
         Env::Lambda(current, accumulator) => lambda_types(path, current, accumulator),
     }
 }

@@ -1,5 +1,5 @@
 // The kind check: the types found for a rule under a sheet, both as reading left them, or that the rule is not accepted.
 pub mod check;
-pub mod env;
+mod env;
 pub mod found;
 mod operation;

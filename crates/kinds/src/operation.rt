@@ -1,38 +1,110 @@
-// Operations, by the types of their operands.
+// Literals and operations: the types of a rule by those of its operands.
 use crate::found::Found;
-use crate::found::accepted;
-use heap::handle::Handle;
-use heap::string::bytes;
 use keywords::Op;
 use model::Domain;
 use model::Ty;
+use rule::view::Literal;
+use table::string::bytes_of;
 use types::set::TypeSet;
 use types::set::any_of_record;
-use types::set::any_value;
 use types::set::none;
 use types::set::only;
 use types::set::passes;
 use types::set::scalars;
 use types::set::union;
 use words::types_of;
+ghost use mathlib.Core.List.{[], _∷_};
 ghost use mathlib.Core.Path.{_≡_};
 ghost use Rattle.model.specs.TypeCheck.{domainType};
+ghost use Rattle.model.specs.declared.Ty.the-variants.{Null, String};
 ghost use Rattle.types.specs.Set.{setOf};
-ghost use Rattle.kinds.specs.Inner.{literalBy, arrayBy, allowedFor, givenBy, operationBy, memberBy};
+ghost use Rattle.kinds.specs.Inner.{literalBy, acceptedAs, allOf, noOperands, oneMore, passesAs, memberBy, arrayBy, branchesBy, andBy, operationBy};
+
+// The types of some operands: those that any but the last has, and the last's.
+pub struct Operands {
+    pub before: TypeSet,
+    pub last: TypeSet,
+}
+
+// The types of operands that are all accepted, or that one is not.
+pub enum FoundAll {
+    NotAccepted,
+    Types(Operands),
+}
 
 // "A string literal is day, else date, else string."
-pub fn literal_types(literals: &[u8], h: Handle) -> TypeSet
-    ensures { λ r. ⌜ r ≡ literalBy (now (literals .entry)) h ⌝ }
+pub fn literal_types(rule_strings: &[u8], l: Literal) -> TypeSet
+    ensures { λ r. ⌜ r ≡ literalBy (now («rule_strings» .entry)) l ⌝ }
 {
-    match h {
-        Handle::Null => none(),
-        Handle::False => only(Ty::Boolean),
-        Handle::True => only(Ty::Boolean),
-        Handle::Integer(_) => only(Ty::Integer),
-        Handle::Instant(_) => none(),
-        Handle::String(s) => types_of(bytes(literals, literals, s)),
-        Handle::Compound(_) => none(),
+    match l {
+        Literal::False => only(Ty::Boolean),
+        Literal::True => only(Ty::Boolean),
+        Literal::Integer(_) => only(Ty::Integer),
+        Literal::String(s) => types_of(bytes_of(rule_strings, s)),
     }
+}
+
+// ---- operands
+// No operand.
+pub fn no_operands() -> Operands
+    ensures { λ r. ⌜ r ≡ noOperands ⌝ }
+{
+    Operands {
+        before: none(),
+        last: none(),
+    }
+}
+
+// The types that any operand has.
+fn all_types(o: Operands) -> TypeSet
+    ensures { λ r. ⌜ r ≡ allOf o ⌝ }
+{
+    union(o.before, o.last)
+}
+
+// One operand more.
+pub fn one_more(o: Operands, last: TypeSet) -> Operands
+    ensures { λ r. ⌜ r ≡ oneMore o last ⌝ }
+{
+    Operands {
+        before: all_types(o),
+        last,
+    }
+}
+
+// ---- operations
+// These types, if the rule is accepted.
+fn accepted(ok: bool, s: TypeSet) -> Found
+    ensures { λ r. ⌜ r ≡ acceptedAs ok s ⌝ }
+{
+    if ok {
+        return Found::Types(s);
+    }
+    Found::NotAccepted
+}
+
+// What is given, if all the types pass where these are allowed.
+pub fn passing(s: TypeSet, allowed: TypeSet, given: TypeSet) -> Found
+    ensures { λ r. ⌜ r ≡ acceptedAs (passesAs s allowed) given ⌝ }
+{
+    accepted(passes(s, allowed), given)
+}
+
+// What a comparison takes.
+fn domain_type(domain: Domain) -> Ty
+    ensures { λ r. ⌜ r ≡ domainType domain ⌝ }
+{
+    match domain {
+        Domain::OnIntegers => Ty::Integer,
+        Domain::OnInstants => Ty::Instant,
+    }
+}
+
+// What `extractFromUVCI` takes and gives.
+fn null_or_string() -> TypeSet
+    ensures { λ r. ⌜ r ≡ setOf (Null ∷ String ∷ []) ⌝ }
+{
+    union(only(Ty::Null), only(Ty::String))
 }
 
 // "An array is integers if every item's only word is integer (the empty one too), else strings if all item words pass as string, else array."
@@ -48,75 +120,57 @@ fn array_types(items: TypeSet) -> TypeSet
     only(Ty::Array)
 }
 
-// What a comparison takes.
-fn domain_type(domain: Domain) -> Ty
-    ensures { λ r. ⌜ r ≡ domainType domain ⌝ }
+// `in`: "a scalar, then an array".
+fn member_types(element: TypeSet, items: TypeSet) -> Found
+    ensures { λ r. ⌜ r ≡ memberBy element items ⌝ }
 {
-    match domain {
-        Domain::OnIntegers => Ty::Integer,
-        Domain::OnInstants => Ty::Instant,
+    let ok = passes(element, scalars()) & passes(items, only(Ty::Array));
+    accepted(ok, only(Ty::Boolean))
+}
+
+// `if`, by its branches.
+pub fn branch_types(found: FoundAll) -> Found
+    ensures { λ r. ⌜ r ≡ branchesBy found ⌝ }
+{
+    match found {
+        FoundAll::NotAccepted => Found::NotAccepted,
+        FoundAll::Types(o) => Found::Types(all_types(o)),
     }
 }
 
-// The types that every operand may have.
-fn allowed(op: Op) -> TypeSet
-    ensures { λ r. ⌜ r ≡ setOf (allowedFor op) ⌝ }
+// `and`
+pub fn and_types(found: FoundAll) -> Found
+    ensures { λ r. ⌜ r ≡ andBy found ⌝ }
 {
+    match found {
+        FoundAll::NotAccepted => Found::NotAccepted,
+        FoundAll::Types(o) => {
+            let all = all_types(o);
+            passing(all, any_of_record(), all)
+        }
+    }
+}
+
+// An operation that evaluates all its operands: the types that they may have, and those that it gives.
+pub fn operation_types(op: Op, found: FoundAll) -> Found
+    ensures { λ r. ⌜ r ≡ operationBy op found ⌝ }
+{
+    let FoundAll::Types(o) = found else {
+        return Found::NotAccepted;
+    };
+    let all = all_types(o);
     match op {
-        Op::Array => any_value(),
-        Op::If => none(),
-        Op::And => any_of_record(),
-        Op::Reduce => none(),
-        Op::Equal => scalars(),
-        Op::MemberOf => none(),
-        Op::Plus => only(Ty::Integer),
-        Op::Not => any_of_record(),
-        Op::DateOfBirth => only(Ty::Day),
+        Op::Array => Found::Types(array_types(all)),
+        Op::Equal => passing(all, scalars(), only(Ty::Boolean)),
+        Op::MemberOf => member_types(o.before, o.last),
+        Op::Plus => passing(all, only(Ty::Integer), only(Ty::Integer)),
+        Op::Not => passing(all, any_of_record(), only(Ty::Boolean)),
+        Op::DateOfBirth => passing(all, only(Ty::Day), only(Ty::Instant)),
         Op::Compare {
             domain,
             comparison: _,
-        } => only(domain_type(domain)),
-        Op::PlusTime { amount: _, unit: _ } => only(Ty::Date),
-        Op::ExtractFromUvci(_) => union(only(Ty::Null), only(Ty::String)),
+        } => passing(all, only(domain_type(domain)), only(Ty::Boolean)),
+        Op::PlusTime { amount: _, unit: _ } => passing(all, only(Ty::Date), only(Ty::Instant)),
+        Op::ExtractFromUvci(_) => passing(all, null_or_string(), null_or_string()),
     }
-}
-
-// The types of the result.
-fn given(op: Op, all: TypeSet) -> TypeSet
-    ensures { λ r. ⌜ r ≡ givenBy op all ⌝ }
-{
-    match op {
-        Op::Array => array_types(all),
-        Op::If => none(),
-        Op::And => all,
-        Op::Reduce => none(),
-        Op::Equal => only(Ty::Boolean),
-        Op::MemberOf => none(),
-        Op::Plus => only(Ty::Integer),
-        Op::Not => only(Ty::Boolean),
-        Op::DateOfBirth => only(Ty::Instant),
-        Op::Compare {
-            domain: _,
-            comparison: _,
-        } => only(Ty::Boolean),
-        Op::PlusTime { amount: _, unit: _ } => only(Ty::Instant),
-        Op::ExtractFromUvci(_) => union(only(Ty::Null), only(Ty::String)),
-    }
-}
-
-// An operation by the types that any of its operands has: all but `if`, `reduce` and `in`.
-pub fn operation_types(op: Op, all: TypeSet) -> Found
-    ensures { λ r. ⌜ r ≡ operationBy op all ⌝ }
-{
-    accepted(passes(all, allowed(op)), given(op, all))
-}
-
-// `in`: "a scalar, then an array".
-pub fn member_types(element: TypeSet, items: TypeSet) -> Found
-    ensures { λ r. ⌜ r ≡ memberBy element items ⌝ }
-{
-    accepted(
-        passes(element, scalars()) & passes(items, only(Ty::Array)),
-        only(Ty::Boolean),
-    )
 }

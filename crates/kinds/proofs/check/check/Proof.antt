@@ -4,15 +4,12 @@ use borrow.Author.Needs.{needs}
 use Rattle.kinds.proofs.check.check.Statement.{statement}
 use Rattle.kinds.proofs.check.check.Tie as tie
 
-load-requires : tie.Need-load-requires
-load-requires c κs = search needs
-
 find-requires : tie.Need-find-requires
 find-requires c κs = search needs
 
 returns : tie.Need-returns
 unfolding maxNesting
-returns c = whole (c .before .load .ensures) (c .find .ensures)
+returns c = whole (c .find .ensures)
 
 pub check-spec : {M : Type 1} → statement M
-check-spec = tie.close (tie.spec load-requires find-requires returns)
+check-spec = tie.close (tie.spec find-requires returns)

@@ -1,6 +1,6 @@
 use borrow.Author.Needs.{needs}
-use Rattle.kinds.proofs.found.accepted.Statement.{statement}
-use Rattle.kinds.proofs.found.accepted.Tie as tie
+use Rattle.kinds.proofs.operation.accepted.Statement.{statement}
+use Rattle.kinds.proofs.operation.accepted.Tie as tie
 
 returns : tie.Need-returns
 returns c = rw (c .if1 .taken)
