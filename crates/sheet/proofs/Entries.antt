@@ -44,6 +44,10 @@ module _ {S Z : Bytes} {s : Sheet} (holds : HoldsSheet S Z s) {n : Node} (loaded
   pub not-made : {X : Type 0} → NoObject n → X
   not-made k = none-some (sym (no-sheet S Z n (holds .value) k (rw loaded (holds .denotes))) ∙ holds .is-sheet)
 
+-- ---- no entry
+pub no-entries : (s : Sheet) → some [] ≡ some s → [] ≡ s
+no-entries s e = cc
+
 -- ---- the first entry and the others
 pub record Split (name : Bytes) (v : Value) (ms : Members) (s : Sheet) : Type 0 where
   pub path : Path

@@ -1,7 +1,6 @@
 -- Fitting: whether a record fits a sheet.
 use mathlib.Core.Path.{_≡_, sym, ap, _∙_}
 use mathlib.Core.Bool.{Bool, true, false, _&&_, not}
-use mathlib.Core.List.{[]}
 use mathlib.Core.Option.{some}
 use Prim.Native.Nat.{_≤_}
 use borrow.Author.Tests.{not-true, not-false}
@@ -24,7 +23,7 @@ use Rattle.types.specs.Laws.{hasType-set}
 use Rattle.types.specs.Set.{typesIn}
 use Rattle.sheet.specs.Contract.{Belongs, Fits}
 use Rattle.sheet.specs.Inner.{ListsTypes, FitsEntry, FitsAll}
-use Rattle.sheet.proofs.Entries.{made, not-made, Split, split}
+use Rattle.sheet.proofs.Entries.{made, not-made, no-entries, Split, split}
 use Rattle.sheet.proofs.Nodes.{NoObject}
 
 -- ---- one entry
@@ -37,10 +36,7 @@ AllFit R B r ms = (s : Sheet) (c : Value) → entriesOf ms ≡ some s → Denote
 
 module _ {S Z R B : Bytes} {q : Rows} where
   pub fit-end : q .count ≡ 0 → FitsAll S Z q R B true
-  fit-end n = record { is = no-member (AllFit R B true) n (λ s c f k. ap (λ (z : Sheet). fits z c) (empty s f)) }
-    where
-      empty : (s : Sheet) → some [] ≡ some s → [] ≡ s
-      empty s f = cc
+  fit-end n = record { is = no-member (AllFit R B true) n (λ s c f k. ap (λ (z : Sheet). fits z c) (no-entries s f)) }
 
   module _ (more : 1 ≤ q .count) {t : Bytes} {set : TypeSet} {b : Bool} (is-name : t ≡ bytesOf Z (nameAt S (q .first))) (lists : ListsTypes S Z (q .first) set) (entry : FitsEntry t set R B b) where
     first-fits : (n : Bytes) (v : Value) (ms : Members) → ObjectParts S Z n v ms q → (s : Sheet) (c : Value) → Denotes R B c (nodeAt R 0) → (z : Split n v ms s) → b && fits (z .later) c ≡ fits s c

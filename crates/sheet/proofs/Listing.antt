@@ -1,7 +1,6 @@
 -- Listing: the types that a sheet lists for a path.
 use mathlib.Core.Path.{_≡_, refl, sym, ap, _∙_}
 use mathlib.Core.Bool.{Bool, true, false, cond}
-use mathlib.Core.List.{[]}
 use mathlib.Core.Option.{some}
 use Prim.Native.Nat.{_≤_}
 use Rattle.model.specs.Bytes.{Bytes, sameBytes}
@@ -23,7 +22,7 @@ use Rattle.types.specs.declared.set.TypeSet.{TypeSet}
 use Rattle.types.specs.Set.{setOf}
 use Rattle.sheet.specs.Contract.{ListsFor}
 use Rattle.sheet.specs.Inner.{ListsTypes, ListsAmong}
-use Rattle.sheet.proofs.Entries.{made, not-made, Split, split}
+use Rattle.sheet.proofs.Entries.{made, not-made, no-entries, Split, split}
 use Rattle.sheet.proofs.Nodes.{NoObject}
 use Rattle.sheet.proofs.Paths.{same-texts}
 
@@ -45,10 +44,7 @@ Lists t r ms = (s : Sheet) (q : Path) → entriesOf ms ≡ some s → pathOf t �
 
 module _ {S Z : Bytes} (t : Bytes) {q : Rows} where
   pub none-listed : {r : TypeSet} → q .count ≡ 0 → r ≡ setOf anyOfRecord → ListsAmong S Z t q r
-  none-listed {r} n e = record { is = no-member (Lists t r) n (λ s p f g. e ∙ ap (λ (z : Sheet). setOf (varTypes (outside z) p)) (empty s f)) }
-    where
-      empty : (s : Sheet) → some [] ≡ some s → [] ≡ s
-      empty s f = cc
+  none-listed {r} n e = record { is = no-member (Lists t r) n (λ s p f g. e ∙ ap (λ (z : Sheet). setOf (varTypes (outside z) p)) (no-entries s f)) }
 
   module _ (more : 1 ≤ q .count) {b : Bool} {name : Bytes} (is-test : b ≡ sameBytes t name) (is-name : name ≡ bytesOf Z (nameAt S (q .first))) where
     -- What is listed, by whether the first entry's path is this one.
