@@ -14,6 +14,7 @@ use Rattle.model.specs.Refusal.{Refusal, number, notRule, notSheet, reading as 
 use Rattle.model.specs.Shape.{shape}
 use Rattle.model.specs.Sheet.{sheetOf}
 use Rattle.model.specs.Value.{Value}
+use Rattle.syntax.specs.Laws.Sound.{sound}
 use Rattle.syntax.specs.Read as readings
 use Rattle.syntax.specs.Read.{Read, read}
 use Rattle.shape.specs.Contract.{Checks}
@@ -22,7 +23,7 @@ use Rattle.stages.specs.declared.text.Stop.{Stop}
 use Rattle.stages.specs.Areas.{TextAreas, textAreas, leftBy}
 use Rattle.stages.specs.Contract.{Long, stopOf, Reads, ReadsRule, ReadsSheet}
 use Rattle.stages.specs.Inner.{stopped, toldOf}
-use Rattle.stages.specs.Laws.{number-some, left-denotes, left-readable}
+use Rattle.stages.specs.Laws.{number-some, left-denotes}
 use Rattle.stages.specs.Stage.{asRead, ruleText, sheetText}
 use Rattle.stages.specs.Texts.{textStage}
 
@@ -125,7 +126,7 @@ module _ {s T A T′ A′ : Bytes} {r : Stop} (h : Reads ruleText s (textAreas T
 
   module _ (zero : r .refusal ≡ 0) (b : Bool) (c : Checks T′ A′ b) where
     is-tested : (v : Value) → read s ≡ readings.done v → b ≡ isSome (shape v)
-    is-tested v e = c .is v (left-denotes s v T A T′ A′ e (h .areas)) (left-readable s v T A T′ A′ e (h .areas) .nests)
+    is-tested v e = c .is v (left-denotes s v T A T′ A′ e (h .areas)) (sound s v e .0 .flat)
 
     pub no-rule : {x : Stop} → b ≡ false → x ≡ stopped 6 → ReadsRule s (textAreas T A) x (textAreas T′ A′)
     no-rule e f = record { stop = f ∙ tested-not ruleText notRule shape h zero b is-tested e; areas = h .areas }
