@@ -1,6 +1,7 @@
 -- Laws: what is proved of the definitions, a file for each subject. Main restates the theorems that matter most.
 pub mod Logic
 pub mod Tests
+pub mod Widths
 pub mod Branches
 pub mod Option
 pub mod Result

@@ -24,6 +24,7 @@ pub mod Exact
 pub mod Order
 pub mod Smallest
 pub mod Rows
+pub mod Sizes
 pub mod Derivations
 pub mod Abnf
 pub mod Utf8

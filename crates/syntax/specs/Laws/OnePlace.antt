@@ -15,6 +15,7 @@ use Rattle.model.specs.Option.{_>>=_}
 use Rattle.model.specs.Size.{valueCount, itemsCount, membersCount, nesting, itemsNesting, membersNesting}
 use Rattle.model.specs.Value.{Value, scalar, array, object, string, Values, item, Members, no-members, member}
 use Rattle.model.specs.Laws.Logic.{clash}
+use Rattle.model.specs.Laws.Widths.{two-values}
 use Rattle.syntax.specs.Faults.{Fault, faultsValue, faults}
 use Rattle.syntax.specs.Grammar.{Ws, no-ws, ws, Chars, JValue, jtrue, jfalse, jnull, jnumber, jstring, jempty-array, jarray, jempty-object, jobject, JElements, last-element, element, JMembers, last-member, jmember, JText, jtext, spellWs, spellValue, spellElements, spellMembers, spell, map, charsMeaning, fresh, seenWith, memberOf, valueMeaning, elementsMeaning, membersMeaning, meaning}
 use Rattle.syntax.specs.Locate.{Positions, childAt, Site, behind, inside, elementAt, spellName, memberAt, childSite, valueSite, site, StandsAt}
@@ -246,10 +247,10 @@ elements-once (suc n) (element d w u es) (element d′ w′ u′ fs) y z vs us i
     (elements-once n es fs y z xs xs′ i₂ j₂ (omega (arith, f .0), omega (arith, f .1)) (omega (arith, f′ .0), omega (arith, f′ .1)) r)
 
 name-once : (n n′ : Chars) (w u w′ u′ : Ws) (y z m m′ : Bytes) → charsMeaning n none ≡ some m → charsMeaning n′ none ≡ some m′ → NotWhite y → NotWhite z → spellName n w u y ≡ spellName n′ w′ u′ z → y ≡ z
-unfolding valueMeaning spellValue map valueCount nesting maxValues maxNesting
+unfolding valueMeaning spellValue map valueCount nesting
 name-once n n′ w u w′ u′ y z m m′ i j h k e =
     parted 0x3A w u w′ u′ y z colon-not-white h k
-    (once (jstring n) (jstring n′) (scalar (string m)) (scalar (string m′)) _ _ (ap (map (λ s. scalar (string s))) i) (ap (map (λ s. scalar (string s))) j) (omega arith, omega arith) (omega arith, omega arith) (stops-colon w _) (stops-colon w′ _) e)
+    (once (jstring n) (jstring n′) (scalar (string m)) (scalar (string m′)) _ _ (ap (map (λ s. scalar (string s))) i) (ap (map (λ s. scalar (string s))) j) (omega (arith, two-values), omega arith) (omega (arith, two-values), omega arith) (stops-colon w _) (stops-colon w′ _) e)
 
 member-means : (seen : List Bytes) (o : Option Bytes) (p : Option Value) (r : Option Members) (us : Members) → memberOf (fresh seen o) p r ≡ some us → FitMembers us
     → (m : Bytes) × (o ≡ some m) × (v : Value) × (p ≡ some v) × Fits v × (rs : Members) × (r ≡ some rs) × FitMembers rs

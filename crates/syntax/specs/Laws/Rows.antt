@@ -1,6 +1,6 @@
 -- Rows: sentences of 01, Reading, at their edges, by computation.
 use mathlib.Core.Path.{_≡_, refl}
-use mathlib.Core.Bool.{Bool, true, false}
+use mathlib.Core.Bool.{true, false}
 use mathlib.Core.List.{[], _∷_, _++_}
 use Prim.Native.Nat.{ℕ, zero, suc}
 use Prim.Native.String.{String}
@@ -125,24 +125,6 @@ pub rows-nesting :
     × (read (replicate 33 0x5B ++ replicate 33 0x5D) ≡ refuse tooLarge 32)
 unfolding read answer text white then _>>=_ give fail if peek eat value onStart onSeparator ended startOf counted nested separatorOf isWhite isDigit within valueCount maxTextBytes maxValues maxNesting
 rows-nesting = (refl, refl)
-
--- Zeros and commas: n + 1 values.
-abbrev zeros : ℕ → Bytes
-zeros zero = 0x30 ∷ 0x5D ∷ []
-zeros (suc n) = 0x30 ∷ 0x2C ∷ zeros n
-
-abbrev isDone : Read → Bool
-isDone (done v) = true
-isDone (refuse k p) = false
-
--- "or the first byte of the 1,025th value" "Over-long text is refused first, at place 16,384."
-pub rows-sizes :
-    (isDone (read (0x5B ∷ zeros 1022)) ≡ true)
-    × (read (0x5B ∷ zeros 1023) ≡ refuse tooLarge 2047)
-    × (read (replicate 16385 0x20) ≡ refuse tooLarge 16384)
-    × (read (replicate 16384 0x20) ≡ refuse notJson 16384)
-unfolding read answer text white then _>>=_ give fail if peek eat value onStart int firstDigit afterZero digits endNumber isPart signed onSeparator ended startOf counted nested separatorOf isWhite isDigit isPoint isE within valueCount maxTextBytes maxValues maxNesting maxInteger
-rows-sizes = (refl, refl, refl, refl)
 
 -- The example of docs/LAYOUT.md, and a value of each kind.
 abbrev example : Value

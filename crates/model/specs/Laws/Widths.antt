@@ -1,0 +1,38 @@
+-- Widths: what the laws and proofs know of the limits. It is computed from their digits here and nowhere else: a release that raises a limit
+-- (02, P12) has these facts checked again, and no other proof names its digits.
+use Prim.Native.Nat.{ℕ, _*_, _≤_, _<_}
+use native.Mathlib.Omega.{arith}
+use Rattle.model.specs.Limits.{maxTextBytes, maxValues, maxNesting, maxSteps, heapCells}
+
+-- ---- places and counts of a text have room in a row, and those of the heap in a cell: 24 bits for a size or a count
+pub text-small : {n : ℕ} → n ≤ maxTextBytes → n < 16777216
+unfolding maxTextBytes
+text-small h = omega arith
+
+pub values-small : {n : ℕ} → n ≤ maxValues → n < 16777216
+unfolding maxValues
+values-small h = omega arith
+
+pub cells-small : {n : ℕ} → n ≤ heapCells → n < 16777216
+unfolding heapCells
+cells-small h = omega arith
+
+-- ---- the limits beside each other
+-- Two cells for each step.
+pub steps-have-cells : 2 * maxSteps ≤ heapCells
+unfolding maxSteps heapCells
+steps-have-cells = omega arith
+
+-- An array of one value more than a text may have, each of one byte, is no over-long text.
+pub values-have-bytes : 2 * maxValues < maxTextBytes
+unfolding maxValues maxTextBytes
+values-have-bytes = omega arith
+
+-- An array of one item is within the limits.
+pub two-values : 2 ≤ maxValues
+unfolding maxValues
+two-values = omega arith
+
+pub one-deep : 1 ≤ maxNesting
+unfolding maxNesting
+one-deep = omega arith
