@@ -5,17 +5,23 @@ use native.Mathlib.Omega.{arith}
 use Rattle.model.specs.Limits.{maxTextBytes, maxValues, maxNesting, maxSteps, heapCells}
 
 -- ---- places and counts of a text have room in a row, and those of the heap in a cell: 24 bits for a size or a count
-pub text-small : {n : ℕ} → n ≤ maxTextBytes → n < 16777216
+pub text-below : maxTextBytes < 16777216
 unfolding maxTextBytes
-text-small h = omega arith
+text-below = omega arith
+
+pub values-below : maxValues < 16777216
+unfolding maxValues
+values-below = omega arith
+
+pub cells-below : heapCells < 16777216
+unfolding heapCells
+cells-below = omega arith
+
+pub text-small : {n : ℕ} → n ≤ maxTextBytes → n < 16777216
+text-small h = omega (arith, text-below)
 
 pub values-small : {n : ℕ} → n ≤ maxValues → n < 16777216
-unfolding maxValues
-values-small h = omega arith
-
-pub cells-small : {n : ℕ} → n ≤ heapCells → n < 16777216
-unfolding heapCells
-cells-small h = omega arith
+values-small h = omega (arith, values-below)
 
 -- ---- the limits beside each other
 -- Two cells for each step.

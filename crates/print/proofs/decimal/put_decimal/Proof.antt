@@ -1,4 +1,4 @@
-use Rattle.model.specs.Limits.{maxTextBytes}
+use Rattle.model.specs.Laws.Widths.{text-below}
 use Rattle.print.proofs.Digits.{put-digits}
 use borrow.Author.Needs.{needs}
 use Rattle.print.proofs.decimal.put_decimal.Statement.{statement}
@@ -23,8 +23,7 @@ sub-result : tie.Need-sub-result
 sub-result c = search needs
 
 add-result : tie.Need-add-result
-unfolding maxTextBytes
-add-result c = search needs
+add-result c = let below = text-below in search needs
 
 same-length : tie.Need-same-length
 same-length c = search needs

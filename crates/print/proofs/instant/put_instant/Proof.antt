@@ -1,5 +1,5 @@
 use borrow.Author.Needs.{needs}
-use Rattle.model.specs.Limits.{maxTextBytes}
+use Rattle.model.specs.Laws.Widths.{text-below}
 use Rattle.print.proofs.Quoted.{put-instant-bytes}
 use Rattle.print.proofs.instant.put_instant.Statement.{statement}
 use Rattle.print.proofs.instant.put_instant.Tie as tie
@@ -11,8 +11,7 @@ put-byte-requires : tie.Need-put-byte-requires
 put-byte-requires c κs = search needs
 
 add-put-bytes : tie.Need-add-put-bytes
-unfolding maxTextBytes
-add-put-bytes c = search needs
+add-put-bytes c = let below = text-below in search needs
 
 slice-aggregate-put-bytes : tie.Need-slice-aggregate-put-bytes
 slice-aggregate-put-bytes c = search needs
@@ -21,15 +20,13 @@ put-bytes-requires : tie.Need-put-bytes-requires
 put-bytes-requires c κs = search needs
 
 add-put-byte : tie.Need-add-put-byte
-unfolding maxTextBytes
-add-put-byte c = search needs
+add-put-byte c = let below = text-below in search needs
 
 put-byte-requires-2 : tie.Need-put-byte-requires-2
 put-byte-requires-2 c κs = search needs
 
 add-result : tie.Need-add-result
-unfolding maxTextBytes
-add-result c = search needs
+add-result c = let below = text-below in search needs
 
 same-length : tie.Need-same-length
 same-length c = search needs

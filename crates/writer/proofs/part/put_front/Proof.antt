@@ -1,5 +1,5 @@
 use borrow.Author.Needs.{needs}
-use Rattle.model.specs.Limits.{maxTextBytes}
+use Rattle.model.specs.Laws.Widths.{text-below}
 use Rattle.print.specs.Laws.{put-byte}
 use Rattle.writer.proofs.Tokens.{then-puts}
 use Rattle.writer.proofs.part.put_front.Statement.{statement}
@@ -12,8 +12,7 @@ put-byte-requires : tie.Need-put-byte-requires
 put-byte-requires c κs = search needs
 
 add-put-label : tie.Need-add-put-label
-unfolding maxTextBytes
-add-put-label c = search needs
+add-put-label c = let below = text-below in search needs
 
 put-label-requires : tie.Need-put-label-requires
 put-label-requires c κs = search needs

@@ -1,7 +1,7 @@
 use borrow.Author.Needs.{needs}
 use mathlib.Core.Path.{ap}
 use native.Mathlib.Omega.{arith}
-use Rattle.model.specs.Limits.{maxTextBytes}
+use Rattle.model.specs.Laws.Widths.{text-below}
 use Rattle.model.specs.Writing.{stringText}
 use Rattle.print.specs.Laws.{put-none, put-byte, put-bytes, string-near}
 use Rattle.writer.proofs.Pieces.{put-puts}
@@ -25,8 +25,7 @@ put-byte-requires : tie.Need-put-byte-requires
 put-byte-requires c κs = search needs
 
 add-result : tie.Need-add-result
-unfolding maxTextBytes
-add-result c = omega (arith, string-near (c .before .before .before .before .before .before .put-string .ensures))
+add-result c = omega (arith, text-below, string-near (c .before .before .before .before .before .before .put-string .ensures))
 
 enum-told-2 : tie.Need-enum-told-2
 enum-told-2 c = search needs
@@ -38,8 +37,7 @@ put-bytes-requires : tie.Need-put-bytes-requires
 put-bytes-requires c κs = search needs
 
 add-result-2 : tie.Need-add-result-2
-unfolding maxTextBytes
-add-result-2 c = search needs
+add-result-2 c = let below = text-below in search needs
 
 enum-told-3 : tie.Need-enum-told-3
 enum-told-3 c = search needs
@@ -51,8 +49,7 @@ put-bytes-requires-2 : tie.Need-put-bytes-requires-2
 put-bytes-requires-2 c κs = search needs
 
 add-result-3 : tie.Need-add-result-3
-unfolding maxTextBytes
-add-result-3 c = search needs
+add-result-3 c = let below = text-below in search needs
 
 returns : tie.Need-returns
 returns c = rw (c .enum-told .given .1) (put-puts (put-none (c .before .before .before .before .args .at) _))

@@ -1,6 +1,6 @@
 use borrow.Author.Needs.{needs}
 use native.Mathlib.Omega.{arith}
-use Rattle.model.specs.Limits.{maxTextBytes}
+use Rattle.model.specs.Laws.Widths.{text-below}
 use Rattle.print.specs.Laws.{put-byte, put-as, put-then}
 use Rattle.writer.proofs.Tokens.{integer-up, integer-down}
 use Rattle.writer.proofs.scalar.put_integer.Statement.{statement}
@@ -19,8 +19,7 @@ put-byte-requires : tie.Need-put-byte-requires
 put-byte-requires c κs = search needs
 
 add-put-decimal : tie.Need-add-put-decimal
-unfolding maxTextBytes
-add-put-decimal c = search needs
+add-put-decimal c = let below = text-below in search needs
 
 sub-put-decimal : tie.Need-sub-put-decimal
 sub-put-decimal c = search needs

@@ -1,6 +1,6 @@
 use borrow.Author.Needs.{needs}
 use mathlib.Core.Path.{ap}
-use Rattle.model.specs.Limits.{maxTextBytes}
+use Rattle.model.specs.Laws.Widths.{text-below}
 use Rattle.model.specs.Writing.{stringText}
 use Rattle.print.specs.Laws.{put-none, put-bytes}
 use Rattle.writer.proofs.Pieces.{put-puts}
@@ -18,8 +18,7 @@ put-bytes-requires : tie.Need-put-bytes-requires
 put-bytes-requires c κs = search needs
 
 add-result : tie.Need-add-result
-unfolding maxTextBytes
-add-result c = search needs
+add-result c = let below = text-below in search needs
 
 enum-told-2 : tie.Need-enum-told-2
 enum-told-2 c = search needs
@@ -31,8 +30,7 @@ put-bytes-requires-2 : tie.Need-put-bytes-requires-2
 put-bytes-requires-2 c κs = search needs
 
 add-result-2 : tie.Need-add-result-2
-unfolding maxTextBytes
-add-result-2 c = search needs
+add-result-2 c = let below = text-below in search needs
 
 enum-told-3 : tie.Need-enum-told-3
 enum-told-3 c = search needs
@@ -44,8 +42,7 @@ put-bytes-requires-3 : tie.Need-put-bytes-requires-3
 put-bytes-requires-3 c κs = search needs
 
 add-result-3 : tie.Need-add-result-3
-unfolding maxTextBytes
-add-result-3 c = search needs
+add-result-3 c = let below = text-below in search needs
 
 enum-known-h : tie.Need-enum-known-h
 enum-known-h c = search needs

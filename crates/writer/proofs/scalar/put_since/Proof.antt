@@ -1,6 +1,6 @@
 use borrow.Author.Needs.{needs}
 use mathlib.Core.Path.{sym, ap, _∙_}
-use Rattle.model.specs.Limits.{maxTextBytes}
+use Rattle.model.specs.Laws.Widths.{text-below}
 use Rattle.calendar.specs.Answer.{instantResult}
 use Rattle.print.specs.Laws.{put-bytes, put-as}
 use Rattle.writer.proofs.Tokens.{instant-in, instant-out}
@@ -23,8 +23,7 @@ put-bytes-requires : tie.Need-put-bytes-requires
 put-bytes-requires c κs = search needs
 
 add-result : tie.Need-add-result
-unfolding maxTextBytes
-add-result c = search needs
+add-result c = let below = text-below in search needs
 
 same-length : tie.Need-same-length
 same-length c = search needs

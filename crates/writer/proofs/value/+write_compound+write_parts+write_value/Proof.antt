@@ -2,6 +2,7 @@ use mathlib.Core.Path.{ap}
 use Prim.Native.Nat.{ℕ, _+_, _*_, _<_}
 use native.Mathlib.Omega.{arith}
 use borrow.Author.Needs.{needs}
+use Rattle.model.specs.Laws.Widths.{text-below}
 use Rattle.model.specs.Limits.{maxTextBytes}
 use Rattle.heap.specs.Unfold.{areas, unfolded}
 use Rattle.writer.proofs.Values.{scalarlike, none-left, too-long, too-deep, scalar-value, compound-over, compound-closes, writes-short, opening-small}
@@ -91,8 +92,7 @@ write-compound-sub-inner : (t : ℕ) → write-compound-lts.Need-sub-inner (writ
 write-compound-sub-inner t c = search needs
 
 write-compound-add-start : (t : ℕ) → write-compound-lts.Need-add-start (write-compound-calls t) (write-compound-at t) write-compound.Post
-unfolding maxTextBytes
-write-compound-add-start t c = search needs
+write-compound-add-start t c = let below = text-below in search needs
 
 write-compound-sub-others : (t : ℕ) → write-compound-lts.Need-sub-others (write-compound-calls t) (write-compound-at t) write-compound.Post
 write-compound-sub-others t c = search needs
@@ -113,8 +113,7 @@ write-compound-put-byte-requires-2 : (t : ℕ) → write-compound-lts.Need-put-b
 write-compound-put-byte-requires-2 t c κs = search needs
 
 write-compound-add-up-to : (t : ℕ) → write-compound-lts.Need-add-up-to (write-compound-calls t) (write-compound-at t) write-compound.Post
-unfolding maxTextBytes
-write-compound-add-up-to t c = record { fits = omega (arith, writes-short _ (c .before .before .before .before .before .before .before .before .before .write-parts .ensures .writes) (c .before .before .before .before .before .r .given .1)) }
+write-compound-add-up-to t c = record { fits = omega (arith, text-below, writes-short _ (c .before .before .before .before .before .before .before .before .before .write-parts .ensures .writes) (c .before .before .before .before .before .r .given .1)) }
 
 write-compound-up-to-requires : (t : ℕ) → write-compound-lts.Need-up-to-requires (write-compound-calls t) (write-compound-at t) write-compound.Post
 write-compound-up-to-requires t c κs = search needs
