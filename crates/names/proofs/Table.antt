@@ -8,6 +8,7 @@ use native.Mathlib.Nat.{add-zero}
 use lib.ListN.{length, take, drop, length-take, length-drop}
 use lib.Seq.{sets, length-sets}
 use Rattle.model.specs.Bytes.{Bytes}
+use Rattle.model.specs.Laws.Widths.{values-below}
 use Rattle.model.specs.Limits.{maxValues}
 use Rattle.area.specs.Words.{word, wordAt}
 use Rattle.area.specs.Laws.{drop-sets-behind, drop-sets-add, take-sets, take-sets-before, wordAt-take, wordAt-drop, length-word, word-read, wordAt-sets-before, wordAt-sets-behind}
@@ -169,7 +170,7 @@ module _ (T T′ : Bytes) (at row c turn j : ℕ) (d β : Bool) (f : Forked T at
   twelve k h = length-entry T k (omega arith)
 
   pub forked-linked : Linked T T′ j d row c β
-  unfolding words maxValues
+  unfolding words
   forked-linked = record {
     same = record {
       rank = λ k h. elim (ℕ-discrete k j) [
@@ -183,9 +184,9 @@ module _ (T T′ : Bytes) (at row c turn j : ℕ) (d β : Bool) (f : Forked T at
         | no e ↦ ap (λ (z : Bytes). wordAt z (side s)) (entry-else k h e)
       ];
     };
-    link = ap (λ (z : Bytes). wordAt z (side d)) entry-link ∙ set-link (entry T j) (row * 2 + 1) (twelve j (omega arith)) (omega arith) d;
-    rank = ap (λ (z : Bytes). wordAt z 0) entry-row ∙ new-rank (entry T row) c (row * 2) (wordAt T at) (twelve row (omega arith)) small (omega arith) (f .old) β;
-    new = ap (λ (z : Bytes). wordAt z (side β)) entry-row ∙ new-link (entry T row) c (row * 2) (wordAt T at) (twelve row (omega arith)) small (omega arith) (f .old) β;
-    old = ap (λ (z : Bytes). wordAt z (side (not β))) entry-row ∙ new-other (entry T row) c (row * 2) (wordAt T at) (twelve row (omega arith)) small (omega arith) (f .old) β
+    link = ap (λ (z : Bytes). wordAt z (side d)) entry-link ∙ set-link (entry T j) (row * 2 + 1) (twelve j (omega arith)) (omega (arith, values-below)) d;
+    rank = ap (λ (z : Bytes). wordAt z 0) entry-row ∙ new-rank (entry T row) c (row * 2) (wordAt T at) (twelve row (omega arith)) small (omega (arith, values-below)) (f .old) β;
+    new = ap (λ (z : Bytes). wordAt z (side β)) entry-row ∙ new-link (entry T row) c (row * 2) (wordAt T at) (twelve row (omega arith)) small (omega (arith, values-below)) (f .old) β;
+    old = ap (λ (z : Bytes). wordAt z (side (not β))) entry-row ∙ new-other (entry T row) c (row * 2) (wordAt T at) (twelve row (omega arith)) small (omega (arith, values-below)) (f .old) β
         ∙ ap (wordAt T) ea ∙ sym (entry-word T j (side d) (turn-small d (side d) refl .1));
   }

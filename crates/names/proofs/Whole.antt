@@ -8,6 +8,7 @@ use native.Mathlib.Omega.{arith}
 use lib.ListN.{length, take}
 use lib.Seq.{sets, length-sets}
 use Rattle.model.specs.Bytes.{Bytes}
+use Rattle.model.specs.Laws.Widths.{values-below}
 use Rattle.model.specs.Limits.{maxValues}
 use Rattle.model.specs.Laws.Logic.{clash}
 use Rattle.area.specs.Words.{word, wordAt}
@@ -70,10 +71,10 @@ module _ (T n : Bytes) (first row p : ℕ) (e : row ≡ first) (ep : p ≡ place
   first-table = sets T (p + 4) (word (row * 2))
 
   first-link : wordAt (entry first-table first) 4 ≡ row * 2
-  unfolding first-table place maxValues
+  unfolding first-table place
   first-link =
       entry-word first-table first 4 (omega arith) ∙ ap (λ (z : ℕ). wordAt first-table (z + 4)) (sym ep)
-      ∙ word-read (row * 2) T (p + 4) (omega arith) (omega arith)
+      ∙ word-read (row * 2) T (p + 4) (omega (arith, values-below)) (omega arith)
 
   first-tree : Tree first-table first ((row, n) ∷ [])
   first-tree = record {

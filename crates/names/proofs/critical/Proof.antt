@@ -1,6 +1,6 @@
 -- The names are the same, or part at the highest bit in which the symbols differ.
 use Rattle.names.proofs.Bits.{names-same, names-part}
-use Rattle.model.specs.Limits.{maxTextBytes}
+use Rattle.model.specs.Laws.Widths.{text-below}
 use mathlib.Core.Path.{sym, _∙_}
 use native.Mathlib.Omega.{arith}
 use borrow.Author.Needs.{needs}
@@ -20,19 +20,16 @@ returns : tie.Need-returns
 returns c = names-same (c .before .before .before .before .before .args .strings .now) (c .before .before .before .before .before .args .a) (c .before .before .before .before .before .args .m) (c .before .before .before .before .before .args .b) (c .before .before .before .before .before .args .n) (c .before .before .before .common .result) (c .before .before .before .before .before .pre .0) (c .before .before .before .before .before .pre .1) (c .before .before .before .common .ensures) (sym (c .before .before .symbol .ensures .0) ∙ c .if1 .taken ∙ c .before .symbol2 .ensures .0)
 
 mul-t10 : tie.Need-mul-t10
-unfolding maxTextBytes
-mul-t10 c = omega (arith, c .before .before .before .common .ensures .left, c .before .before .before .before .before .pre .2)
+mul-t10 c = omega (arith, text-below, c .before .before .before .common .ensures .left, c .before .before .before .before .before .pre .2)
 
 high-requires : tie.Need-high-requires
 high-requires c κs = search needs
 
 add-t12 : tie.Need-add-t12
-unfolding maxTextBytes
-add-t12 c = omega (arith, c .before .before .before .before .common .ensures .left, c .before .before .before .before .before .before .pre .2, c .high .ensures .small)
+add-t12 c = omega (arith, text-below, c .before .before .before .before .common .ensures .left, c .before .before .before .before .before .before .pre .2, c .high .ensures .small)
 
 returns-2 : tie.Need-returns-2
-unfolding maxTextBytes
-returns-2 c = names-part (c .before .before .before .before .before .before .args .strings .now) (c .before .before .before .before .before .before .args .a) (c .before .before .before .before .before .before .args .m) (c .before .before .before .before .before .before .args .b) (c .before .before .before .before .before .before .args .n) (c .before .before .before .before .common .result) (c .before .before .before .before .before .before .pre .0) (c .before .before .before .before .before .before .pre .1) (c .before .before .before .before .common .ensures) (c .before .before .before .symbol .result) (c .before .before .symbol2 .result) (c .high .result) (c .before .before .before .symbol .ensures .0) (c .before .before .symbol2 .ensures .0) (c .high .ensures) (omega (arith, c .before .before .before .before .common .ensures .left, c .before .before .before .before .before .before .pre .2))
+returns-2 c = names-part (c .before .before .before .before .before .before .args .strings .now) (c .before .before .before .before .before .before .args .a) (c .before .before .before .before .before .before .args .m) (c .before .before .before .before .before .before .args .b) (c .before .before .before .before .before .before .args .n) (c .before .before .before .before .common .result) (c .before .before .before .before .before .before .pre .0) (c .before .before .before .before .before .before .pre .1) (c .before .before .before .before .common .ensures) (c .before .before .before .symbol .result) (c .before .before .symbol2 .result) (c .high .result) (c .before .before .before .symbol .ensures .0) (c .before .before .symbol2 .ensures .0) (c .high .ensures) (omega (arith, text-below, c .before .before .before .before .common .ensures .left, c .before .before .before .before .before .before .pre .2))
 
 pub critical-spec : {M : Type 1} → statement M
 critical-spec =

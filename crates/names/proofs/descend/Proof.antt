@@ -2,7 +2,7 @@
 use Rattle.names.proofs.Steps.{Going, going-first, going-side, done-none, done-rank, turn-right}
 use Rattle.names.specs.Slots.{place}
 use Rattle.names.specs.Bits.{part, bitAt}
-use Rattle.model.specs.Limits.{maxValues}
+use Rattle.model.specs.Laws.Widths.{values-below}
 use Prim.Native.Nat.{_+_, _-_}
 use native.Mathlib.Omega.{arith}
 use Rattle.names.proofs.descend.Statement.{statement}
@@ -18,8 +18,8 @@ entry-at-requires : tie.Need-entry-at-requires Inv-loop μ-loop
 entry-at-requires c κs = omega (arith, c .before .before .pre .0 .below, c .before .before .pre .0 .order)
 
 add-at : tie.Need-add-at Inv-loop μ-loop
-unfolding place maxValues
-add-at c = omega (arith, c .entry-at .ensures, c .before .before .before .pre .0 .below, c .before .before .before .pre .0 .order)
+unfolding place
+add-at c = omega (arith, values-below, c .entry-at .ensures, c .before .before .before .pre .0 .below, c .before .before .before .pre .0 .order)
 
 get-word-requires : tie.Need-get-word-requires Inv-loop μ-loop
 unfolding place
@@ -51,8 +51,8 @@ turn-requires : tie.Need-turn-requires Inv-loop μ-loop
 turn-requires c κs = c .before .before .before .before .before .before .before .before .before .before .pre .0 .inside
 
 add-at-2 : tie.Need-add-at-2 Inv-loop μ-loop
-unfolding place maxValues
-add-at-2 c = omega (arith, c .before .before .before .before .entry-at2 .ensures, c .before .before .before .before .before .before .before .before .before .before .before .before .pre .0 .below, (c .before .before .before .before .before .before .node-of .ensures .1 (c .before .before .before .before .before .if1 .left)) .3)
+unfolding place
+add-at-2 c = omega (arith, values-below, c .before .before .before .before .entry-at2 .ensures, c .before .before .before .before .before .before .before .before .before .before .before .before .pre .0 .below, (c .before .before .before .before .before .before .node-of .ensures .1 (c .before .before .before .before .before .if1 .left)) .3)
 
 get-word-requires-2 : tie.Need-get-word-requires-2 Inv-loop μ-loop
 unfolding place
@@ -68,8 +68,8 @@ loop-again : tie.Need-loop-again Inv-loop μ-loop
 loop-again c = going-side (c .before .before .before .before .before .before .before .before .before .before .before .before .before .before .args .table .now) (part (c .before .before .before .before .before .before .before .before .before .before .before .before .before .before .args .strings .now) (c .before .before .before .before .before .before .before .before .before .before .before .before .before .before .args .start) (c .before .before .before .before .before .before .before .before .before .before .before .before .before .before .args .len)) (c .before .before .before .before .before .before .before .before .before .before .before .before .before .before .args .first) (c .before .before .before .before .before .before .before .before .before .before .before .before .before .before .args .row) (c .before .before .before .before .before .before .before .before .before .before .before .before .before .before .args .stop) (c .before .before .before .before .before .before .before .before .before .loop .at) (c .before .before .before .before .before .before .before .before .before .loop .from) (c .before .before .before .before .before .before .before .before .before .loop .link) (c .before .before .before .before .before .before .before .before .before .loop .inv) (c .before .before .before .before .before .before .before .before .node-of .result) (c .before .before .before .before .before .before .before .before .node-of .ensures .1 (c .before .before .before .before .before .before .before .if1 .left)) (c .before .before .before .before .before .before .entry-at2 .result) (c .before .before .before .before .before .before .entry-at2 .ensures) (c .before .before .before .before .before .rank-of .result) (c .before .before .before .before .before .rank-of .ensures .0 (omega arith)) (omega arith) (c .before .before .before .turn .result) 4 (c .before .get-word2 .result) (c .before .before .before .turn .ensures) (c .before .before .if3 .taken) (c .before .get-word2 .ensures .0)
 
 add-at-3 : tie.Need-add-at-3 Inv-loop μ-loop
-unfolding place maxValues
-add-at-3 c = omega (arith, c .before .before .before .before .entry-at2 .ensures, c .before .before .before .before .before .before .before .before .before .before .before .before .pre .0 .below, (c .before .before .before .before .before .before .node-of .ensures .1 (c .before .before .before .before .before .if1 .left)) .3)
+unfolding place
+add-at-3 c = omega (arith, values-below, c .before .before .before .before .entry-at2 .ensures, c .before .before .before .before .before .before .before .before .before .before .before .before .pre .0 .below, (c .before .before .before .before .before .before .node-of .ensures .1 (c .before .before .before .before .before .if1 .left)) .3)
 
 get-word-requires-3 : tie.Need-get-word-requires-3 Inv-loop μ-loop
 unfolding place

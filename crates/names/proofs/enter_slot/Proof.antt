@@ -4,7 +4,7 @@ use Rattle.names.proofs.Table.{turn-small}
 use Rattle.names.specs.Steps.{ToldOf}
 use Rattle.names.specs.Slots.{place}
 use Rattle.names.specs.Bits.{part, bitAt}
-use Rattle.model.specs.Limits.{maxValues}
+use Rattle.model.specs.Laws.Widths.{values-below}
 use mathlib.Core.Path.{subst}
 use native.Mathlib.Omega.{arith}
 use borrow.Author.Needs.{needs}
@@ -15,8 +15,8 @@ entry-at-requires : tie.Need-entry-at-requires
 entry-at-requires c κs = search needs
 
 add-put-word : tie.Need-add-put-word
-unfolding place maxValues
-add-put-word c = omega (arith, c .entry-at .ensures, c .before .before .before .before .before .pre .below, c .before .before .before .before .before .pre .order)
+unfolding place
+add-put-word c = omega (arith, values-below, c .entry-at .ensures, c .before .before .before .before .before .pre .below, c .before .before .before .before .before .pre .order)
 
 mul-put-word : tie.Need-mul-put-word
 mul-put-word c = search needs

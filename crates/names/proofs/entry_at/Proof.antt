@@ -1,5 +1,6 @@
 -- The limit is the model's.
 use Rattle.names.specs.Slots.{place}
+use Rattle.model.specs.Laws.Widths.{values-below}
 use Rattle.model.specs.Limits.{maxValues}
 use mathlib.Core.Path.{refl}
 use native.Mathlib.Omega.{arith}
@@ -11,12 +12,10 @@ mul-result : tie.Need-mul-result
 mul-result c = search needs
 
 mul-result-2 : tie.Need-mul-result-2
-unfolding maxValues
-mul-result-2 c = omega (arith, c .pre)
+mul-result-2 c = omega (arith, values-below, c .pre)
 
 add-result : tie.Need-add-result
-unfolding maxValues
-add-result c = omega (arith, c .pre)
+add-result c = omega (arith, values-below, c .pre)
 
 returns : tie.Need-returns
 unfolding place maxValues

@@ -1,7 +1,7 @@
 -- Four stores make the table of `forked`.
 use Rattle.names.proofs.Table.{four-stores}
 use Rattle.names.specs.Slots.{place}
-use Rattle.model.specs.Limits.{maxValues}
+use Rattle.model.specs.Laws.Widths.{values-below}
 use native.Mathlib.Omega.{arith}
 use borrow.Author.Needs.{needs}
 use Rattle.names.proofs.fork.Statement.{statement}
@@ -18,8 +18,8 @@ unfolding place
 put-word-requires c κs = omega (arith, c .before .entry-at .ensures, c .before .before .before .before .before .pre)
 
 add-put-word : tie.Need-add-put-word
-unfolding place maxValues
-add-put-word c = omega (arith, c .before .before .before .before .before .entry-at .ensures, c .before .before .before .before .before .before .before .before .before .pre)
+unfolding place
+add-put-word c = omega (arith, values-below, c .before .before .before .before .before .entry-at .ensures, c .before .before .before .before .before .before .before .before .before .pre)
 
 mul-put-word : tie.Need-mul-put-word
 mul-put-word c = search needs
@@ -32,8 +32,8 @@ sub-put-word : tie.Need-sub-put-word
 sub-put-word c = search needs
 
 add-put-word-2 : tie.Need-add-put-word-2
-unfolding place maxValues
-add-put-word-2 c = omega (arith, c .before .before .before .before .before .before .before .before .before .entry-at .ensures, c .before .before .before .before .before .before .before .before .before .before .before .before .before .pre)
+unfolding place
+add-put-word-2 c = omega (arith, values-below, c .before .before .before .before .before .before .before .before .before .entry-at .ensures, c .before .before .before .before .before .before .before .before .before .before .before .before .before .pre)
 
 put-word-requires-3 : tie.Need-put-word-requires-3
 unfolding place
