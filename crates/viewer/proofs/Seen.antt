@@ -31,8 +31,7 @@ less-both a b = go (decLt a b)
 pub rows-fit : (table : Bytes) → rowCount table ≤ length table / rowBytes
 rows-fit table = less-both (length table / rowBytes) maxValues .0
 
-rows-few : (table : Bytes) → rowCount table ≤ 1024
-unfolding maxValues
+rows-few : (table : Bytes) → rowCount table ≤ maxValues
 rows-few table = less-both (length table / rowBytes) maxValues .1
 
 -- ---- a row is told
@@ -61,7 +60,7 @@ row-past table place n e l =
 -- ---- and from what is told
 -- A row that is told is one of a few, and its value ends behind it.
 pub record Behind (place : ℕ) (r : Row) : Type 0 where
-  pub few : place < 1024
+  pub few : place < maxValues
   pub behind : place < endOf place r
 
 pub told-behind : (table : Bytes) (place : ℕ) (r : Row) → rowSeen table place ≡ rows.Is r → Behind place r

@@ -13,6 +13,7 @@ use Rattle.area.specs.Words.{word, wordAt}
 use Rattle.model.specs.Bounds.{bounded, boundedItems, boundedMembers}
 use Rattle.model.specs.Bytes.{Bytes}
 use Rattle.model.specs.Laws.Logic.{and-l, and-r}
+use Rattle.model.specs.Laws.Widths.{text-small, values-small}
 use Rattle.model.specs.Limits.{maxInteger, maxTextBytes, maxValues}
 use Rattle.model.specs.Option.{orElse}
 use Rattle.model.specs.Size.{valueCount, itemsCount, membersCount}
@@ -24,7 +25,6 @@ use Rattle.syntax.specs.Laws.Sound.{sound}
 use Rattle.syntax.specs.Laws.Stands.{Stands, front, back, part-stands, word-stands, behind, starts}
 use Rattle.syntax.specs.Laws.StringsFit.{strings-small}
 use Rattle.syntax.specs.Laws.WellFormed.{read-well-formed}
-use Rattle.syntax.specs.Laws.Widths.{text-small, values-small}
 use Rattle.syntax.specs.Read.{done, read}
 use Rattle.table.specs.declared.row.Row.{Row}
 use Rattle.table.specs.declared.row.Span.{Span}
@@ -264,7 +264,7 @@ module _ {A S : Bytes} (full : Full A) where
 -- ---- the areas
 -- The table is long enough for all rows that a text may need.
 full-table : (A : Bytes) (v : Value) (n : ℕ) → tableBytes ≤ n → A ≡ tableOf v n → Full A
-unfolding maxValues rowBytes entryBytes padded
+unfolding rowBytes entryBytes padded
 full-table A v n l e =
     let bytes = rowsOf v 0 0 unnamed in
     let zeros : Bytes = replicate (n - length bytes) 0 in

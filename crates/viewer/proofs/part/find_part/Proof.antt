@@ -1,6 +1,7 @@
 use borrow.Author.Needs.{needs}
 use mathlib.Core.Path.{_≡_, sym, _∙_}
 use native.Mathlib.Omega.{arith}
+use Rattle.model.specs.Laws.Widths.{values-below}
 use Rattle.viewer.specs.declared.row.RowAnswer.the-variants as rows
 use Rattle.viewer.specs.View.{rowSeen}
 use Rattle.viewer.proofs.Seen.{told-behind}
@@ -37,7 +38,7 @@ returns-2 c =
 add-part-from : tie.Need-add-part-from
 add-part-from c =
     let a = c .before .before .before .before .before .before .before .args in
-    omega (arith, told-behind (a .table .now) (a .place) _ (told (c .before .before)) .few)
+    omega (arith, values-below, told-behind (a .table .now) (a .place) _ (told (c .before .before)) .few)
 
 part-from-requires : tie.Need-part-from-requires
 part-from-requires c κs = search needs

@@ -2,6 +2,7 @@ use borrow.Author.Needs.{needs}
 use mathlib.Core.Path.{_≡_, sym, _∙_}
 use native.Mathlib.Omega.{arith}
 use borrow.Author.Tests.{eq-eqb}
+use Rattle.model.specs.Laws.Widths.{values-below}
 use Rattle.viewer.specs.declared.row.RowAnswer.the-variants as rows
 use Rattle.viewer.specs.View.{rowSeen}
 use Rattle.viewer.proofs.Seen.{told-behind}
@@ -27,7 +28,7 @@ enum-known-r c = search needs
 end-of-requires : tie.Need-end-of-requires
 end-of-requires c κs =
     let a = c .before .before .before .before .before .before .args in
-    omega (arith, told-behind (a .table .now) (a .place) _ (told c) .few)
+    omega (arith, values-below, told-behind (a .table .now) (a .place) _ (told c) .few)
 
 returns-2 : tie.Need-returns-2
 returns-2 c =

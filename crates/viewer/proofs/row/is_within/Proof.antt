@@ -10,13 +10,13 @@ returns : tie.Need-returns
 unfolding maxTextBytes
 returns c =
     let a = c .before .args in
-    rw (lt-leb (a .start + a .size) 16384 (omega arith))
+    rw (lt-leb (a .start + a .size) maxTextBytes (omega arith))
 
 returns-2 : tie.Need-returns-2
 unfolding maxTextBytes
 returns-2 c =
     let a = c .before .args in
-    same-le (a .size) (16384 - a .start) (a .start + a .size) 16384 (λ l. omega arith) (λ l. omega arith)
+    same-le (a .size) (maxTextBytes - a .start) (a .start + a .size) maxTextBytes (λ l. omega arith) (λ l. omega arith)
 
 pub is-within-spec : {M : Type 1} → statement M
 is-within-spec = tie.close (tie.spec returns returns-2)
