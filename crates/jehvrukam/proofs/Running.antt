@@ -28,11 +28,8 @@ module _ {limit : ℕ} {C : Bytes} (r : Runs limit C) where
   limit-fits = ltb-false maxSteps limit (neither (ltb maxSteps limit) _ (r .runs) .0)
 
   cells-long : heapCells ≤ length C / cellBytes
-  unfolding heapCells cellBytes
-  cells-long = enough (length C) (ltb-false (length C) (heapCells * cellBytes) (neither (ltb maxSteps limit) _ (r .runs) .1))
-    where
-      enough : (n : ℕ) → 32768 ≤ n → 4096 ≤ n / 8
-      enough n l = omega arith
+  unfolding cellBytes
+  cells-long = let l = ltb-false (length C) (heapCells * cellBytes) (neither (ltb maxSteps limit) _ (r .runs) .1) in omega (arith, l)
 
 -- ---- the areas hold a rule and a record
 pub record Texts (s d : Bytes) (x : TextRead Rule) (v : Value) (T A R B T′ A′ R′ B′ : Bytes) : Type 0 where
