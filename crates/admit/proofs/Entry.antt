@@ -9,7 +9,7 @@ use lib.ListN.{length, take, replicate, length-append, length-replicate}
 use lib.Seq.{take-append-seam}
 use Rattle.model.specs.Bytes.{Bytes}
 use Rattle.model.specs.Judgement.{Judged, done, refuses, judgedNumber, Answer}
-use Rattle.model.specs.Limits.{maxSteps, maxTextBytes}
+use Rattle.model.specs.Limits.{maxSteps}
 use Rattle.model.specs.Main.{steps-within-limit}
 use Rattle.model.specs.Refusal.{Refusal, number}
 use Rattle.syntax.specs.Layout.{padded, tableBytes, stringsBytes}
@@ -19,6 +19,7 @@ use Rattle.jehvrukam.specs.Contract.{entry, areasOf, numbersOf}
 use Rattle.jehvrukam.specs.Entry.{cellsBytes}
 use Rattle.jehvrukam.specs.Evaluate.{Areas, Numbers, Evaluated, isInvalid, zeros, answered, evaluateAnswer, evaluateEntry}
 use Rattle.admit.specs.Inner.{textOf, Answers}
+use Rattle.admit.specs.Limits.{stepLimit, outputBytes, limit-valid}
 use Rattle.admit.specs.Printed.{answerAfter, answerTo}
 
 -- What was told is an answer, its text at the start of the output.
@@ -49,8 +50,8 @@ fresh O = areasOf (replicate tableBytes 0) (replicate stringsBytes 0) (replicate
 large : (n : ℕ) → ltb (length {A = ℕ} (replicate n 0)) n ≡ false
 large n = le-ltb (length {A = ℕ} (replicate n 0)) n (omega (arith, length-replicate {A = ℕ} n 0))
 
-valid : (O : Bytes) → isInvalid maxSteps (fresh O) ≡ false
-valid O = rw (le-ltb maxSteps maxSteps (omega arith), large tableBytes, large stringsBytes, large cellsBytes)
+valid : (O : Bytes) → isInvalid stepLimit (fresh O) ≡ false
+valid O = rw (le-ltb maxSteps stepLimit limit-valid, large tableBytes, large stringsBytes, large cellsBytes)
 
 -- The entry under a limit that is valid with areas that are large enough.
 shows-entry : (rule record′ : Bytes) (limit : ℕ) (a : Areas) (n : Numbers) → isInvalid limit a ≡ false → Shows (answerTo rule record′ limit (length (a .work .output))) (evaluateEntry rule record′ limit a n)
@@ -58,13 +59,13 @@ shows-entry rule record′ limit a n e = rw (e, evaluateEntry) (shows-stage a li
 
 pub entry-answers :
     (rule record′ O : Bytes) (a : Areas) (n : Numbers) {k which place steps size : ℕ}
-    → length O ≡ maxTextBytes
+    → length O ≡ outputBytes
     → length (a .work .output) ≡ length O
-    → entry k (numbersOf which place steps size) a ≡ evaluateEntry rule record′ maxSteps (fresh O) n
-    → Answers (answerTo rule record′ maxSteps maxTextBytes) (record { refusal = k; steps = steps; size = size }) (a .work .output)
+    → entry k (numbersOf which place steps size) a ≡ evaluateEntry rule record′ stepLimit (fresh O) n
+    → Answers (answerTo rule record′ stepLimit outputBytes) (record { refusal = k; steps = steps; size = size }) (a .work .output)
 entry-answers rule record′ O a n {k} {which} {place} {steps} {size} o kept e =
-    let s : Shows (answerTo rule record′ maxSteps (length O)) (entry k (numbersOf which place steps size) a) = rw e (shows-entry rule record′ maxSteps (fresh O) n (valid O)) in
-    let t : Shows (answerTo rule record′ maxSteps maxTextBytes) (entry k (numbersOf which place steps size) a) = rw o at s in
+    let s : Shows (answerTo rule record′ stepLimit (length O)) (entry k (numbersOf which place steps size) a) = rw e (shows-entry rule record′ stepLimit (fresh O) n (valid O)) in
+    let t : Shows (answerTo rule record′ stepLimit outputBytes) (entry k (numbersOf which place steps size) a) = rw o at s in
     record { refusal = t .refusal; steps = t .steps; room = kept ∙ o; within = t .within; text = t .text }
 
 -- ---- steps: at most as many as the limit

@@ -7,11 +7,11 @@ use lib.Seq.{sets, sets-eq, take-append-seam, length-take-le}
 use mir.Syntax.{w64}
 use mir.Val.{Fits}
 use Rattle.model.specs.Bytes.{Bytes}
-use Rattle.model.specs.Limits.{maxTextBytes}
 use Rattle.model.specs.Writing.{decimal}
 use Rattle.print.specs.Contract.{Put}
 use Rattle.print.specs.Laws.{put-byte, put-bytes, put-then, put-size, decimal-20}
 use Rattle.admit.specs.Inner.{Near, Begins}
+use Rattle.admit.specs.Limits.{outputBytes, digits-room}
 use Rattle.admit.specs.Printed.{line}
 
 pub line-put :
@@ -38,9 +38,8 @@ begins-counts {bytes = bytes} {size} b = sym (length-take-le size bytes (b .with
 pub digits-put : {n r : ℕ} {d d′ : Bytes} → Fits w64 n → 20 ≡ length d → Put (decimal n) 0 d r d′ → Begins (decimal n) r d′
 digits-put {n} h l p = put-begins p (omega (arith, decimal-20 n (omega arith)))
 
-pub digits-near : {n r at : ℕ} {d′ word : Bytes} → Fits w64 n → Begins (decimal n) r d′ → at ≤ maxTextBytes + 64 → length word ≤ 8 → Near at word (take r d′)
-unfolding maxTextBytes
-digits-near {n} h b place few = record { place = place; few = few; short = rw (b .part) (omega (arith, decimal-20 n (omega arith))) }
+pub digits-near : {n r at : ℕ} {d′ word : Bytes} → Fits w64 n → Begins (decimal n) r d′ → at ≤ outputBytes + 64 → length word ≤ 8 → Near at word (take r d′)
+digits-near {n} h b place few = record { place = place; few = few; short = rw (b .part) (omega (arith, digits-room, decimal-20 n (omega arith))) }
 
 pub number-line-put : (n : ℕ) (word : Bytes) {r s at : ℕ} {d′ o o′ : Bytes} → Begins (decimal n) r d′ → Put (line word (take r d′)) at o s o′ → Put (line word (decimal n)) at o s o′
 number-line-put n word b p = rw (b .part) at p

@@ -7,8 +7,8 @@ use lib.Dec.{eqb}
 use lib.ListN.{length, take}
 use Rattle.model.specs.Bytes.{Bytes, ascii}
 use Rattle.model.specs.Judgement.{Judged, done, refuses, judgedNumber, Answer}
-use Rattle.model.specs.Limits.{maxTextBytes}
 use Rattle.model.specs.Writing.{decimal}
+use Rattle.admit.specs.Limits.{outputBytes}
 use Rattle.admit.specs.Printed.{line}
 use Rattle.admit.specs.declared.Outcome.{Outcome}
 
@@ -21,7 +21,7 @@ textOf (refuses e) = []
 pub record Answers (a : Answer) (o : Outcome) (output : Bytes) : Type 0 where
   pub refusal : o .refusal ≡ judgedNumber (a .result)
   pub steps : o .steps ≡ a .stepsBegun
-  pub room : length output ≡ maxTextBytes
+  pub room : length output ≡ outputBytes
   pub within : o .size ≤ length output
   pub text : take (o .size) output ≡ textOf (a .result)
 
@@ -31,9 +31,9 @@ resultBy k text = cond (eqb k 0) (line (ascii "answer ") text) (line (ascii "ref
 
 -- Where a line may begin, and how long its word and its text may be: far from the end of the machine's numbers.
 pub record Near (at : ℕ) (word text : Bytes) : Type 0 where
-  pub place : at ≤ maxTextBytes + 64
+  pub place : at ≤ outputBytes + 64
   pub few : length word ≤ 8
-  pub short : length text ≤ maxTextBytes
+  pub short : length text ≤ outputBytes
 
 -- A text stands at the start of the bytes.
 pub record Begins (text : Bytes) (size : ℕ) (bytes : Bytes) : Type 0 where

@@ -1,4 +1,5 @@
--- What the program prints, what 01 says of it, and what its functions do.
+-- The limits of the program, what it prints, what 01 says of it, and what its functions do.
+pub mod Limits
 pub mod Printed
 pub mod Main
 pub mod Inner

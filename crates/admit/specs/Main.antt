@@ -9,7 +9,7 @@ use lib.ListN.{length, take}
 use lib.Seq.{take-all, length-take-le}
 use Rattle.model.specs.Bytes.{Bytes, ascii}
 use Rattle.model.specs.Eval.{body}
-use Rattle.model.specs.Limits.{maxTextBytes, maxValues, maxNesting, maxInteger, maxSteps}
+use Rattle.model.specs.Limits.{maxTextBytes, maxValues, maxNesting, maxInteger}
 use Rattle.model.specs.Shape.{shape}
 use Rattle.model.specs.Size.{valueCount, nesting}
 use Rattle.model.specs.Writing.{decimal, valueText}
@@ -17,16 +17,17 @@ use Rattle.syntax.specs.Main.{over-long}
 use Rattle.syntax.specs.Read.{read, answer, text, white, then, _>>=_, give, fail, if, peek, eat, value, onStart, name, quoted, chars, char, tails, onLead, onPiece, grow, among, int, firstDigit, afterZero, digits, endNumber, isPart, signed, onSeparator, ended}
 use Rattle.syntax.specs.Tokens.{within, isWhite, isDigit, isPoint, isE, counted, nested, startOf, separatorOf}
 use Rattle.syntax.specs.Utf8.{leadOf}
+use Rattle.admit.specs.Limits.{stepLimit, outputBytes}
 use Rattle.admit.specs.Printed.{printedFor}
 
 -- "The first row prints, whole: `answer true`, newline, `steps 3`, newline."
 pub prints-an-answer : printedFor (ascii "{\"===\":[{\"var\":\"a\"},1]}") (ascii "{\"a\":1}") ≡ ascii "answer true\nsteps 3\n"
-unfolding printedFor read answer text white then _>>=_ give fail if peek eat value onStart name quoted chars char tails onLead onPiece grow among int firstDigit afterZero digits endNumber isPart signed onSeparator ended startOf counted nested separatorOf leadOf isWhite isDigit isPoint isE within valueCount maxTextBytes maxValues maxNesting maxInteger maxSteps shape body valueText nesting decimal
+unfolding printedFor read answer text white then _>>=_ give fail if peek eat value onStart name quoted chars char tails onLead onPiece grow among int firstDigit afterZero digits endNumber isPart signed onSeparator ended startOf counted nested separatorOf leadOf isWhite isDigit isPoint isE within valueCount maxTextBytes maxValues maxNesting maxInteger stepLimit outputBytes shape body valueText nesting decimal
 prints-an-answer = refl
 
 -- "The fourth: `refused 7`, newline, `steps 4`, newline."
 pub prints-a-refusal : printedFor (ascii "{\">\":[3,2,\"x\"]}") (ascii "{\"a\":1}") ≡ ascii "refused 7\nsteps 4\n"
-unfolding printedFor read answer text white then _>>=_ give fail if peek eat value onStart name quoted chars char tails onLead onPiece grow among int firstDigit afterZero digits endNumber isPart signed onSeparator ended startOf counted nested separatorOf leadOf isWhite isDigit isPoint isE within valueCount maxTextBytes maxValues maxNesting maxInteger maxSteps shape body valueText nesting decimal
+unfolding printedFor read answer text white then _>>=_ give fail if peek eat value onStart name quoted chars char tails onLead onPiece grow among int firstDigit afterZero digits endNumber isPart signed onSeparator ended startOf counted nested separatorOf leadOf isWhite isDigit isPoint isE within valueCount maxTextBytes maxValues maxNesting maxInteger stepLimit outputBytes shape body valueText nesting decimal
 prints-a-refusal = refl
 
 -- Of a file longer than the largest text the first 16,385 bytes decide: it is refused as the whole would be.

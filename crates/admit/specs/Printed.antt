@@ -4,11 +4,11 @@ use mathlib.Core.List.{[], _∷_, _++_}
 use Prim.Native.Nat.{ℕ}
 use Rattle.model.specs.Bytes.{Bytes, ascii}
 use Rattle.model.specs.Judgement.{Judged, done, refuses, Answer, answerOf}
-use Rattle.model.specs.Limits.{maxSteps, maxTextBytes}
 use Rattle.model.specs.Refusal.{number}
 use Rattle.model.specs.Writing.{decimal}
 use Rattle.stages.specs.Stage.{Stage, passed, refused}
 use Rattle.stages.specs.Texts.{TextsRead, evaluateStage}
+use Rattle.admit.specs.Limits.{stepLimit, outputBytes}
 
 -- ---- the answer to two texts: "rule read; 6; .. record read" (stages/Texts.antt: evaluateStage), then "evaluation; 11; 12". "Before evaluation steps are 0."
 abbrev pub answerAfter : Stage TextsRead → ℕ → ℕ → Answer
@@ -30,4 +30,4 @@ abbrev pub printed : Answer → Bytes
 printed a = resultLine (a .result) ++ line (ascii "steps ") (decimal (a .stepsBegun))
 
 unfoldable pub printedFor : Bytes → Bytes → Bytes
-printedFor rule record′ = printed (answerTo rule record′ maxSteps maxTextBytes)
+printedFor rule record′ = printed (answerTo rule record′ stepLimit outputBytes)

@@ -5,7 +5,6 @@ use heap::cell::CELL_BYTES;
 use jehvrukam::jehvrukam_evaluate;
 use libc::STDOUT_FILENO;
 use model::HEAP_CELLS;
-use model::MAX_STEPS;
 use model::MAX_TEXT_BYTES;
 use print::bytes::put_byte;
 use print::bytes::put_bytes;
@@ -16,11 +15,16 @@ ghost use mathlib.Core.Path.{_≡_};
 ghost use Prim.Native.Nat.{_+_, _≤_};
 ghost use lib.ListN.{length};
 ghost use Rattle.io.specs.Counts.{Counts};
-ghost use Rattle.model.specs.Limits.{maxSteps, maxTextBytes};
 ghost use Rattle.model.specs.Writing.{decimal};
 ghost use Rattle.print.specs.Contract.{Put};
+ghost use Rattle.admit.specs.Limits.{stepLimit, outputBytes};
 ghost use Rattle.admit.specs.Printed.{answerTo, line, printedFor};
 ghost use Rattle.admit.specs.Inner.{Answers, resultBy, Near, Begins};
+
+// The program's own limits, as specs/Limits.antt has them: they stay where the model's are raised.
+const STEP_LIMIT: u64 = 1000;
+
+const OUTPUT_BYTES: usize = 16384;
 
 // A byte more than the largest text, so that a longer file is refused as one.
 const FILE_BYTES: usize = MAX_TEXT_BYTES + 1;
@@ -28,7 +32,7 @@ const FILE_BYTES: usize = MAX_TEXT_BYTES + 1;
 const CELLS_BYTES: usize = HEAP_CELLS * CELL_BYTES;
 
 // Room for the largest answer and, in 64 bytes, for what else the two lines have.
-const REPORT_BYTES: usize = MAX_TEXT_BYTES + 64;
+const REPORT_BYTES: usize = OUTPUT_BYTES + 64;
 
 // A refusal's number, or 0; the steps; the length of the answer's text.
 struct Outcome {
@@ -39,10 +43,10 @@ struct Outcome {
 
 // ---- evaluation
 
-// Under the limit 1,000, into an output of 16,384 bytes.
+// Under the program's step limit.
 fn evaluate(rule: &[u8], record: &[u8], output: &mut [u8]) -> Outcome
-    requires { ⌜ length (now output) ≡ maxTextBytes ⌝ }
-    ensures { λ r. ⌜ Answers (answerTo (now (rule .entry)) (now («record» .entry)) maxSteps maxTextBytes) r (now (output .exit)) ⌝ }
+    requires { ⌜ length (now output) ≡ outputBytes ⌝ }
+    ensures { λ r. ⌜ Answers (answerTo (now (rule .entry)) (now («record» .entry)) stepLimit outputBytes) r (now (output .exit)) ⌝ }
 {
     let mut rule_table = [0u8; TABLE_BYTES];
     let mut rule_strings = [0u8; STRINGS_BYTES];
@@ -56,7 +60,7 @@ fn evaluate(rule: &[u8], record: &[u8], output: &mut [u8]) -> Outcome
     let refusal = jehvrukam_evaluate(
         rule,
         record,
-        MAX_STEPS,
+        STEP_LIMIT,
         &mut rule_table,
         &mut rule_strings,
         &mut record_table,
@@ -92,7 +96,7 @@ fn put_line(out: &mut [u8], at: usize, word: &[u8], text: &[u8]) -> usize
 
 // A word, a number in decimal and a line end.
 fn put_number_line(out: &mut [u8], at: usize, word: &[u8], n: u64) -> usize
-    requires { ⌜ (at ≤ maxTextBytes + 64) × (length (now word) ≤ 8) ⌝ }
+    requires { ⌜ (at ≤ outputBytes + 64) × (length (now word) ≤ 8) ⌝ }
     ensures { λ r. ⌜ Put (line (now (word .entry)) (decimal n)) at (now (out .entry)) r (now (out .exit)) ⌝ }
 {
     let mut digits = [0u8; 20];
@@ -102,7 +106,7 @@ fn put_number_line(out: &mut [u8], at: usize, word: &[u8], n: u64) -> usize
 
 // The first line: the answer, or the refusal.
 fn put_result(out: &mut [u8], refusal: u32, text: &[u8]) -> usize
-    requires { ⌜ length (now text) ≤ maxTextBytes ⌝ }
+    requires { ⌜ length (now text) ≤ outputBytes ⌝ }
     ensures { λ r. ⌜ Put (resultBy refusal (now (text .entry))) 0 (now (out .entry)) r (now (out .exit)) ⌝ }
 {
     if refusal == 0 {
@@ -113,10 +117,10 @@ fn put_result(out: &mut [u8], refusal: u32, text: &[u8]) -> usize
 
 // What is printed, at the start of `out`; its length.
 fn report(rule: &[u8], record: &[u8], out: &mut [u8]) -> usize
-    requires { ⌜ length (now out) ≡ maxTextBytes + 64 ⌝ }
+    requires { ⌜ length (now out) ≡ outputBytes + 64 ⌝ }
     ensures { λ r. ⌜ Begins (printedFor (now (rule .entry)) (now («record» .entry))) r (now (out .exit)) ⌝ }
 {
-    let mut output = [0u8; MAX_TEXT_BYTES];
+    let mut output = [0u8; OUTPUT_BYTES];
     let o = evaluate(rule, record, &mut output);
     let size = o.size;
     let end = put_result(out, o.refusal, &output[..size]);

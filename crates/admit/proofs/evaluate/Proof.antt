@@ -1,8 +1,9 @@
 use borrow.Author.Needs.{needs}
-use Rattle.model.specs.Limits.{maxSteps, maxTextBytes, maxValues, heapCells}
+use Rattle.model.specs.Limits.{maxTextBytes, maxValues, heapCells}
 use Rattle.syntax.specs.Layout.{rowBytes, entryBytes}
 use Rattle.heap.specs.Cells.{cellBytes}
 use Rattle.jehvrukam.specs.Contract.{numbersOf}
+use Rattle.admit.specs.Limits.{stepLimit}
 use Rattle.admit.proofs.Entry.{entry-answers}
 use Rattle.admit.proofs.evaluate.Statement.{statement}
 use Rattle.admit.proofs.evaluate.Tie as tie
@@ -29,7 +30,7 @@ same-length : tie.Need-same-length
 same-length c = search needs
 
 returns : tie.Need-returns
-unfolding maxSteps maxTextBytes maxValues heapCells rowBytes entryBytes cellBytes
+unfolding stepLimit maxTextBytes maxValues heapCells rowBytes entryBytes cellBytes
 returns c = entry-answers (c .before .before .before .before .before .before .before .before .before .before .before .before .before .before .before .before .before .before .before .before .before .args .rule .now) (c .before .before .before .before .before .before .before .before .before .before .before .before .before .before .before .before .before .before .before .before .before .args .«record» .now) (c .before .before .before .before .before .before .before .before .before .before .before .before .before .before .before .before .before .before .before .before .before .args .output .now) _ (numbersOf 0 0 0 0) (c .before .before .before .before .before .before .before .before .before .before .before .before .before .before .before .before .before .before .before .before .before .pre) (search needs) (c .before .before .before .before .before .before .before .jehvrukam-evaluate .ensures)
 
 pub evaluate-spec : {M : Type 1} → statement M

@@ -1,7 +1,7 @@
 use borrow.Author.Needs.{needs}
 use Prim.Native.Nat.{ℕ}
 use lib.ListN.{length-replicate}
-use Rattle.model.specs.Limits.{maxTextBytes}
+use Rattle.admit.specs.Limits.{outputBytes}
 use Rattle.admit.proofs.Lines.{begins-counts}
 use Rattle.admit.proofs.main.Statement.{statement}
 use Rattle.admit.proofs.main.Tie as tie
@@ -40,8 +40,8 @@ slice-aggregate-report-3 : tie.Need-slice-aggregate-report-3
 slice-aggregate-report-3 c = search needs
 
 report-requires : tie.Need-report-requires
-unfolding maxTextBytes
-report-requires c κs = length-replicate {A = ℕ} 16448 0
+unfolding outputBytes
+report-requires c κs = length-replicate {A = ℕ} _ 0
 
 array-share-prefix-out : tie.Need-array-share-prefix-out
 array-share-prefix-out c = search needs

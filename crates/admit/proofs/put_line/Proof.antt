@@ -1,16 +1,14 @@
 use borrow.Author.Needs.{needs}
-use Rattle.model.specs.Limits.{maxTextBytes}
+use Rattle.admit.specs.Limits.{output-below}
 use Rattle.admit.proofs.Lines.{line-put}
 use Rattle.admit.proofs.put_line.Statement.{statement}
 use Rattle.admit.proofs.put_line.Tie as tie
 
 add-start : tie.Need-add-start
-unfolding maxTextBytes
-add-start c = search needs
+add-start c = let below = output-below in search needs
 
 add-end : tie.Need-add-end
-unfolding maxTextBytes
-add-end c = search needs
+add-end c = let below = output-below in search needs
 
 put-bytes-requires : tie.Need-put-bytes-requires
 put-bytes-requires c κs = search needs
@@ -22,8 +20,7 @@ put-byte-requires : tie.Need-put-byte-requires
 put-byte-requires c κs = search needs
 
 add-result : tie.Need-add-result
-unfolding maxTextBytes
-add-result c = search needs
+add-result c = let below = output-below in search needs
 
 same-length : tie.Need-same-length
 same-length c = search needs

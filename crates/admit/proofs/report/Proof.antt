@@ -4,7 +4,7 @@ use Prim.Native.Nat.{ℕ}
 use native.Mathlib.Omega.{arith}
 use lib.ListN.{length-replicate}
 use lib.Seq.{length-take-le}
-use Rattle.model.specs.Limits.{maxTextBytes}
+use Rattle.admit.specs.Limits.{outputBytes}
 use Rattle.admit.proofs.Whole.{result-short, result-near, report-begins}
 use Rattle.admit.proofs.report.Statement.{statement}
 use Rattle.admit.proofs.report.Tie as tie
@@ -13,8 +13,8 @@ slice-aggregate-evaluate : tie.Need-slice-aggregate-evaluate
 slice-aggregate-evaluate c = search needs
 
 evaluate-requires : tie.Need-evaluate-requires
-unfolding maxTextBytes
-evaluate-requires c κs = length-replicate {A = ℕ} 16384 0
+unfolding outputBytes
+evaluate-requires c κs = length-replicate {A = ℕ} _ 0
 
 array-share-prefix-output : tie.Need-array-share-prefix-output
 array-share-prefix-output c = search needs
