@@ -7,6 +7,7 @@ use lib.IntN.{ℤ}
 use Rattle.model.specs.Instant.{inRange, sinceYear0}
 use Rattle.model.specs.Laws.DateText.{since-back}
 use Rattle.model.specs.Laws.Logic.{T→true}
+use Rattle.model.specs.Laws.Widths.{cells-below}
 use Rattle.model.specs.Limits.{heapCells}
 use Rattle.model.specs.Value.{instant}
 use Rattle.heap.specs.Unfold.{instantAt}
@@ -19,5 +20,4 @@ instantAt-sinceYear0 t h = rw (instantAt, since-back t h, T→true (inRange t) h
 -- ---- cells
 -- A cell has 32 bits for a place and 24 for a size or count.
 pub heap-small : {n : ℕ} → n ≤ heapCells → n < 16777216
-unfolding heapCells
-heap-small h = omega arith
+heap-small h = omega (arith, cells-below)
