@@ -54,6 +54,9 @@ take-zeros zero m h = refl
 take-zeros (suc n) zero h = absurd (omega arith)
 take-zeros (suc n) (suc m) h = ap (λ (l : Bytes). 0 ∷ l) (take-zeros n m (omega arith))
 
+pub zeros-fit : (n m : ℕ) → n ≤ m → n ≤ length (replicate {A = ℕ} m 0)
+zeros-fit n m h = rw (length-replicate {A = ℕ} m 0) h
+
 pub zeros-size : (n m : ℕ) → n ≤ m → n ≡ length (take n (replicate {A = ℕ} m 0))
 zeros-size n m h = sym (ap length (take-zeros n m h) ∙ length-replicate {A = ℕ} n 0)
 

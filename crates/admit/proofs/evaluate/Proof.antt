@@ -1,4 +1,7 @@
 use borrow.Author.Needs.{needs}
+use mathlib.Core.Path.{sym}
+use Prim.Native.Nat.{ℕ}
+use lib.ListN.{length-replicate}
 use Rattle.model.specs.Limits.{maxTextBytes, maxValues, heapCells}
 use Rattle.syntax.specs.Layout.{rowBytes, entryBytes}
 use Rattle.heap.specs.Cells.{cellBytes}
@@ -9,29 +12,29 @@ use Rattle.admit.proofs.evaluate.Statement.{statement}
 use Rattle.admit.proofs.evaluate.Tie as tie
 
 slice-aggregate-jehvrukam-evaluate : tie.Need-slice-aggregate-jehvrukam-evaluate
-slice-aggregate-jehvrukam-evaluate c = search needs
+slice-aggregate-jehvrukam-evaluate c = sym (length-replicate {A = ℕ} _ 0)
 
 slice-aggregate-jehvrukam-evaluate-2 : tie.Need-slice-aggregate-jehvrukam-evaluate-2
-slice-aggregate-jehvrukam-evaluate-2 c = search needs
+slice-aggregate-jehvrukam-evaluate-2 c = sym (length-replicate {A = ℕ} _ 0)
 
 slice-aggregate-jehvrukam-evaluate-3 : tie.Need-slice-aggregate-jehvrukam-evaluate-3
-slice-aggregate-jehvrukam-evaluate-3 c = search needs
+slice-aggregate-jehvrukam-evaluate-3 c = sym (length-replicate {A = ℕ} _ 0)
 
 slice-aggregate-jehvrukam-evaluate-4 : tie.Need-slice-aggregate-jehvrukam-evaluate-4
-slice-aggregate-jehvrukam-evaluate-4 c = search needs
+slice-aggregate-jehvrukam-evaluate-4 c = sym (length-replicate {A = ℕ} _ 0)
 
 slice-aggregate-jehvrukam-evaluate-5 : tie.Need-slice-aggregate-jehvrukam-evaluate-5
-slice-aggregate-jehvrukam-evaluate-5 c = search needs
+slice-aggregate-jehvrukam-evaluate-5 c = sym (length-replicate {A = ℕ} _ 0)
 
 jehvrukam-evaluate-requires : tie.Need-jehvrukam-evaluate-requires
 jehvrukam-evaluate-requires c κs = search needs
 
 same-length : tie.Need-same-length
-same-length c = search needs
+same-length c = c .before .before .before .before .before .before .before .jehvrukam-evaluate .kept .1 .1 .1 .1 .1 .1 .1 .1 .0
 
 returns : tie.Need-returns
 unfolding stepLimit maxTextBytes maxValues heapCells rowBytes entryBytes cellBytes
-returns c = entry-answers (c .before .before .before .before .before .before .before .before .before .before .before .before .before .before .before .before .before .before .before .before .before .args .rule .now) (c .before .before .before .before .before .before .before .before .before .before .before .before .before .before .before .before .before .before .before .before .before .args .«record» .now) (c .before .before .before .before .before .before .before .before .before .before .before .before .before .before .before .before .before .before .before .before .before .args .output .now) _ (numbersOf 0 0 0 0) (c .before .before .before .before .before .before .before .before .before .before .before .before .before .before .before .before .before .before .before .before .before .pre) (search needs) (c .before .before .before .before .before .before .before .jehvrukam-evaluate .ensures)
+returns c = entry-answers (c .before .before .before .before .before .before .before .before .before .before .before .before .before .before .before .before .before .before .before .before .before .args .rule .now) (c .before .before .before .before .before .before .before .before .before .before .before .before .before .before .before .before .before .before .before .before .before .args .«record» .now) (c .before .before .before .before .before .before .before .before .before .before .before .before .before .before .before .before .before .before .before .before .before .args .output .now) _ (numbersOf 0 0 0 0) (c .before .before .before .before .before .before .before .before .before .before .before .before .before .before .before .before .before .before .before .before .before .pre) (c .before .before .before .before .before .before .before .jehvrukam-evaluate .kept .1 .1 .1 .1 .1 .1 .1 .1 .0) (c .before .before .before .before .before .before .before .jehvrukam-evaluate .ensures)
 
 pub evaluate-spec : {M : Type 1} → statement M
 evaluate-spec =

@@ -1,4 +1,5 @@
 use borrow.Author.Needs.{needs}
+use mathlib.Core.Path.{sym}
 use Prim.Native.Nat.{ℕ}
 use lib.ListN.{length-replicate}
 use Rattle.admit.specs.Limits.{outputBytes}
@@ -10,7 +11,7 @@ slice-aggregate-read-file : tie.Need-slice-aggregate-read-file
 slice-aggregate-read-file c = search needs
 
 slice-aggregate-read-file-2 : tie.Need-slice-aggregate-read-file-2
-slice-aggregate-read-file-2 c = search needs
+slice-aggregate-read-file-2 c = sym (length-replicate {A = ℕ} _ 0)
 
 read-file-requires : tie.Need-read-file-requires
 read-file-requires c κs = search needs
@@ -19,7 +20,7 @@ slice-aggregate-read-file-3 : tie.Need-slice-aggregate-read-file-3
 slice-aggregate-read-file-3 c = search needs
 
 slice-aggregate-read-file-4 : tie.Need-slice-aggregate-read-file-4
-slice-aggregate-read-file-4 c = search needs
+slice-aggregate-read-file-4 c = sym (length-replicate {A = ℕ} _ 0)
 
 read-file-requires-2 : tie.Need-read-file-requires-2
 read-file-requires-2 c κs = search needs
