@@ -18,7 +18,7 @@ use Rattle.stages.specs.Texts.{TextsRead, evaluateStage}
 use Rattle.jehvrukam.specs.Contract.{entry, areasOf, numbersOf}
 use Rattle.jehvrukam.specs.Entry.{cellsBytes}
 use Rattle.jehvrukam.specs.Evaluate.{Areas, Numbers, Evaluated, isInvalid, zeros, answered, evaluateAnswer, evaluateEntry}
-use Rattle.admit.specs.Inner.{textOf, Answers}
+use Rattle.admit.specs.Inner.{textOf, Lent, Answers}
 use Rattle.admit.specs.Limits.{stepLimit, outputBytes, limit-valid}
 use Rattle.admit.specs.Printed.{answerAfter, answerTo}
 
@@ -43,28 +43,35 @@ shows-stage : (a : Areas) (limit : ℕ) (x : Stage TextsRead) → Shows (answerA
 shows-stage a limit (refused e which place) = shows-refusal a e which place 0
 shows-stage a limit (passed t) = shows-answer a t _ _
 
--- Work areas of the stated sizes.
-abbrev fresh : Bytes → Areas
-fresh O = areasOf (replicate tableBytes 0) (replicate stringsBytes 0) (replicate tableBytes 0) (replicate stringsBytes 0) (replicate cellsBytes 0) O
+-- An array of zeros is as long as it says.
+pub zeros-long : (n : ℕ) → n ≤ length (replicate {A = ℕ} n 0)
+zeros-long n = omega (arith, length-replicate {A = ℕ} n 0)
 
-large : (n : ℕ) → ltb (length {A = ℕ} (replicate n 0)) n ≡ false
-large n = le-ltb (length {A = ℕ} (replicate n 0)) n (omega (arith, length-replicate {A = ℕ} n 0))
-
-valid : (O : Bytes) → isInvalid stepLimit (fresh O) ≡ false
-valid O = rw (le-ltb maxSteps stepLimit limit-valid, large tableBytes, large stringsBytes, large cellsBytes)
+-- Areas that are lent so are valid.
+valid : {T A R B C O : Bytes} → Lent T A R B C O → isInvalid stepLimit (areasOf T A R B C O) ≡ false
+valid {T} {A} {R} {B} {C} l =
+    rw (
+      le-ltb maxSteps stepLimit limit-valid,
+      le-ltb (length C) cellsBytes (l .heap),
+      le-ltb (length T) tableBytes (l .rule-rows),
+      le-ltb (length A) stringsBytes (l .rule-text),
+      le-ltb (length R) tableBytes (l .record-rows),
+      le-ltb (length B) stringsBytes (l .record-text),
+    )
 
 -- The entry under a limit that is valid with areas that are large enough.
 shows-entry : (rule record′ : Bytes) (limit : ℕ) (a : Areas) (n : Numbers) → isInvalid limit a ≡ false → Shows (answerTo rule record′ limit (length (a .work .output))) (evaluateEntry rule record′ limit a n)
 shows-entry rule record′ limit a n e = rw (e, evaluateEntry) (shows-stage a limit (evaluateStage rule record′))
 
 pub entry-answers :
-    (rule record′ O : Bytes) (a : Areas) (n : Numbers) {k which place steps size : ℕ}
-    → length O ≡ outputBytes
+    (rule record′ : Bytes) {T A R B C O : Bytes} (a : Areas) (n : Numbers) {k which place steps size : ℕ}
+    → Lent T A R B C O
     → length (a .work .output) ≡ length O
-    → entry k (numbersOf which place steps size) a ≡ evaluateEntry rule record′ stepLimit (fresh O) n
+    → entry k (numbersOf which place steps size) a ≡ evaluateEntry rule record′ stepLimit (areasOf T A R B C O) n
     → Answers (answerTo rule record′ stepLimit outputBytes) (record { refusal = k; steps = steps; size = size }) (a .work .output)
-entry-answers rule record′ O a n {k} {which} {place} {steps} {size} o kept e =
-    let s : Shows (answerTo rule record′ stepLimit (length O)) (entry k (numbersOf which place steps size) a) = rw e (shows-entry rule record′ stepLimit (fresh O) n (valid O)) in
+entry-answers rule record′ {T} {A} {R} {B} {C} {O} a n {k} {which} {place} {steps} {size} l kept e =
+    let o = l .room in
+    let s : Shows (answerTo rule record′ stepLimit (length O)) (entry k (numbersOf which place steps size) a) = rw e (shows-entry rule record′ stepLimit (areasOf T A R B C O) n (valid l)) in
     let t : Shows (answerTo rule record′ stepLimit outputBytes) (entry k (numbersOf which place steps size) a) = rw o at s in
     record { refusal = t .refusal; steps = t .steps; room = kept ∙ o; within = t .within; text = t .text }
 

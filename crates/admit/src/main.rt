@@ -19,7 +19,7 @@ ghost use Rattle.model.specs.Writing.{decimal};
 ghost use Rattle.print.specs.Contract.{Put};
 ghost use Rattle.admit.specs.Limits.{stepLimit, outputBytes};
 ghost use Rattle.admit.specs.Printed.{answerTo, line, printedFor};
-ghost use Rattle.admit.specs.Inner.{Answers, resultBy, Near, Begins};
+ghost use Rattle.admit.specs.Inner.{Lent, Answers, resultBy, Near, Begins};
 
 // The program's own limits, as specs/Limits.antt has them: they stay where the model's are raised.
 const STEP_LIMIT: u64 = 1000;
@@ -43,16 +43,20 @@ struct Outcome {
 
 // ---- evaluation
 
-// Under the program's step limit.
-fn evaluate(rule: &[u8], record: &[u8], output: &mut [u8]) -> Outcome
-    requires { ⌜ length (now output) ≡ outputBytes ⌝ }
+// Under the program's step limit, in areas that are long enough.
+fn evaluate_in(
+    rule: &[u8],
+    record: &[u8],
+    rule_table: &mut [u8],
+    rule_strings: &mut [u8],
+    record_table: &mut [u8],
+    record_strings: &mut [u8],
+    cells: &mut [u8],
+    output: &mut [u8],
+) -> Outcome
+    requires { ⌜ Lent (now «rule_table») (now «rule_strings») (now «record_table») (now «record_strings») (now cells) (now output) ⌝ }
     ensures { λ r. ⌜ Answers (answerTo (now (rule .entry)) (now («record» .entry)) stepLimit outputBytes) r (now (output .exit)) ⌝ }
 {
-    let mut rule_table = [0u8; TABLE_BYTES];
-    let mut rule_strings = [0u8; STRINGS_BYTES];
-    let mut record_table = [0u8; TABLE_BYTES];
-    let mut record_strings = [0u8; STRINGS_BYTES];
-    let mut cells = [0u8; CELLS_BYTES];
     let mut which: u64 = 0;
     let mut place: u64 = 0;
     let mut steps: u64 = 0;
@@ -61,11 +65,11 @@ fn evaluate(rule: &[u8], record: &[u8], output: &mut [u8]) -> Outcome
         rule,
         record,
         STEP_LIMIT,
-        &mut rule_table,
-        &mut rule_strings,
-        &mut record_table,
-        &mut record_strings,
-        &mut cells,
+        rule_table,
+        rule_strings,
+        record_table,
+        record_strings,
+        cells,
         output,
         &mut which,
         &mut place,
@@ -77,6 +81,28 @@ fn evaluate(rule: &[u8], record: &[u8], output: &mut [u8]) -> Outcome
         steps,
         size: size as usize,
     }
+}
+
+// The same in areas of its own. That only slices of them are passed on keeps the proofs from computing with their bytes.
+fn evaluate(rule: &[u8], record: &[u8], output: &mut [u8]) -> Outcome
+    requires { ⌜ length (now output) ≡ outputBytes ⌝ }
+    ensures { λ r. ⌜ Answers (answerTo (now (rule .entry)) (now («record» .entry)) stepLimit outputBytes) r (now (output .exit)) ⌝ }
+{
+    let mut rule_table = [0u8; TABLE_BYTES];
+    let mut rule_strings = [0u8; STRINGS_BYTES];
+    let mut record_table = [0u8; TABLE_BYTES];
+    let mut record_strings = [0u8; STRINGS_BYTES];
+    let mut cells = [0u8; CELLS_BYTES];
+    evaluate_in(
+        rule,
+        record,
+        &mut rule_table,
+        &mut rule_strings,
+        &mut record_table,
+        &mut record_strings,
+        &mut cells,
+        output,
+    )
 }
 
 // ---- what is printed
@@ -142,12 +168,19 @@ fn read_file(path: &[u8], buffer: &mut [u8]) -> usize
     n
 }
 
+// Reads into two buffers, and prints what a third takes.
+fn run(rule: &mut [u8], record: &mut [u8], out: &mut [u8])
+    requires { ⌜ length (now out) ≡ outputBytes + 64 ⌝ }
+{
+    let rule_size = read_file(b"rule.json", rule);
+    let record_size = read_file(b"record.json", record);
+    let size = report(&rule[..rule_size], &record[..record_size], out);
+    io::write_all(STDOUT_FILENO, &out[..size]);
+}
+
 fn main() {
     let mut rule = [0u8; FILE_BYTES];
     let mut record = [0u8; FILE_BYTES];
     let mut out = [0u8; REPORT_BYTES];
-    let rule_size = read_file(b"rule.json", &mut rule);
-    let record_size = read_file(b"record.json", &mut record);
-    let size = report(&rule[..rule_size], &record[..record_size], &mut out);
-    io::write_all(STDOUT_FILENO, &out[..size]);
+    run(&mut rule, &mut record, &mut out);
 }

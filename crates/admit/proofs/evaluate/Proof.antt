@@ -1,50 +1,55 @@
-use borrow.Author.Needs.{needs}
 use mathlib.Core.Path.{sym}
 use Prim.Native.Nat.{ℕ}
 use lib.ListN.{length-replicate}
 use Rattle.model.specs.Limits.{maxTextBytes, maxValues, heapCells}
-use Rattle.syntax.specs.Layout.{rowBytes, entryBytes}
+use Rattle.syntax.specs.Layout.{rowBytes, entryBytes, tableBytes, stringsBytes}
 use Rattle.heap.specs.Cells.{cellBytes}
-use Rattle.jehvrukam.specs.Contract.{numbersOf}
-use Rattle.admit.specs.Limits.{stepLimit}
-use Rattle.admit.proofs.Entry.{entry-answers}
+use Rattle.jehvrukam.specs.Entry.{cellsBytes}
+use Rattle.admit.proofs.Entry.{zeros-long}
 use Rattle.admit.proofs.evaluate.Statement.{statement}
 use Rattle.admit.proofs.evaluate.Tie as tie
 
-slice-aggregate-jehvrukam-evaluate : tie.Need-slice-aggregate-jehvrukam-evaluate
-slice-aggregate-jehvrukam-evaluate c = sym (length-replicate {A = ℕ} _ 0)
+slice-aggregate-evaluate-in : tie.Need-slice-aggregate-evaluate-in
+slice-aggregate-evaluate-in c = sym (length-replicate {A = ℕ} _ 0)
 
-slice-aggregate-jehvrukam-evaluate-2 : tie.Need-slice-aggregate-jehvrukam-evaluate-2
-slice-aggregate-jehvrukam-evaluate-2 c = sym (length-replicate {A = ℕ} _ 0)
+slice-aggregate-evaluate-in-2 : tie.Need-slice-aggregate-evaluate-in-2
+slice-aggregate-evaluate-in-2 c = sym (length-replicate {A = ℕ} _ 0)
 
-slice-aggregate-jehvrukam-evaluate-3 : tie.Need-slice-aggregate-jehvrukam-evaluate-3
-slice-aggregate-jehvrukam-evaluate-3 c = sym (length-replicate {A = ℕ} _ 0)
+slice-aggregate-evaluate-in-3 : tie.Need-slice-aggregate-evaluate-in-3
+slice-aggregate-evaluate-in-3 c = sym (length-replicate {A = ℕ} _ 0)
 
-slice-aggregate-jehvrukam-evaluate-4 : tie.Need-slice-aggregate-jehvrukam-evaluate-4
-slice-aggregate-jehvrukam-evaluate-4 c = sym (length-replicate {A = ℕ} _ 0)
+slice-aggregate-evaluate-in-4 : tie.Need-slice-aggregate-evaluate-in-4
+slice-aggregate-evaluate-in-4 c = sym (length-replicate {A = ℕ} _ 0)
 
-slice-aggregate-jehvrukam-evaluate-5 : tie.Need-slice-aggregate-jehvrukam-evaluate-5
-slice-aggregate-jehvrukam-evaluate-5 c = sym (length-replicate {A = ℕ} _ 0)
+slice-aggregate-evaluate-in-5 : tie.Need-slice-aggregate-evaluate-in-5
+slice-aggregate-evaluate-in-5 c = sym (length-replicate {A = ℕ} _ 0)
 
-jehvrukam-evaluate-requires : tie.Need-jehvrukam-evaluate-requires
-jehvrukam-evaluate-requires c κs = search needs
+evaluate-in-requires : tie.Need-evaluate-in-requires
+unfolding maxTextBytes maxValues heapCells rowBytes entryBytes cellBytes
+evaluate-in-requires c κs = record {
+  rule-rows = zeros-long tableBytes;
+  rule-text = zeros-long stringsBytes;
+  record-rows = zeros-long tableBytes;
+  record-text = zeros-long stringsBytes;
+  heap = zeros-long cellsBytes;
+  room = c .before .before .before .before .before .before .before .before .before .pre;
+}
 
 same-length : tie.Need-same-length
-same-length c = c .before .before .before .before .before .before .before .jehvrukam-evaluate .kept .1 .1 .1 .1 .1 .1 .1 .1 .0
+same-length c = c .before .before .before .before .before .before .before .evaluate-in .kept .1 .1 .1 .1 .1 .1 .1 .0
 
 returns : tie.Need-returns
-unfolding stepLimit maxTextBytes maxValues heapCells rowBytes entryBytes cellBytes
-returns c = entry-answers (c .before .before .before .before .before .before .before .before .before .before .before .before .before .before .before .before .before .before .before .before .before .args .rule .now) (c .before .before .before .before .before .before .before .before .before .before .before .before .before .before .before .before .before .before .before .before .before .args .«record» .now) (c .before .before .before .before .before .before .before .before .before .before .before .before .before .before .before .before .before .before .before .before .before .args .output .now) _ (numbersOf 0 0 0 0) (c .before .before .before .before .before .before .before .before .before .before .before .before .before .before .before .before .before .before .before .before .before .pre) (c .before .before .before .before .before .before .before .jehvrukam-evaluate .kept .1 .1 .1 .1 .1 .1 .1 .1 .0) (c .before .before .before .before .before .before .before .jehvrukam-evaluate .ensures)
+returns c = c .before .before .before .before .before .before .before .evaluate-in .ensures
 
 pub evaluate-spec : {M : Type 1} → statement M
 evaluate-spec =
     tie.close
     (tie.spec
-    slice-aggregate-jehvrukam-evaluate
-    slice-aggregate-jehvrukam-evaluate-2
-    slice-aggregate-jehvrukam-evaluate-3
-    slice-aggregate-jehvrukam-evaluate-4
-    slice-aggregate-jehvrukam-evaluate-5
-    jehvrukam-evaluate-requires
+    slice-aggregate-evaluate-in
+    slice-aggregate-evaluate-in-2
+    slice-aggregate-evaluate-in-3
+    slice-aggregate-evaluate-in-4
+    slice-aggregate-evaluate-in-5
+    evaluate-in-requires
     same-length
     returns)
