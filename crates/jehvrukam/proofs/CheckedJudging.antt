@@ -17,7 +17,7 @@ use Rattle.stages.specs.declared.check.Checked.{Checked}
 use Rattle.stages.specs.declared.text.Stop as stages
 use Rattle.stages.specs.Areas.{TextAreas, textAreas, holding}
 use Rattle.stages.specs.Contract.{stopOf, leftAfter, wordsOf, Reads, ChecksTexts}
-use Rattle.stages.specs.Laws.{number-some, Passed, Stopped, CheckHeld, check-held, TextHeld, text-held, record-held, left-holding, left-sheet, left-means}
+use Rattle.stages.specs.Laws.{number-some, Passed, Stopped, CheckHeld, check-held, TextHeld, text-held, record-held, left-holding, left-sheet, left-denotes}
 use Rattle.stages.specs.Stage.{Stage, passed, refused, ruleText, sheetText, recordText, readAs}
 use Rattle.stages.specs.Texts.{TextsChecked, checkStage, CheckedTextsRead, evaluateCheckedStage}
 use Rattle.jehvrukam.specs.declared.evaluate_checked.CheckedOutcome.{CheckedOutcome}
@@ -94,7 +94,7 @@ module _ (rule sheet d : Bytes) (limit : ℕ) (T A S Z R B C O : Bytes) {T′ A�
       fit-is w =
           w .is (checked .sheet .content) value
           (left-sheet sheet (checked .sheet) S Z S′ Z′ sheet-text-held sheet-left)
-          (left-means d value R B R′ B′ (record-held d value (record-passes .is)) (g .areas) [] [])
+          (left-denotes d value R B R′ B′ (record-held d value (record-passes .is)) (g .areas))
 
       words-are : c .words ≡ typeBits (checked .types)
       words-are = h .words ∙ ap wordsOf (check-passes .is)

@@ -17,7 +17,7 @@ use Rattle.heap.specs.Cells.{cellBytes}
 use Rattle.eval.specs.declared.Answer as evaluating
 use Rattle.eval.specs.Evaluate.{Ready, Evaluation, evaluation, evaluated, Evaluates}
 use Rattle.stages.specs.Areas.{textAreas, leftBy}
-use Rattle.stages.specs.Laws.{TextHeld, left-rule, left-means}
+use Rattle.stages.specs.Laws.{TextHeld, left-rule, left-denotes}
 use Rattle.stages.specs.Texts.{TextRead}
 use Rattle.jehvrukam.specs.Inner.{Runs}
 use Rattle.jehvrukam.proofs.Settling.{neither}
@@ -44,7 +44,7 @@ module _ {s d : Bytes} {x : TextRead Rule} {v : Value} {T A R B T′ A′ R′ B
     rule = x .content;
     holds = left-rule s x T A T′ A′ (t .rule) (t .rule-left);
     value = v;
-    means = left-means d v R B R′ B′ (t .reads) (t .record-left) A′ C;
+    denotes = left-denotes d v R B R′ B′ (t .reads) (t .record-left);
     limited = limit-fits r;
     enough = cells-long r;
   }
@@ -55,7 +55,7 @@ module _ {s d : Bytes} {x : TextRead Rule} {v : Value} {T A R B T′ A′ R′ B
     result = answerOf (x .content) v limit (length O) .result
 
     is : evaluated e C′ O′ ≡ evaluation (x .content) v limit (length C) (length O)
-    is = h .is (x .content) v (left-rule s x T A T′ A′ (t .rule) (t .rule-left)) (left-means d v R B R′ B′ (t .reads) (t .record-left) A′ C)
+    is = h .is (x .content) v (left-rule s x T A T′ A′ (t .rule) (t .rule-left)) (left-denotes d v R B R′ B′ (t .reads) (t .record-left))
 
     pub refusal-is : e .refusal ≡ judgedNumber result
     refusal-is = ap (λ (y : Evaluation). y .written .refusal) is

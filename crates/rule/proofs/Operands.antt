@@ -11,7 +11,7 @@ use lib.Dec.{T as IsTrue, eqb, leb, ltb}
 use lib.IntN.{ℤ}
 use lib.ListN.{length}
 use Rattle.model.specs.Bytes.{Bytes}
-use Rattle.model.specs.Limits.{maxValues}
+use Rattle.model.specs.Laws.Widths.{two-values}
 use Rattle.model.specs.Option.{_>>=_, when}
 use Rattle.model.specs.Rule.{Operation, Rule, apply, Rules, no-rules, rule}
 use Rattle.model.specs.Shape.{Keyword as ModelKeyword, keywordNamed, unitNamed, rulesOf, operandsOf, exactly2, exactly3, andOf, contentOf, build, shape}
@@ -224,9 +224,9 @@ module _ {T B : Bytes} where
   unit-of (denotes-object e f r) = refl
 
   bare : {a b : Value} {vs : Values} {q : Rows} → Denotes T B (array (item a (item b vs))) (Array q) → Bare T B a b vs q
-  unfolding itemCount maxValues
+  unfolding itemCount
   bare {a} {q = q} (denotes-array e f (row-item l t m (row-item l′ t′ m′ r))) = record {
-    only = denotes-array {vs = item a no-items} {q = firstOf q} refl (omega arith) (row-item {vs = no-items} l t m (no-row-items {row = nextRow T (q .first)} l′));
+    only = denotes-array {vs = item a no-items} {q = firstOf q} refl (omega (arith, two-values)) (row-item {vs = no-items} l t m (no-row-items {row = nextRow T (q .first)} l′));
     second = m′;
     rest = r;
   }
