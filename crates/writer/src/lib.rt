@@ -21,7 +21,7 @@ pub enum Answer {
     OutputTooShort,
 }
 
-// Writes a value into the output, zeros behind its text; on a refusal zeros only. Its handle refers to the strings of the rule (`rule`), the
+// Writes a value into the output, zeros behind its text; on a refusal zeros only. Its handle refers to the strings of the rule, the
 // strings and the table of the record, and the cells of the heap, which may hold any bytes.
 pub fn write<'a>(
     rule_strings: &'a [u8],

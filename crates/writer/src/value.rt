@@ -91,7 +91,7 @@ fn write_compound<'a>(
     let inner = deep - 1;
     let start = at + 1;
     let others = left - 1;
-    let r = write_parts(
+    let Progress::At { at: end, left: l } = write_parts(
         rule_strings,
         record_strings,
         record_table,
@@ -101,18 +101,12 @@ fn write_compound<'a>(
         inner,
         start,
         others,
-    );
-    match r {
-        Progress::TooLarge => Progress::TooLarge,
-        Progress::At {
-            at: end,
-            left: rest,
-        } => {
-            // The closing byte is two after the opening one.
-            put_byte(output, end, open + 2);
-            up_to(end + 1, rest)
-        }
-    }
+    ) else {
+        return Progress::TooLarge;
+    };
+    // The closing byte is two after the opening one.
+    put_byte(output, end, open + 2);
+    up_to(end + 1, l)
 }
 
 // All parts of an array or object, with commas between them.
@@ -135,31 +129,24 @@ fn write_parts<'a>(
     let mut here = at;
     let mut more = left;
     while rest.count > 0 {
-        let part = head(record_table, cells, rest);
-        let next = tail(record_table, cells, rest);
         let start = put_front(record_strings, record_table, output, rest, comma, here);
-        let r = write_value(
+        let Progress::At { at: end, left: l } = write_value(
             rule_strings,
             record_strings,
             record_table,
             cells,
             output,
-            part,
+            head(record_table, cells, rest),
             deep,
             start,
             more,
-        );
-        match r {
-            Progress::TooLarge => {
-                return Progress::TooLarge;
-            }
-            Progress::At { at: end, left: l } => {
-                rest = next;
-                comma = true;
-                here = end;
-                more = l;
-            }
-        }
+        ) else {
+            return Progress::TooLarge;
+        };
+        rest = tail(record_table, cells, rest);
+        comma = true;
+        here = end;
+        more = l;
     }
     up_to(here, more)
 }

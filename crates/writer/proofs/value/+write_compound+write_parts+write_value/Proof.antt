@@ -74,7 +74,7 @@ abbrev write-compound-calls : ℕ → write-compound-lts.Claims
 write-compound-calls t = (opening-reads.Asked, opening-reads.Learnt, put-byte-reads.Asked, put-byte-reads.Learnt, write-parts-below t, write-parts.Post, up-to-reads.Asked, up-to-reads.Learnt)
 
 abbrev write-parts-calls : ℕ → write-parts-lts.Claims
-write-parts-calls t = (head-reads.Asked, head-reads.Learnt, tail-reads.Asked, tail-reads.Learnt, put-front-reads.Asked, put-front-reads.Learnt, write-value-below t, write-value.Post, up-to-reads.Asked, up-to-reads.Learnt)
+write-parts-calls t = (put-front-reads.Asked, put-front-reads.Learnt, head-reads.Asked, head-reads.Learnt, write-value-below t, write-value.Post, tail-reads.Asked, tail-reads.Learnt, up-to-reads.Asked, up-to-reads.Learnt)
 
 abbrev write-value-calls : ℕ → write-value-lts.Claims
 write-value-calls t = (put-scalar-reads.Asked, put-scalar-reads.Learnt, up-to-reads.Asked, up-to-reads.Learnt, write-compound-below t, write-compound.Post)
@@ -100,11 +100,17 @@ write-compound-sub-others t c = search needs
 write-compound-write-parts-requires : (t : ℕ) → write-compound-lts.Need-write-parts-requires (write-compound-calls t) (write-compound-at t) write-compound.Post
 write-compound-write-parts-requires t c κs = search needs
 
+write-compound-enum-known-end : (t : ℕ) → write-compound-lts.Need-enum-known-end (write-compound-calls t) (write-compound-at t) write-compound.Post
+write-compound-enum-known-end t c = search needs
+
 write-compound-enum-told : (t : ℕ) → write-compound-lts.Need-enum-told (write-compound-calls t) (write-compound-at t) write-compound.Post
 write-compound-enum-told t c = search needs
 
-write-compound-enum-known-r : (t : ℕ) → write-compound-lts.Need-enum-known-r (write-compound-calls t) (write-compound-at t) write-compound.Post
-write-compound-enum-known-r t c = search needs
+write-compound-same-length : (t : ℕ) → write-compound-lts.Need-same-length (write-compound-calls t) (write-compound-at t) write-compound.Post
+write-compound-same-length t c = search needs
+
+write-compound-returns-2 : (t : ℕ) → write-compound-lts.Need-returns-2 (write-compound-calls t) (write-compound-at t) write-compound.Post
+write-compound-returns-2 t c = compound-over (areas (c .before .before .before .before .before .before .before .before .before .before .before .before .before .before .before .before .before .args .rule-strings .now) (c .before .before .before .before .before .before .before .before .before .before .before .before .before .before .before .before .before .args .record-strings .now) (c .before .before .before .before .before .before .before .before .before .before .before .before .before .before .before .before .before .args .record-table .now) (c .before .before .before .before .before .before .before .before .before .before .before .before .before .before .before .before .before .args .cells .now)) (c .before .before .before .before .before .before .before .before .before .before .before .before .before .before .before .before .before .args .p) (c .before .before .before .before .before .before .before .before .before .before .before .before .before .before .before .before .before .args .deep) (c .before .before .before .before .before .before .before .before .before .before .before .before .before .before .before .before .before .args .left) (c .before .before .before .before .before .before .before .before .before .before .before .before .before .before .before .before .before .args .at) (omega (arith, c .before .before .before .before .before .before .before .before .before .before .before .if1 .left)) (c .before .before .before .before .before .before .before .before .before .before .before .before .before .before .before .before .before .pre .1 .1) (c .before .before .before .before .before .before .before .before .before .before .before .before .before .before .before .before .before .args .output .now) (c .before .before .before .before .before .before .before .before .put-byte .last .0) (c .before .before .before .before .before .before .before .before .before .before .opening .result) (c .before .before .before .before .before .before .before .before .before .before .opening .ensures) (c .before .before .before .before .before .before .before .before .put-byte .ensures) (c .before .before .before .before .write-parts .result) (c .before .before .before .before .write-parts .ensures) (c .enum-told .given .1)
 
 write-compound-add-put-byte : (t : ℕ) → write-compound-lts.Need-add-put-byte (write-compound-calls t) (write-compound-at t) write-compound.Post
 write-compound-add-put-byte t c = record { fits = omega (arith, c .before .before .before .before .before .before .before .before .before .before .before .before .opening .ensures, opening-small (c .before .before .before .before .before .before .before .before .before .before .before .before .before .before .before .before .before .before .before .args .p .form)) }
@@ -113,45 +119,39 @@ write-compound-put-byte-requires-2 : (t : ℕ) → write-compound-lts.Need-put-b
 write-compound-put-byte-requires-2 t c κs = search needs
 
 write-compound-add-up-to : (t : ℕ) → write-compound-lts.Need-add-up-to (write-compound-calls t) (write-compound-at t) write-compound.Post
-write-compound-add-up-to t c = record { fits = omega (arith, text-below, writes-short _ (c .before .before .before .before .before .before .before .before .before .write-parts .ensures .writes) (c .before .before .before .before .before .r .given .1)) }
+write-compound-add-up-to t c = record { fits = omega (arith, text-below, writes-short _ (c .before .before .before .before .before .before .before .before .before .write-parts .ensures .writes) (c .before .before .before .before .before .end .given .1)) }
 
 write-compound-up-to-requires : (t : ℕ) → write-compound-lts.Need-up-to-requires (write-compound-calls t) (write-compound-at t) write-compound.Post
 write-compound-up-to-requires t c κs = search needs
-
-write-compound-same-length : (t : ℕ) → write-compound-lts.Need-same-length (write-compound-calls t) (write-compound-at t) write-compound.Post
-write-compound-same-length t c = search needs
-
-write-compound-returns-2 : (t : ℕ) → write-compound-lts.Need-returns-2 (write-compound-calls t) (write-compound-at t) write-compound.Post
-write-compound-returns-2 t c = compound-over (areas (c .before .before .before .before .before .before .before .before .before .before .before .before .before .before .before .before .before .args .rule-strings .now) (c .before .before .before .before .before .before .before .before .before .before .before .before .before .before .before .before .before .args .record-strings .now) (c .before .before .before .before .before .before .before .before .before .before .before .before .before .before .before .before .before .args .record-table .now) (c .before .before .before .before .before .before .before .before .before .before .before .before .before .before .before .before .before .args .cells .now)) (c .before .before .before .before .before .before .before .before .before .before .before .before .before .before .before .before .before .args .p) (c .before .before .before .before .before .before .before .before .before .before .before .before .before .before .before .before .before .args .deep) (c .before .before .before .before .before .before .before .before .before .before .before .before .before .before .before .before .before .args .left) (c .before .before .before .before .before .before .before .before .before .before .before .before .before .before .before .before .before .args .at) (omega (arith, c .before .before .before .before .before .before .before .before .before .before .before .if1 .left)) (c .before .before .before .before .before .before .before .before .before .before .before .before .before .before .before .before .before .pre .1 .1) (c .before .before .before .before .before .before .before .before .before .before .before .before .before .before .before .before .before .args .output .now) (c .before .before .before .before .before .before .before .before .put-byte .last .0) (c .before .before .before .before .before .before .before .before .before .before .opening .result) (c .before .before .before .before .before .before .before .before .before .before .opening .ensures) (c .before .before .before .before .before .before .before .before .put-byte .ensures) (c .before .before .before .before .write-parts .result) (c .before .before .before .before .write-parts .ensures) (c .enum-told .given .1)
 
 write-compound-same-length-2 : (t : ℕ) → write-compound-lts.Need-same-length-2 (write-compound-calls t) (write-compound-at t) write-compound.Post
 write-compound-same-length-2 t c = search needs
 
 write-compound-returns-3 : (t : ℕ) → write-compound-lts.Need-returns-3 (write-compound-calls t) (write-compound-at t) write-compound.Post
-write-compound-returns-3 t c = compound-closes (areas (c .before .before .before .before .before .before .before .before .before .before .before .before .before .before .before .before .before .before .before .before .before .before .before .args .rule-strings .now) (c .before .before .before .before .before .before .before .before .before .before .before .before .before .before .before .before .before .before .before .before .before .before .before .args .record-strings .now) (c .before .before .before .before .before .before .before .before .before .before .before .before .before .before .before .before .before .before .before .before .before .before .before .args .record-table .now) (c .before .before .before .before .before .before .before .before .before .before .before .before .before .before .before .before .before .before .before .before .before .before .before .args .cells .now)) (c .before .before .before .before .before .before .before .before .before .before .before .before .before .before .before .before .before .before .before .before .before .before .before .args .p) (c .before .before .before .before .before .before .before .before .before .before .before .before .before .before .before .before .before .before .before .before .before .before .before .args .deep) (c .before .before .before .before .before .before .before .before .before .before .before .before .before .before .before .before .before .before .before .before .before .before .before .args .left) (c .before .before .before .before .before .before .before .before .before .before .before .before .before .before .before .before .before .before .before .before .before .before .before .args .at) (omega (arith, c .before .before .before .before .before .before .before .before .before .before .before .before .before .before .before .before .before .if1 .left)) (c .before .before .before .before .before .before .before .before .before .before .before .before .before .before .before .before .before .before .before .before .before .before .before .pre .1 .1) (c .before .before .before .before .before .before .before .before .before .before .before .before .before .before .before .before .before .before .before .before .before .before .before .args .output .now) (c .before .before .before .before .before .before .before .before .before .before .before .before .before .before .put-byte .last .0) (c .before .before .before .before .before .before .before .before .before .before .before .before .before .before .before .before .opening .result) (c .before .before .before .before .before .before .before .before .before .before .before .before .before .before .before .before .opening .ensures) (c .before .before .before .before .before .before .before .before .before .before .before .before .before .before .put-byte .ensures) (c .before .before .before .before .before .before .before .before .before .before .write-parts .result) (c .before .before .before .before .before .before .before .before .before .before .write-parts .ensures) (c .before .before .before .before .before .before .r .given .0 .0) (c .before .before .before .before .before .before .r .given .0 .1 .0) (c .up-to .result) (c .before .before .before .before .before .before .r .given .1) (c .before .before .before .put-byte2 .ensures) (c .up-to .ensures)
+write-compound-returns-3 t c = compound-closes (areas (c .before .before .before .before .before .before .before .before .before .before .before .before .before .before .before .before .before .before .before .before .before .before .before .args .rule-strings .now) (c .before .before .before .before .before .before .before .before .before .before .before .before .before .before .before .before .before .before .before .before .before .before .before .args .record-strings .now) (c .before .before .before .before .before .before .before .before .before .before .before .before .before .before .before .before .before .before .before .before .before .before .before .args .record-table .now) (c .before .before .before .before .before .before .before .before .before .before .before .before .before .before .before .before .before .before .before .before .before .before .before .args .cells .now)) (c .before .before .before .before .before .before .before .before .before .before .before .before .before .before .before .before .before .before .before .before .before .before .before .args .p) (c .before .before .before .before .before .before .before .before .before .before .before .before .before .before .before .before .before .before .before .before .before .before .before .args .deep) (c .before .before .before .before .before .before .before .before .before .before .before .before .before .before .before .before .before .before .before .before .before .before .before .args .left) (c .before .before .before .before .before .before .before .before .before .before .before .before .before .before .before .before .before .before .before .before .before .before .before .args .at) (omega (arith, c .before .before .before .before .before .before .before .before .before .before .before .before .before .before .before .before .before .if1 .left)) (c .before .before .before .before .before .before .before .before .before .before .before .before .before .before .before .before .before .before .before .before .before .before .before .pre .1 .1) (c .before .before .before .before .before .before .before .before .before .before .before .before .before .before .before .before .before .before .before .before .before .before .before .args .output .now) (c .before .before .before .before .before .before .before .before .before .before .before .before .before .before .put-byte .last .0) (c .before .before .before .before .before .before .before .before .before .before .before .before .before .before .before .before .opening .result) (c .before .before .before .before .before .before .before .before .before .before .before .before .before .before .before .before .opening .ensures) (c .before .before .before .before .before .before .before .before .before .before .before .before .before .before .put-byte .ensures) (c .before .before .before .before .before .before .before .before .before .before .write-parts .result) (c .before .before .before .before .before .before .before .before .before .before .write-parts .ensures) (c .before .before .before .before .before .before .end .given .0 .0) (c .before .before .before .before .before .before .end .given .0 .1 .0) (c .up-to .result) (c .before .before .before .before .before .before .end .given .1) (c .before .before .before .put-byte2 .ensures) (c .up-to .ensures)
 
 abbrev write-parts-Inv-loop : write-parts-lts.InvT-loop
-write-parts-Inv-loop rule strings table cells output₀ deep at left rest₀ comma₀ here₀ more₀ output rest comma here more =
-    PartsInv (areas rule strings table cells) rest₀ deep at left output₀ rest comma here more output
+write-parts-Inv-loop rule-strings record-strings record-table cells output₀ deep at left rest₀ comma₀ here₀ more₀ output rest comma here more =
+    PartsInv (areas rule-strings record-strings record-table cells) rest₀ deep at left output₀ rest comma here more output
 
 abbrev write-parts-μ-loop : write-parts-lts.MeasureT-loop
-write-parts-μ-loop rule strings table cells output₀ deep at left rest₀ comma₀ here₀ more₀ output rest comma here more =
+write-parts-μ-loop rule-strings record-strings record-table cells output₀ deep at left rest₀ comma₀ here₀ more₀ output rest comma here more =
     rest .count
 
 write-parts-loop-holds : (t : ℕ) → write-parts-lts.Need-loop-holds (write-parts-calls t) (write-parts-at t) write-parts.Post write-parts-Inv-loop write-parts-μ-loop
 write-parts-loop-holds t c = search needs
 
-write-parts-head-requires : (t : ℕ) → write-parts-lts.Need-head-requires (write-parts-calls t) (write-parts-at t) write-parts.Post write-parts-Inv-loop write-parts-μ-loop
-write-parts-head-requires t c κs = search needs
-
-write-parts-tail-requires : (t : ℕ) → write-parts-lts.Need-tail-requires (write-parts-calls t) (write-parts-at t) write-parts.Post write-parts-Inv-loop write-parts-μ-loop
-write-parts-tail-requires t c κs = search needs
-
 write-parts-put-front-requires : (t : ℕ) → write-parts-lts.Need-put-front-requires (write-parts-calls t) (write-parts-at t) write-parts.Post write-parts-Inv-loop write-parts-μ-loop
 write-parts-put-front-requires t c κs = search needs
 
+write-parts-head-requires : (t : ℕ) → write-parts-lts.Need-head-requires (write-parts-calls t) (write-parts-at t) write-parts.Post write-parts-Inv-loop write-parts-μ-loop
+write-parts-head-requires t c κs = search needs
+
 write-parts-write-value-requires : (t : ℕ) → write-parts-lts.Need-write-value-requires (write-parts-calls t) (write-parts-at t) write-parts.Post write-parts-Inv-loop write-parts-μ-loop
 write-parts-write-value-requires t c κs = search needs
+
+write-parts-enum-known-end : (t : ℕ) → write-parts-lts.Need-enum-known-end (write-parts-calls t) (write-parts-at t) write-parts.Post write-parts-Inv-loop write-parts-μ-loop
+write-parts-enum-known-end t c = search needs
 
 write-parts-enum-told : (t : ℕ) → write-parts-lts.Need-enum-told (write-parts-calls t) (write-parts-at t) write-parts.Post write-parts-Inv-loop write-parts-μ-loop
 write-parts-enum-told t c = search needs
@@ -160,16 +160,16 @@ write-parts-same-length : (t : ℕ) → write-parts-lts.Need-same-length (write-
 write-parts-same-length t c = search needs
 
 write-parts-returns : (t : ℕ) → write-parts-lts.Need-returns (write-parts-calls t) (write-parts-at t) write-parts.Post write-parts-Inv-loop write-parts-μ-loop
-write-parts-returns t c = parts-stop (c .before .before .before .before .before .before .before .before .before .before .before .before .before .before .loop .inv) (omega (arith, c .before .before .before .before .before .before .before .before .before .before .before .before .if1 .taken)) (c .before .before .before .before .before .before .before .before .put-front .ensures) (c .before .before .before .before .before .before .before .before .before .before .before .head .result) (c .before .before .before .before .before .before .before .before .before .before .before .head .ensures) (c .before .before .before .before .write-value .result) (c .before .before .before .before .write-value .ensures) (c .enum-told .given .1)
+write-parts-returns t c = parts-stop (c .before .before .before .before .before .before .before .before .before .before .before .before .before .loop .inv) (omega (arith, c .before .before .before .before .before .before .before .before .before .before .before .if1 .taken)) (c .before .before .before .before .before .before .before .before .before .put-front .ensures) (c .before .before .before .before .before .head .result) (c .before .before .before .before .before .head .ensures) (c .before .before .before .before .write-value .result) (c .before .before .before .before .write-value .ensures) (c .enum-told .given .1)
 
-write-parts-enum-known-r : (t : ℕ) → write-parts-lts.Need-enum-known-r (write-parts-calls t) (write-parts-at t) write-parts.Post write-parts-Inv-loop write-parts-μ-loop
-write-parts-enum-known-r t c = search needs
+write-parts-tail-requires : (t : ℕ) → write-parts-lts.Need-tail-requires (write-parts-calls t) (write-parts-at t) write-parts.Post write-parts-Inv-loop write-parts-μ-loop
+write-parts-tail-requires t c κs = search needs
 
 write-parts-loop-less : (t : ℕ) → write-parts-lts.Need-loop-less (write-parts-calls t) (write-parts-at t) write-parts.Post write-parts-Inv-loop write-parts-μ-loop
-write-parts-loop-less t c = omega (arith, c .before .before .before .before .before .before .before .before .before .before .before .before .before .if1 .taken, ap (λ x. x .count) (c .before .before .before .before .before .before .before .before .before .before .before .tail .ensures))
+write-parts-loop-less t c = omega (arith, c .before .before .before .before .before .before .before .before .before .before .before .before .before .if1 .taken, ap (λ x. x .count) (c .tail .ensures))
 
 write-parts-loop-again : (t : ℕ) → write-parts-lts.Need-loop-again (write-parts-calls t) (write-parts-at t) write-parts.Post write-parts-Inv-loop write-parts-μ-loop
-write-parts-loop-again t c = parts-next (c .before .before .before .before .before .before .before .before .before .before .before .before .before .before .before .loop .inv) (omega (arith, c .before .before .before .before .before .before .before .before .before .before .before .before .before .if1 .taken)) (c .before .before .before .before .before .before .before .before .before .put-front .ensures) (c .before .before .before .before .before .before .before .before .before .before .before .before .head .result) (c .before .before .before .before .before .before .before .before .before .before .before .before .head .ensures) (c .before .before .before .before .before .write-value .result) (c .before .before .before .before .before .write-value .ensures) (c .before .r .given .0 .0) (c .before .r .given .0 .1 .0) (c .before .before .before .before .before .before .before .before .before .before .before .tail .result) (c .before .r .given .1) (c .before .before .before .before .before .before .before .before .before .before .before .tail .ensures) (omega (arith, c .before .before .before .before .before .write-value .kept, c .before .before .before .before .before .before .before .before .before .put-front .kept, c .before .before .before .before .before .before .before .before .before .before .before .before .before .before .before .loop .inv .size))
+write-parts-loop-again t c = parts-next (c .before .before .before .before .before .before .before .before .before .before .before .before .before .before .before .loop .inv) (omega (arith, c .before .before .before .before .before .before .before .before .before .before .before .before .before .if1 .taken)) (c .before .before .before .before .before .before .before .before .before .before .before .put-front .ensures) (c .before .before .before .before .before .before .before .head .result) (c .before .before .before .before .before .before .before .head .ensures) (c .before .before .before .before .before .before .write-value .result) (c .before .before .before .before .before .before .write-value .ensures) (c .before .before .end .given .0 .0) (c .before .before .end .given .0 .1 .0) (c .tail .result) (c .before .before .end .given .1) (c .tail .ensures) (omega (arith, c .before .before .before .before .before .before .write-value .kept, c .before .before .before .before .before .before .before .before .before .before .before .put-front .kept, c .before .before .before .before .before .before .before .before .before .before .before .before .before .before .before .loop .inv .size))
 
 write-parts-up-to-requires : (t : ℕ) → write-parts-lts.Need-up-to-requires (write-parts-calls t) (write-parts-at t) write-parts.Post write-parts-Inv-loop write-parts-μ-loop
 write-parts-up-to-requires t c κs = search needs
@@ -228,14 +228,14 @@ pub +write-compound+write-parts+write-value-spec : {M : Type 1} → statement M
     (write-compound-add-start t)
     (write-compound-sub-others t)
     (write-compound-write-parts-requires t)
+    (write-compound-enum-known-end t)
     (write-compound-enum-told t)
-    (write-compound-enum-known-r t)
+    (write-compound-same-length t)
+    (write-compound-returns-2 t)
     (write-compound-add-put-byte t)
     (write-compound-put-byte-requires-2 t)
     (write-compound-add-up-to t)
     (write-compound-up-to-requires t)
-    (write-compound-same-length t)
-    (write-compound-returns-2 t)
     (write-compound-same-length-2 t)
     (write-compound-returns-3 t))
     (λ t. write-parts-lts.spec (write-parts-calls t)
@@ -244,14 +244,14 @@ pub +write-compound+write-parts+write-value-spec : {M : Type 1} → statement M
     write-parts-Inv-loop
     write-parts-μ-loop
     (write-parts-loop-holds t)
-    (write-parts-head-requires t)
-    (write-parts-tail-requires t)
     (write-parts-put-front-requires t)
+    (write-parts-head-requires t)
     (write-parts-write-value-requires t)
+    (write-parts-enum-known-end t)
     (write-parts-enum-told t)
     (write-parts-same-length t)
     (write-parts-returns t)
-    (write-parts-enum-known-r t)
+    (write-parts-tail-requires t)
     (write-parts-loop-less t)
     (write-parts-loop-again t)
     (write-parts-up-to-requires t)
