@@ -1,12 +1,9 @@
-pub mod Cells
+-- Laws for the proofs of the crate eval.
+pub mod Bounds
+pub mod Frames
+pub mod Arguments
 pub mod Rows
-pub mod Rules
-pub mod Branch
-pub mod And
-pub mod Fold
-pub mod Reduce
-pub mod Stack
-pub mod All
-pub mod Apply
-pub mod Body
+pub mod Taken
+pub mod Begun
+pub mod Steps
 pub mod Whole

@@ -1,16 +1,18 @@
--- Whole: a whole evaluation, with its answer written.
-use mathlib.Core.Path.{_≡_, ap, _∙_}
-use Prim.Native.Nat.{ℕ, _-_}
+-- Whole: a whole evaluation, and its answer written.
+use mathlib.Core.Path.{_≡_, sym, ap, _∙_}
+use Prim.Native.Nat.{ℕ, _+_, _*_, _-_, _≤_}
 use native.Mathlib.Omega.{arith}
 use lib.ListN.{length}
 use Rattle.area.specs.Laws.{zeroFrom-all}
 use Rattle.area.specs.Words.{zeroFrom}
 use Rattle.model.specs.Bytes.{Bytes}
-use Rattle.model.specs.Eval.{value, refusal, outcome, run}
+use Rattle.model.specs.Eval as models
+use Rattle.model.specs.Eval.{outcome, run}
 use Rattle.model.specs.EvalPlain.{denies, evalPlain, plainOutcome, left}
+use Rattle.model.specs.Laws.Logic.{clash}
 use Rattle.model.specs.Laws.Plain.{plain-agrees}
 use Rattle.model.specs.Limits.{maxNesting, maxSteps, heapCells}
-use Rattle.model.specs.Refusal.{evalNumber}
+use Rattle.model.specs.Refusal.{EvalFault, evalNumber}
 use Rattle.model.specs.Rule.{Rule}
 use Rattle.model.specs.Run.{steps}
 use Rattle.model.specs.Value.{Value}
@@ -23,50 +25,91 @@ use Rattle.heap.specs.Unfold.{areas}
 use Rattle.operate.specs.declared.ended.Ended.{Ended}
 use Rattle.operate.specs.declared.ended.Ended.the-variants.{Gives, Denies}
 use Rattle.operate.specs.declared.ended.Fault.{Fault}
-use Rattle.operate.specs.Ended.{faultOf, EndsAs}
+use Rattle.operate.specs.declared.ended.State.{State}
+use Rattle.operate.specs.Ended.{faultOf, state, EndsAs}
 use Rattle.operate.specs.Laws.Ends.{got, failed}
 use Rattle.rule.specs.Holds.{Holds}
 use Rattle.writer.specs.declared.Answer as writing
 use Rattle.writer.specs.Contract.{answered, handleWritten}
 use Rattle.eval.specs.declared.Answer.{Answer}
-use Rattle.eval.specs.Contract.{Room, Evals}
+use Rattle.eval.specs.declared.Outcome.{Outcome}
+use Rattle.eval.specs.declared.Outcome.the-variants as Outcomes
+use Rattle.eval.specs.declared.task.Task.{Task}
+use Rattle.eval.specs.Contract.{Reached, reached-value, reached-refusal, Reaches}
 use Rattle.eval.specs.Evaluate.{Ready, evaluation, evaluated, Evaluates, writtenAnswer}
+use Rattle.eval.specs.Inner.{Room, Evals, task}
+
+-- ---- the run
+-- The whole rule on the whole record.
+abbrev pub whole : Bytes → ℕ → Task
+whole R limit = task 0 (rowHandle R 0) (state limit 0 heapCells maxNesting)
+
+pub whole-task : (R : Bytes) (limit : ℕ) (t : Task) (h : Handle) (s : State) → t ≡ task 0 h s → h ≡ rowHandle R 0 → s ≡ state limit 0 heapCells maxNesting → t ≡ whole R limit
+whole-task R limit t h s e f g = e ∙ (λ i. task 0 (f i) (g i))
 
 -- Cells for every step that a limit allows.
-pub whole-room : {T A R B C : Bytes} {limit : ℕ} → Ready T A R B C limit → Room C limit 0 heapCells
+pub whole-room : {T A R B C : Bytes} {limit : ℕ} (t : Task) → Ready T A R B C limit → t ≡ whole R limit → Room C 0 0 (t .state)
 unfolding maxSteps heapCells
-whole-room r = record { fits = omega (arith, r .limited); within = omega arith; enough = r .enough }
+whole-room t r e = rw e (record { fits = omega (arith, r .limited); within = omega arith; enough = r .enough })
+
+top-fits : (top left limit : ℕ) → limit ≤ maxSteps → top + 2 * left + 2 ≤ 0 + 2 * limit → top ≤ heapCells
+unfolding maxSteps heapCells
+top-fits top left limit l b = omega arith
 
 -- The steps that are left tell those begun.
 begun-of : (ρ : Rule) (κ : Value) (limit l : ℕ) → left (evalPlain ρ κ limit) ≡ l → steps (run ρ κ limit) ≡ limit - l
 begun-of ρ κ limit l e = omega (arith, plain-agrees ρ κ limit .1, e)
 
-module _ {T A R B C : Bytes} {limit : ℕ} {r : Ended} {C₁ : Bytes} {h ctx : Handle} (is-rule : h ≡ rowHandle T 0) (is-record : ctx ≡ rowHandle R 0)
-    (e : Evals T A R B C h ctx maxNesting limit 0 heapCells r C₁) where
-  ends : (ρ : Rule) (κ : Value) → Holds T A maxNesting (rowHandle T 0) ρ → Means (areas A B R C) 0 κ (rowHandle R 0) → EndsAs (areas A B R C₁) (evalPlain ρ κ limit) r
-  ends ρ κ k m = e .evals ρ κ (rw is-rule k) (rw is-record m)
+module _ {T A R B C : Bytes} {limit : ℕ} {e : Ended} {C₁ : Bytes} (t : Task) (is-task : t ≡ whole R limit) (ready : Ready T A R B C limit) (d : Evals T A R B C t e C₁) where
+  evals : Evals T A R B C (whole R limit) e C₁
+  evals = rw is-task at d
+
+  pub left-less : (f : Fault) (l : ℕ) → e ≡ Denies f l → l ≤ limit
+  left-less f l q = evals .bound .stops f l q
+
+  pub left-over : (h : Handle) (u : State) → e ≡ Gives h u → u .left ≤ limit
+  left-over h u q = omega (arith, evals .bound .spends h u q)
 
   -- Refused.
-  pub whole-stops : (f : Fault) (l : ℕ) (O : Bytes) {O′ C′ : Bytes} (n : ℕ) → r ≡ Denies f l → C′ ≡ zeroFrom 0 C₁ → O′ ≡ zeroFrom 0 O → n ≡ evalNumber (faultOf f)
-      → Evaluates T A R B C limit O (record { refusal = n; steps = limit - l; size = 0 }) C′ O′
-  whole-stops f l O {O′} {C′} n d c o is-number = record { is = go }
-    where
-      go : (ρ : Rule) (κ : Value) → Holds T A maxNesting (rowHandle T 0) ρ → Means (areas A B R C) 0 κ (rowHandle R 0) → evaluated (record { refusal = n; steps = limit - l; size = 0 }) C′ O′ ≡ evaluation ρ κ limit (length C) (length O)
-      go ρ κ k m =
-          let p : evalPlain ρ κ limit ≡ denies (faultOf f) l = failed (ends ρ κ k m) d in
-          let q : outcome (run ρ κ limit) ≡ refusal (faultOf f) = plain-agrees ρ κ limit .0 ∙ ap plainOutcome p in
-          let s : steps (run ρ κ limit) ≡ limit - l = begun-of ρ κ limit l (ap left p) in
-          rw (q, s, c, o, is-number, zeroFrom-all C₁, zeroFrom-all O, e .runs .same .size)
+  pub whole-stops : (f : Fault) (l : ℕ) (n k : ℕ) → e ≡ Denies f l → n ≡ evalNumber (faultOf f) → k ≡ limit - l → Reaches T A R B C limit (Outcomes.Refused n k) C₁
+  whole-stops f l n k q is-number is-steps = record {
+    size = evals .same .size;
+    reaches = λ ρ κ x m.
+        let p : evalPlain ρ κ limit ≡ denies (faultOf f) l = failed (evals .evals ρ κ x (heap.node-means (areas A B R C) 0 κ _ m)) q in
+        let s : steps (run ρ κ limit) ≡ limit - l = begun-of ρ κ limit l (ap left p) in
+        reached-refusal {e = faultOf f} (plain-agrees ρ κ limit .0 ∙ ap plainOutcome p) (rw (s, is-number, is-steps));
+  }
 
-  -- Written, or not.
-  pub whole-writes : (v : Handle) (l t : ℕ) (O : Bytes) {O′ C′ : Bytes} (w : writing.Answer) (a : Answer) → r ≡ Gives v l t → C′ ≡ zeroFrom 0 C₁ → answered w O′ ≡ handleWritten (areas A B R C₁) v (length O)
-      → a ≡ writtenAnswer w (limit - l) → Evaluates T A R B C limit O a C′ O′
-  whole-writes v l t O {O′} {C′} w a d c o is-answer = record { is = go }
+  -- With a value.
+  pub whole-gives : (h : Handle) (u : State) (k : ℕ) → e ≡ Gives h u → k ≡ limit - u .left → Reaches T A R B C limit (Outcomes.Value h k) C₁
+  whole-gives h u k q is-steps = record {
+    size = evals .same .size;
+    reaches = λ ρ κ x m.
+        let g = got (evals .evals ρ κ x (heap.node-means (areas A B R C) 0 κ _ m)) q in
+        let s : steps (run ρ κ limit) ≡ limit - u .left = begun-of ρ κ limit (u .left) (ap left (g .is)) in
+        reached-value {v = g .value} {h = h} {top = u .top} (plain-agrees ρ κ limit .0 ∙ ap plainOutcome (g .is)) (rw (s, is-steps)) (g .means) (top-fits (u .top) (u .left) limit (ready .limited) (evals .bound .spends h u q));
+  }
+
+-- ---- its answer
+module _ {T A R B C : Bytes} {limit : ℕ} {r : Outcome} {C₁ : Bytes} (d : Reaches T A R B C limit r C₁) where
+  pub answer-refused : (n k : ℕ) (O : Bytes) {O′ C′ : Bytes} (a : Answer) → r ≡ Outcomes.Refused n k → C′ ≡ zeroFrom 0 C₁ → O′ ≡ zeroFrom 0 O → a ≡ record { refusal = n; steps = k; size = 0 } → Evaluates T A R B C limit O a C′ O′
+  answer-refused n k O {O′} {C′} a q c o is-answer = record { is = λ ρ κ x m. go ρ κ (d .reaches ρ κ x m) }
     where
-      go : (ρ : Rule) (κ : Value) → Holds T A maxNesting (rowHandle T 0) ρ → Means (areas A B R C) 0 κ (rowHandle R 0) → evaluated a C′ O′ ≡ evaluation ρ κ limit (length C) (length O)
-      go ρ κ k m =
-          let g = got (ends ρ κ k m) d in
-          let q : outcome (run ρ κ limit) ≡ value (g .value) = plain-agrees ρ κ limit .0 ∙ ap plainOutcome (g .is) in
-          let s : steps (run ρ κ limit) ≡ limit - l = begun-of ρ κ limit l (ap left (g .is)) in
-          let x : answered w O′ ≡ valueWritten (g .value) (length O) = o ∙ ap (λ j. writeInto j (length O)) (heap.written (areas A B R C₁) t (g .value) v (length O) (g .means)) in
-          rw (q, s, c, is-answer, zeroFrom-all C₁, e .runs .same .size, ← x)
+      go : (ρ : Rule) (κ : Value) → Reached (areas A B R C₁) (run ρ κ limit) r → evaluated a C′ O′ ≡ evaluation ρ κ limit (length C) (length O)
+      go ρ κ (reached-value f g m l) = clash cc
+      go ρ κ (reached-refusal {e = e} f g) =
+          let x : evalNumber e ≡ n = cc in
+          let y : steps (run ρ κ limit) ≡ k = cc in
+          rw (f, y, c, o, is-answer, ← x, zeroFrom-all C₁, zeroFrom-all O, d .size)
+
+  pub answer-written : (h : Handle) (k : ℕ) (O : Bytes) {O′ C′ : Bytes} (w : writing.Answer) (a : Answer) → r ≡ Outcomes.Value h k → C′ ≡ zeroFrom 0 C₁ → answered w O′ ≡ handleWritten (areas A B R C₁) h (length O)
+      → a ≡ writtenAnswer w k → Evaluates T A R B C limit O a C′ O′
+  answer-written h k O {O′} {C′} w a q c o is-answer = record { is = λ ρ κ x m. go ρ κ (d .reaches ρ κ x m) }
+    where
+      go : (ρ : Rule) (κ : Value) → Reached (areas A B R C₁) (run ρ κ limit) r → evaluated a C′ O′ ≡ evaluation ρ κ limit (length C) (length O)
+      go ρ κ (reached-refusal f g) = clash cc
+      go ρ κ (reached-value {v = v} {h = h₁} {top = top} f g m l) =
+          let x : h₁ ≡ h = cc in
+          let y : steps (run ρ κ limit) ≡ k = cc in
+          let z : answered w O′ ≡ valueWritten v (length O) = o ∙ ap (λ j. writeInto j (length O)) (heap.written (areas A B R C₁) top v h (length O) (rw (← x) m)) in
+          rw (f, y, c, is-answer, zeroFrom-all C₁, d .size, ← z)

@@ -9,10 +9,9 @@ use Rattle.model.specs.Rule.{Rule}
 use Rattle.model.specs.Value.{Value}
 use Rattle.syntax.specs.Output.{WriteAnswer, writeInto}
 use Rattle.heap.specs.Cells.{cellBytes}
-use Rattle.heap.specs.Handles.{rowHandle}
-use Rattle.heap.specs.Means.{Means}
-use Rattle.heap.specs.Unfold.{areas}
 use Rattle.rule.specs.Holds.{Holds}
+use Rattle.table.specs.Denotes.{Denotes}
+use Rattle.table.specs.Node.{nodeAt}
 use Rattle.writer.specs.declared.Answer as writing
 use Rattle.writer.specs.Contract.{answerNumber, answerLength}
 use Rattle.eval.specs.declared.Answer.{Answer}
@@ -20,9 +19,9 @@ use Rattle.eval.specs.declared.Answer.{Answer}
 -- The areas hold a rule and a value, the limit is one of 01's, and there are cells enough.
 pub record Ready (T A R B C : Bytes) (limit : ℕ) : Type 0 where
   pub rule : Rule
-  pub holds : Holds T A maxNesting (rowHandle T 0) rule
+  pub holds : Holds T A maxNesting 0 rule
   pub value : Value
-  pub means : Means (areas A B R C) 0 value (rowHandle R 0)
+  pub denotes : Denotes R B value (nodeAt R 0)
   pub limited : limit ≤ maxSteps
   pub enough : heapCells ≤ length C / cellBytes
 
@@ -44,8 +43,8 @@ evaluated r C O = record { written = record { refusal = r .refusal; size = r .si
 pub record Evaluates (T A R B C : Bytes) (limit : ℕ) (O : Bytes) (r : Answer) (C′ O′ : Bytes) : Type 0 where
   pub is :
       (ρ : Rule) (κ : Value)
-      → Holds T A maxNesting (rowHandle T 0) ρ
-      → Means (areas A B R C) 0 κ (rowHandle R 0)
+      → Holds T A maxNesting 0 ρ
+      → Denotes R B κ (nodeAt R 0)
       → evaluated r C′ O′ ≡ evaluation ρ κ limit (length C) (length O)
 
 -- The answer once the value is written, or not.

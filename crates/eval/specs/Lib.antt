@@ -1,3 +1,4 @@
--- The evaluator's private contracts.
-pub mod Contract
+-- What `evaluate` and `value` promise, and the evaluator's private contracts.
 pub mod Evaluate
+pub mod Contract
+pub mod Inner

@@ -1,6 +1,9 @@
 // The evaluator: a rule on a record, both as reading left them, under a step limit; and its answer, written.
 use crate::run::eval;
+use crate::task::operand;
+use crate::task::state;
 use area::clear_from;
+use heap::handle::Handle;
 use heap::handle::load;
 use model::HEAP_CELLS;
 use model::MAX_NESTING;
@@ -11,15 +14,25 @@ use writer::write;
 ghost use mathlib.Core.Path.{_≡_};
 ghost use Rattle.model.specs.Refusal.{evalNumber};
 ghost use Rattle.operate.specs.Ended.{faultOf};
+ghost use Rattle.eval.specs.Contract.{Reaches};
 ghost use Rattle.eval.specs.Evaluate.{Ready, Evaluates, writtenAnswer};
 
 mod run;
+mod start;
+mod take;
+mod task;
 
 // A refusal's number, or 0; the steps begun; the length of the answer's text.
 pub struct Answer {
     pub refusal: u32,
     pub steps: usize,
     pub size: usize,
+}
+
+// A value, or a refusal's number; and the steps begun.
+pub enum Outcome {
+    Value(Handle, usize),
+    Refused(u32, usize),
 }
 
 fn number(fault: Fault) -> u32
@@ -33,49 +46,75 @@ fn number(fault: Fault) -> u32
     }
 }
 
-// Evaluates a rule, in its table and strings (`literals`), on a record, in its table and strings, under a limit. The answer's text goes into the
-// output, zeros behind it; on a refusal zeros only. The cells are zero afterwards.
+// The value of a rule, in its table and strings, on a record, in its table and strings, under a limit. The value's handle refers to the cells
+// as they are then.
+pub fn value<'a>(
+    rule_table: &[u8],
+    rule_strings: &'a [u8],
+    record_table: &[u8],
+    record_strings: &'a [u8],
+    cells: &mut [u8],
+    limit: usize,
+) -> Outcome
+    requires { ⌜ Ready (now «rule_table») (now «rule_strings») (now «record_table») (now «record_strings») (now cells) limit ⌝ }
+    ensures { λ r. ⌜ Reaches (now («rule_table» .entry)) (now («rule_strings» .entry)) (now («record_table» .entry)) (now («record_strings» .entry)) (now (cells .entry)) limit r (now (cells .exit)) ⌝ }
+{
+    let s = state(limit, 0, HEAP_CELLS, MAX_NESTING);
+    let task = operand(0, load(record_table, 0), s);
+    match eval(
+        rule_table,
+        rule_strings,
+        record_table,
+        record_strings,
+        cells,
+        task,
+    ) {
+        Ended::Denies(fault, left) => Outcome::Refused(number(fault), limit - left),
+        Ended::Gives(h, t) => Outcome::Value(h, limit - t.left),
+    }
+}
+
+// Evaluates a rule on a record. The answer's text goes into the output, zeros behind it; on a refusal zeros only. The cells are zero afterwards.
 pub fn evaluate<'a>(
-    rule: &[u8],
-    literals: &'a [u8],
-    table: &[u8],
-    strings: &'a [u8],
+    rule_table: &[u8],
+    rule_strings: &'a [u8],
+    record_table: &[u8],
+    record_strings: &'a [u8],
     cells: &mut [u8],
     limit: usize,
     output: &mut [u8],
 ) -> Answer
-    requires { ⌜ Ready (now rule) (now literals) (now table) (now strings) (now cells) limit ⌝ }
-    ensures { λ r. ⌜ Evaluates (now (rule .entry)) (now (literals .entry)) (now (table .entry)) (now (strings .entry)) (now (cells .entry)) limit (now (output .entry)) r (now (cells .exit)) (now (output .exit)) ⌝ }
+    requires { ⌜ Ready (now «rule_table») (now «rule_strings») (now «record_table») (now «record_strings») (now cells) limit ⌝ }
+    ensures { λ r. ⌜ Evaluates (now («rule_table» .entry)) (now («rule_strings» .entry)) (now («record_table» .entry)) (now («record_strings» .entry)) (now (cells .entry)) limit (now (output .entry)) r (now (cells .exit)) (now (output .exit)) ⌝ }
 {
-    let h = load(rule, 0);
-    let context = load(table, 0);
-    match eval(
-        rule,
-        literals,
-        table,
-        strings,
+    match value(
+        rule_table,
+        rule_strings,
+        record_table,
+        record_strings,
         cells,
-        h,
-        context,
-        MAX_NESTING,
         limit,
-        0,
-        HEAP_CELLS,
     ) {
-        Ended::Denies(fault, left) => {
+        Outcome::Refused(refusal, steps) => {
             clear_from(cells, 0);
             clear_from(output, 0);
-            Answer {
-                refusal: number(fault),
-                steps: limit - left,
-                size: 0,
-            }
+            refused(refusal, steps)
         }
-        Ended::Gives(value, left, _) => {
-            let w = write(literals, strings, table, cells, value, output);
+        Outcome::Value(h, steps) => {
+            let w = write(rule_strings, record_strings, record_table, cells, h, output);
             clear_from(cells, 0);
-            written(w, limit - left)
+            written(w, steps)
         }
+    }
+}
+
+fn refused(refusal: u32, steps: usize) -> Answer
+    ensures { λ r. ⌜ r ≡ record { refusal = refusal; steps = steps; size = 0 } ⌝ }
+{
+    Answer {
+        refusal,
+        steps,
+        size: 0,
     }
 }
 
@@ -88,15 +127,7 @@ fn written(w: Written, steps: usize) -> Answer
             steps,
             size,
         },
-        Written::TooLarge => Answer {
-            refusal: 11,
-            steps,
-            size: 0,
-        },
-        Written::OutputTooShort => Answer {
-            refusal: 12,
-            steps,
-            size: 0,
-        },
+        Written::TooLarge => refused(11, steps),
+        Written::OutputTooShort => refused(12, steps),
     }
 }

@@ -1,5 +1,5 @@
--- Operations: each operation on the operands that stand on the stack.
-use mathlib.Core.Path.{_≡_, refl}
+-- Operations: each operation on the operands that stand on the stack, but that of an array.
+use mathlib.Core.Path.{_≡_, refl, _∙_}
 use Prim.Native.Nat.{ℕ}
 use native.Mathlib.Omega.{arith}
 use Rattle.model.specs.Bytes.{Bytes}
@@ -14,16 +14,24 @@ use Rattle.heap.specs.declared.handle.Handle.{Handle}
 use Rattle.heap.specs.Blocks.{MeansEach, no-handles, handle-item}
 use Rattle.heap.specs.Means.{Means}
 use Rattle.heap.specs.Unfold.{Areas, areas}
+use Rattle.keywords.specs.declared.Op.{Op}
 use Rattle.keywords.specs.declared.Op.the-variants as Ops
-use Rattle.keywords.specs.Keyword.{Stands, stands-array, stands-equal, stands-member-of, stands-plus, stands-not, stands-date-of-birth, stands-compare, stands-plus-time, stands-extract}
-use Rattle.keywords.specs.Laws.Stands.{not-if, not-and, not-reduce}
+use Rattle.keywords.specs.Keyword.{Stands, stands-equal, stands-member-of, stands-plus, stands-not, stands-date-of-birth, stands-compare, stands-plus-time, stands-extract}
 use Rattle.result.specs.declared.Operated.{Operated}
 use Rattle.result.specs.Gives.{Gives}
 use Rattle.scalars.specs.Contract.{Negated, Equality, Membership, Sum, Compared, ComparedThree}
 use Rattle.uvci.specs.Contract.{Extracts}
-use Rattle.operate.specs.Contract.{Operates}
 use Rattle.operate.specs.Inner.{Compares}
-use Rattle.operate.specs.Stack.{stackCell, stackedFrom, stacked}
+use Rattle.operate.specs.Laws.Stack.{first-cell}
+use Rattle.operate.specs.Stack.{stackCell, firstCell, stackedFrom, stacked}
+
+-- What an operation gives on the values of the operands on the stack.
+pub record Operates (A B T C : Bytes) (op : Op) (bottom count : ℕ) (r : Operated) : Type 0 where
+  pub gives :
+      (top : ℕ) (o : Operation) (vs : Values)
+      → Stands op o count
+      → MeansEach (areas A B T C) top vs (stacked C bottom count)
+      → Gives (areas A B T C) top (operate o vs) r
 
 -- ---- one, two and three operands
 record One (a : Areas) (top : ℕ) (C : Bytes) (bottom : ℕ) (vs : Values) : Type 0 where
@@ -83,68 +91,52 @@ module _ {C : Bytes} {d : Domain} {c : Comparison} {bottom count : ℕ} {x y : H
 
 -- ---- each operation
 module _ {A B T C : Bytes} {bottom count : ℕ} {r : Operated} where
-  -- What stands for none of these operations is never seen.
-  pub never-array : Operates A B T C Ops.Array bottom count r
-  never-array = record { gives = λ top o vs s n m. go vs s n }
-    where
-      go : {o : Operation} {top : ℕ} (vs : Values) → Stands Ops.Array o count → (o ≡ Operation.array → ⊥) → Gives (areas A B T C) top (operate o vs) r
-      go vs stands-array n = absurd (n refl)
-
-  pub never-if : Operates A B T C Ops.If bottom count r
-  never-if = record { gives = λ top o vs s n m. absurd (not-if Ops.If s refl) }
-
-  pub never-and : Operates A B T C Ops.And bottom count r
-  never-and = record { gives = λ top o vs s n m. absurd (not-and Ops.And s refl) }
-
-  pub never-reduce : Operates A B T C Ops.Reduce bottom count r
-  never-reduce = record { gives = λ top o vs s n m. absurd (not-reduce Ops.Reduce s refl) }
-
   pub of-comparison : {d : Domain} {c : Comparison} → Compares C d c bottom count r → Operates A B T C (Ops.Compare d c) bottom count r
-  of-comparison {d} {c} f = record { gives = λ top o vs s n m. go top vs s m }
+  of-comparison {d} {c} f = record { gives = λ top o vs s m. go top vs s m }
     where
       go : {o : Operation} (top : ℕ) (vs : Values) → Stands (Ops.Compare d c) o count → MeansEach (areas A B T C) top vs (stacked C bottom count) → Gives (areas A B T C) top (operate o vs) r
       go top vs (stands-compare l k) m = f .gives (areas A B T C) top vs l k m
 
-  module _ {x : Handle} (is-x : x ≡ stackCell C bottom 0) where
+  module _ {x : Handle} (is-first : x ≡ firstCell C bottom count) where
     pub of-not : Negated x r → Operates A B T C Ops.Not bottom count r
-    of-not f = record { gives = λ top o vs s n m. go top vs s m }
+    of-not f = record { gives = λ top o vs s m. go top vs s m }
       where
         go : {o : Operation} (top : ℕ) (vs : Values) → Stands Ops.Not o count → MeansEach (areas A B T C) top vs (stacked C bottom count) → Gives (areas A B T C) top (operate o vs) r
-        go top vs (stands-not e) m = let t = one C bottom count e m in rw (t .is) (f .gives (areas A B T C) top (t .first) (rw is-x (t .means)))
+        go top vs (stands-not e) m = let t = one C bottom count e m in rw (t .is) (f .gives (areas A B T C) top (t .first) (rw (is-first ∙ first-cell C bottom count (omega arith)) (t .means)))
 
     pub of-birth : Born A B x r → Operates A B T C Ops.DateOfBirth bottom count r
-    of-birth f = record { gives = λ top o vs s n m. go top vs s m }
+    of-birth f = record { gives = λ top o vs s m. go top vs s m }
       where
         go : {o : Operation} (top : ℕ) (vs : Values) → Stands Ops.DateOfBirth o count → MeansEach (areas A B T C) top vs (stacked C bottom count) → Gives (areas A B T C) top (operate o vs) r
-        go top vs (stands-date-of-birth e) m = let t = one C bottom count e m in rw (t .is) (f .gives T C top (t .first) (rw is-x (t .means)))
+        go top vs (stands-date-of-birth e) m = let t = one C bottom count e m in rw (t .is) (f .gives T C top (t .first) (rw (is-first ∙ first-cell C bottom count (omega arith)) (t .means)))
 
     pub of-shift : (n : ℕ) {u : TimeUnit} → Shifts A B n u x r → Operates A B T C (Ops.PlusTime n u) bottom count r
-    of-shift k {u} f = record { gives = λ top o vs s n m. go top vs s m }
+    of-shift k {u} f = record { gives = λ top o vs s m. go top vs s m }
       where
         go : {o : Operation} (top : ℕ) (vs : Values) → Stands (Ops.PlusTime k u) o count → MeansEach (areas A B T C) top vs (stacked C bottom count) → Gives (areas A B T C) top (operate o vs) r
-        go top vs (stands-plus-time {k = z} e w b) m = let t = one C bottom count e m in rw (t .is) (f .gives T C top z (t .first) w b (rw is-x (t .means)))
+        go top vs (stands-plus-time {k = z} e w b) m = let t = one C bottom count e m in rw (t .is) (f .gives T C top z (t .first) w b (rw (is-first ∙ first-cell C bottom count (omega arith)) (t .means)))
 
     pub of-extract : (n : ℕ) → Extracts A B n x r → Operates A B T C (Ops.ExtractFromUvci n) bottom count r
-    of-extract k f = record { gives = λ top o vs s n m. go top vs s m }
+    of-extract k f = record { gives = λ top o vs s m. go top vs s m }
       where
         go : {o : Operation} (top : ℕ) (vs : Values) → Stands (Ops.ExtractFromUvci k) o count → MeansEach (areas A B T C) top vs (stacked C bottom count) → Gives (areas A B T C) top (operate o vs) r
-        go top vs (stands-extract {k = z} e w b) m = let t = one C bottom count e m in rw (t .is) (f .gives T C top z (t .first) w b (rw is-x (t .means)))
+        go top vs (stands-extract {k = z} e w b) m = let t = one C bottom count e m in rw (t .is) (f .gives T C top z (t .first) w b (rw (is-first ∙ first-cell C bottom count (omega arith)) (t .means)))
 
     module _ {y : Handle} (is-y : y ≡ stackCell C bottom 1) where
       pub of-equal : Equality A B x y r → Operates A B T C Ops.Equal bottom count r
-      of-equal f = record { gives = λ top o vs s n m. go top vs s m }
+      of-equal f = record { gives = λ top o vs s m. go top vs s m }
         where
           go : {o : Operation} (top : ℕ) (vs : Values) → Stands Ops.Equal o count → MeansEach (areas A B T C) top vs (stacked C bottom count) → Gives (areas A B T C) top (operate o vs) r
-          go top vs (stands-equal e) m = let t = two C bottom count e m in rw (t .is) (f .gives T C top (t .first) (t .second) (rw is-x (t .means-first)) (rw is-y (t .means-second)))
+          go top vs (stands-equal e) m = let t = two C bottom count e m in rw (t .is) (f .gives T C top (t .first) (t .second) (rw (is-first ∙ first-cell C bottom count (omega arith)) (t .means-first)) (rw is-y (t .means-second)))
 
       pub of-member : Membership A B T C x y r → Operates A B T C Ops.MemberOf bottom count r
-      of-member f = record { gives = λ top o vs s n m. go top vs s m }
+      of-member f = record { gives = λ top o vs s m. go top vs s m }
         where
           go : {o : Operation} (top : ℕ) (vs : Values) → Stands Ops.MemberOf o count → MeansEach (areas A B T C) top vs (stacked C bottom count) → Gives (areas A B T C) top (operate o vs) r
-          go top vs (stands-member-of e) m = let t = two C bottom count e m in rw (t .is) (f .gives top (t .first) (t .second) (rw is-x (t .means-first)) (rw is-y (t .means-second)))
+          go top vs (stands-member-of e) m = let t = two C bottom count e m in rw (t .is) (f .gives top (t .first) (t .second) (rw (is-first ∙ first-cell C bottom count (omega arith)) (t .means-first)) (rw is-y (t .means-second)))
 
       pub of-plus : Sum x y r → Operates A B T C Ops.Plus bottom count r
-      of-plus f = record { gives = λ top o vs s n m. go top vs s m }
+      of-plus f = record { gives = λ top o vs s m. go top vs s m }
         where
           go : {o : Operation} (top : ℕ) (vs : Values) → Stands Ops.Plus o count → MeansEach (areas A B T C) top vs (stacked C bottom count) → Gives (areas A B T C) top (operate o vs) r
-          go top vs (stands-plus e) m = let t = two C bottom count e m in rw (t .is) (f .gives (areas A B T C) top (t .first) (t .second) (rw is-x (t .means-first)) (rw is-y (t .means-second)))
+          go top vs (stands-plus e) m = let t = two C bottom count e m in rw (t .is) (f .gives (areas A B T C) top (t .first) (t .second) (rw (is-first ∙ first-cell C bottom count (omega arith)) (t .means-first)) (rw is-y (t .means-second)))

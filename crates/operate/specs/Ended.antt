@@ -13,6 +13,7 @@ use Rattle.operate.specs.declared.ended.Ended.{Ended}
 use Rattle.operate.specs.declared.ended.Ended.the-variants as Ends
 use Rattle.operate.specs.declared.ended.Fault.{Fault}
 use Rattle.operate.specs.declared.ended.Fault.the-variants.{WrongKind, BadDate, OutOfRange, OutOfSteps}
+use Rattle.operate.specs.declared.ended.State.{State}
 
 -- 7, 8, 9 and 10 (model/Refusal.antt has their numbers).
 abbrev pub faultOf : Fault → EvalFault
@@ -21,14 +22,17 @@ faultOf BadDate = fault badDate
 faultOf OutOfRange = fault outOfRange
 faultOf OutOfSteps = outOfSteps
 
--- What an operation gave, with the steps left and the heap's top.
-abbrev pub operatedEnd : Operated → ℕ → ℕ → Ended
-operatedEnd (Operateds.Value h) left top = Ends.Gives h left top
-operatedEnd Operateds.WrongKind left top = Ends.Denies WrongKind left
-operatedEnd Operateds.BadDate left top = Ends.Denies BadDate left
-operatedEnd Operateds.OutOfRange left top = Ends.Denies OutOfRange left
+abbrev pub state : ℕ → ℕ → ℕ → ℕ → State
+state left top bottom deep = record { left = left; top = top; bottom = bottom; deep = deep }
+
+-- What an operation gave, in a state that it leaves as it is.
+abbrev pub operatedEnd : Operated → State → Ended
+operatedEnd (Operateds.Value h) s = Ends.Gives h s
+operatedEnd Operateds.WrongKind s = Ends.Denies WrongKind (s .left)
+operatedEnd Operateds.BadDate s = Ends.Denies BadDate (s .left)
+operatedEnd Operateds.OutOfRange s = Ends.Denies OutOfRange (s .left)
 
 -- The run ends as the model says: with a value that the handle means, or with the same refusal; and with the same steps left.
 pub data EndsAs (a : Areas) (m : Plain Value) (r : Ended) : Type 0 where
-  ends-value : {v : Value} {h : Handle} {left top : ℕ} → m ≡ gives v left → r ≡ Ends.Gives h left top → Means a top v h → EndsAs a m r
+  ends-value : {v : Value} {h : Handle} {s : State} → m ≡ gives v (s .left) → r ≡ Ends.Gives h s → Means a (s .top) v h → EndsAs a m r
   ends-fault : {e : Fault} {left : ℕ} → m ≡ denies (faultOf e) left → r ≡ Ends.Denies e left → EndsAs a m r

@@ -12,6 +12,11 @@ use Rattle.heap.specs.Cells.{cellHandle}
 unfoldable pub stackCell : Bytes → ℕ → ℕ → Handle
 stackCell C bottom k = cond (leb bottom k) Null (cellHandle C (bottom - k - 1))
 
+-- The first of so many operands; null where there is none.
+abbrev pub firstCell : Bytes → ℕ → ℕ → Handle
+firstCell C bottom zero = Null
+firstCell C bottom (suc n) = stackCell C bottom 0
+
 -- So many operands from a position on.
 unfoldable pub stackedFrom : Bytes → ℕ → ℕ → ℕ → List Handle
 stackedFrom C bottom k zero = []

@@ -1,8 +1,5 @@
-// How an evaluation ends.
+// How an evaluation ends, and what travels through it by value.
 use heap::handle::Handle;
-use result::Operated;
-ghost use mathlib.Core.Path.{_≡_};
-ghost use Rattle.operate.specs.Ended.{operatedEnd};
 
 // 7, 8, 9 or 10.
 pub enum Fault {
@@ -12,20 +9,17 @@ pub enum Fault {
     OutOfSteps,
 }
 
-// With a value, the steps left and the heap's top; or with a refusal and the steps left.
-pub enum Ended {
-    Gives(Handle, usize, usize),
-    Denies(Fault, usize),
+// The steps left; the heap's top: the cells below it are the heap, which only grows; the stack's bottom: the cells from it on hold the operands
+// of the rules around; the nesting left.
+pub struct State {
+    pub left: usize,
+    pub top: usize,
+    pub bottom: usize,
+    pub deep: usize,
 }
 
-// What an operation gave ends the rule that it stands in.
-pub fn operated(r: Operated, left: usize, top: usize) -> Ended
-    ensures { λ e. ⌜ e ≡ operatedEnd r left top ⌝ }
-{
-    match r {
-        Operated::Value(value) => Ended::Gives(value, left, top),
-        Operated::WrongKind => Ended::Denies(Fault::WrongKind, left),
-        Operated::BadDate => Ended::Denies(Fault::BadDate, left),
-        Operated::OutOfRange => Ended::Denies(Fault::OutOfRange, left),
-    }
+// With a value and the state after; or with a refusal and the steps left.
+pub enum Ended {
+    Gives(Handle, State),
+    Denies(Fault, usize),
 }

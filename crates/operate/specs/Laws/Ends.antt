@@ -19,20 +19,20 @@ use Rattle.operate.specs.declared.ended.Ended.{Ended}
 use Rattle.operate.specs.declared.ended.Ended.the-variants.{Gives, Denies}
 use Rattle.operate.specs.declared.ended.Fault.{Fault}
 use Rattle.operate.specs.declared.ended.Fault.the-variants.{WrongKind, BadDate, OutOfRange}
+use Rattle.operate.specs.declared.ended.State.{State}
 use Rattle.operate.specs.Ended.{faultOf, operatedEnd, EndsAs, ends-value, ends-fault}
 
 -- The run gave a value.
-pub record Got (a : Areas) (m : Plain Value) (h : Handle) (l t : ℕ) : Type 0 where
+pub record Got (a : Areas) (m : Plain Value) (h : Handle) (s : State) : Type 0 where
   pub value : Value
-  pub is : m ≡ gives value l
-  pub means : Means a t value h
+  pub is : m ≡ gives value (s .left)
+  pub means : Means a (s .top) value h
 
-pub got : {a : Areas} {m : Plain Value} {r : Ended} {h : Handle} {l t : ℕ} → EndsAs a m r → r ≡ Gives h l t → Got a m h l t
-got {a} {m} {r} {h} {l} {t} (ends-value {v = v} {h = h₁} {left = l₁} {top = t₁} e f k) g =
+pub got : {a : Areas} {m : Plain Value} {r : Ended} {h : Handle} {s : State} → EndsAs a m r → r ≡ Gives h s → Got a m h s
+got {a} {m} {r} {h} {s} (ends-value {v = v} {h = h₁} {s = s₁} e f k) g =
     let a₁ : h₁ ≡ h = cc in
-    let a₂ : l₁ ≡ l = cc in
-    let a₃ : t₁ ≡ t = cc in
-    record { value = v; is = e ∙ ap (gives v) a₂; means = rw (← a₁, ← a₃) k }
+    let a₂ : s₁ ≡ s = cc in
+    record { value = v; is = e ∙ ap (λ (t : State). gives v (t .left)) a₂; means = rw (← a₁, ← a₂) k }
 got (ends-fault e f) g = clash cc
 
 -- The run was refused.
@@ -44,15 +44,15 @@ failed {e = e} {l} (ends-fault {e = e₁} {left = l₁} f g) k =
     f ∙ (λ i. denies (faultOf (a₁ i)) (a₂ i))
 
 -- What an operation gives ends the rule.
-pub operated-ends : {A B R C : Bytes} {t : ℕ} {m : Result Value} {x : Operated} (l : ℕ) (r : Ended) → results.Gives (areas A B R C) t m x → r ≡ operatedEnd x l t → EndsAs (areas A B R C) (lift m l) r
-operated-ends {t = t} l r (gives-value {v = v} {h = h} e n) f = ends-value {v = v} {h = h} {left = l} {top = t} refl (rw e at f) n
-operated-ends {A = A} {B = B} {R = R} {C = C} {t = t} {x = x} l r (gives-fault {e = e} n) f = faulted e x n f
+pub operated-ends : {A B R C : Bytes} {m : Result Value} {x : Operated} (s : State) (r : Ended) → results.Gives (areas A B R C) (s .top) m x → r ≡ operatedEnd x s → EndsAs (areas A B R C) (lift m (s .left)) r
+operated-ends s r (gives-value {v = v} {h = h} e n) f = ends-value {v = v} {h = h} {s = s} refl (rw e at f) n
+operated-ends {A = A} {B = B} {R = R} {C = C} {x = x} s r (gives-fault {e = e} n) f = faulted e x n f
   where
     -- The number tells the fault.
-    faulted : (e : models.Fault) (x : Operated) → operatedNumber x ≡ models.faultNumber e → r ≡ operatedEnd x l t → EndsAs (areas A B R C) (lift (refuse e) l) r
-    faulted models.wrongKind Operateds.WrongKind n f = ends-fault {e = WrongKind} {left = l} refl f
-    faulted models.badDate Operateds.BadDate n f = ends-fault {e = BadDate} {left = l} refl f
-    faulted models.outOfRange Operateds.OutOfRange n f = ends-fault {e = OutOfRange} {left = l} refl f
+    faulted : (e : models.Fault) (x : Operated) → operatedNumber x ≡ models.faultNumber e → r ≡ operatedEnd x s → EndsAs (areas A B R C) (lift (refuse e) (s .left)) r
+    faulted models.wrongKind Operateds.WrongKind n f = ends-fault {e = WrongKind} {left = s .left} refl f
+    faulted models.badDate Operateds.BadDate n f = ends-fault {e = BadDate} {left = s .left} refl f
+    faulted models.outOfRange Operateds.OutOfRange n f = ends-fault {e = OutOfRange} {left = s .left} refl f
     faulted models.wrongKind (Operateds.Value h) n f = absurd (omega arith)
     faulted models.wrongKind Operateds.BadDate n f = absurd (omega arith)
     faulted models.wrongKind Operateds.OutOfRange n f = absurd (omega arith)

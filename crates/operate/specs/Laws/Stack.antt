@@ -10,11 +10,16 @@ use Rattle.heap.specs.declared.handle.Handle.{Handle}
 use Rattle.heap.specs.Blocks.{storedFrom}
 use Rattle.heap.specs.Cells.{cellHandle, stored}
 use Rattle.heap.specs.Laws.Cells.{stored-other}
-use Rattle.operate.specs.Stack.{stackCell, stackedFrom}
+use Rattle.operate.specs.Stack.{stackCell, firstCell, stackedFrom}
 
 pub stack-cell : (C : Bytes) (bottom k : ℕ) → k < bottom → stackCell C bottom k ≡ cellHandle C (bottom - k - 1)
 unfolding stackCell
 stack-cell C bottom k l = rw (lt-leb bottom k l)
+
+-- The first, where there is one.
+pub first-cell : (C : Bytes) (bottom n : ℕ) → 1 ≤ n → firstCell C bottom n ≡ stackCell C bottom 0
+first-cell C bottom zero l = absurd (omega arith)
+first-cell C bottom (suc n) l = refl
 
 -- As many handles as were asked for.
 pub stacked-length : (C : Bytes) (bottom k n : ℕ) → length (stackedFrom C bottom k n) ≡ n

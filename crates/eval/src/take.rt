@@ -1,0 +1,220 @@
+// What an operation does with the value of an operand.
+use crate::start::arguments;
+use crate::task::Frame;
+use crate::task::Next;
+use crate::task::Pending;
+use crate::task::Task;
+use crate::task::operand;
+use crate::task::state;
+use heap::cell::put;
+use heap::handle::Form;
+use heap::handle::Handle;
+use heap::handle::Parts;
+use heap::handle::compound;
+use heap::part::head;
+use heap::part::tail;
+use operate::ended::Ended;
+use operate::ended::Fault;
+use scalars::truth::Truth;
+use scalars::truth::truth_of;
+use table::node::next_row;
+ghost use mathlib.Core.Path.{_≡_};
+ghost use Prim.Native.Nat.{_+_};
+ghost use Rattle.eval.specs.Inner.{Room, elementsIn, elementsOf, Branches, Takes, TakesByRule, TakesByRecord, Taking, TakesEnd};
+
+// The items of an array, or that a value is none.
+enum Elements {
+    NotArray,
+    Of(Parts),
+}
+
+fn elements_of(h: Handle) -> Elements
+    ensures { λ r. ⌜ r ≡ elementsOf h ⌝ }
+{
+    match h {
+        Handle::Null => Elements::NotArray,
+        Handle::False => Elements::NotArray,
+        Handle::True => Elements::NotArray,
+        Handle::Integer(_) => Elements::NotArray,
+        Handle::Instant(_) => Elements::NotArray,
+        Handle::String(_) => Elements::NotArray,
+        Handle::Compound(p) => elements_in(p),
+    }
+}
+
+fn elements_in(p: Parts) -> Elements
+    ensures { λ r. ⌜ r ≡ elementsIn (p .form) p ⌝ }
+{
+    let form = p.form;
+    match form {
+        Form::Items => Elements::Of(p),
+        Form::Members => Elements::NotArray,
+        Form::List => Elements::Of(p),
+        Form::Context => Elements::NotArray,
+    }
+}
+
+// The row after a guard, or the one after that.
+fn branch(rule_table: &[u8], guard: usize, value: Handle) -> usize
+    ensures { λ r. ⌜ Branches (now («rule_table» .entry)) guard value r ⌝ }
+{
+    let second = next_row(rule_table, guard);
+    match truth_of(value) {
+        Truth::Truthy => second,
+        Truth::Falsy => next_row(rule_table, second),
+        Truth::Neither => next_row(rule_table, second),
+    }
+}
+
+// 01: "a truthy guard evaluates the second operand only; otherwise the third only."
+fn after_guard(rule_table: &[u8], t: Task, value: Handle) -> Next
+    ensures { λ r. ⌜ TakesByRule (now («rule_table» .entry)) t Frame.Guard value r ⌝ }
+{
+    let context = t.context;
+    let s = t.state;
+    let chosen = branch(rule_table, t.row, value);
+    Next::Asks(operand(chosen, context, s), Frame::Branch)
+}
+
+// 01: "operands one by one; the first falsy value, or the last value. An instant is 7 when met."
+fn after_conjunct(rule_table: &[u8], t: Task, count: usize, value: Handle) -> Next
+    ensures { λ r. ⌜ TakesByRule (now («rule_table» .entry)) t (Frame.Conjunct count) value r ⌝ }
+{
+    let s = t.state;
+    match truth_of(value) {
+        Truth::Falsy => Next::Ends(Ended::Gives(value, s)),
+        Truth::Neither => Next::Ends(Ended::Denies(Fault::WrongKind, s.left)),
+        Truth::Truthy => {
+            if count < 2 {
+                return Next::Ends(Ended::Gives(value, s));
+            }
+            let context = t.context;
+            let next = operand(next_row(rule_table, t.row), context, s);
+            Next::Asks(next, Frame::Conjunct(count - 1))
+        }
+    }
+}
+
+// 01: "operand, then initial; operand not an array is 7; then the lambda for each item".
+fn after_source(rule_table: &[u8], t: Task, items: Handle) -> Next
+    ensures { λ r. ⌜ TakesByRule (now («rule_table» .entry)) t Frame.Source items r ⌝ }
+{
+    let context = t.context;
+    let s = t.state;
+    let lambda = next_row(rule_table, t.row);
+    let initial = operand(next_row(rule_table, lambda), context, s);
+    Next::Asks(initial, Frame::Initial { lambda, items })
+}
+
+fn after_initial(
+    record_table: &[u8],
+    cells: &mut [u8],
+    t: Task,
+    lambda: usize,
+    items: Handle,
+    value: Handle,
+) -> Next
+    requires { ⌜ Room (now cells) 2 0 (t .state) ⌝ }
+    ensures { λ r. ⌜ TakesByRecord (now («record_table» .entry)) (now (cells .entry)) t (Frame.Initial lambda items) value r (now (cells .exit)) ⌝ }
+{
+    let context = t.context;
+    let s = t.state;
+    let Elements::Of(p) = elements_of(items) else {
+        return Next::Ends(Ended::Denies(Fault::WrongKind, s.left));
+    };
+    next_item(record_table, cells, operand(lambda, context, s), p, value)
+}
+
+// The lambda for the next item, over `current` and `accumulator`: two cells. Where no item is left the accumulator is the value.
+fn next_item(record_table: &[u8], cells: &mut [u8], t: Task, items: Parts, value: Handle) -> Next
+    requires { ⌜ Room (now cells) 2 0 (t .state) ⌝ }
+    ensures { λ r. ⌜ TakesByRecord (now («record_table» .entry)) (now (cells .entry)) t (Frame.Item items) value r (now (cells .exit)) ⌝ }
+{
+    let s = t.state;
+    if items.count == 0 {
+        return Next::Ends(Ended::Gives(value, s));
+    }
+    let top = s.top;
+    put(cells, top, head(record_table, cells, items));
+    put(cells, top + 1, value);
+    let over = compound(Form::Context, top, 2);
+    let next = operand(t.row, over, state(s.left, top + 2, s.bottom, s.deep));
+    Next::Asks(next, Frame::Item(tail(record_table, cells, items)))
+}
+
+// The value onto the stack; then the next operand, or the operation.
+fn after_argument<'a>(
+    rule_table: &[u8],
+    rule_strings: &'a [u8],
+    record_table: &[u8],
+    record_strings: &'a [u8],
+    cells: &mut [u8],
+    t: Task,
+    p: Pending,
+    value: Handle,
+) -> Next
+    requires { ⌜ Room (now cells) (4 + p .done) (p .done) (t .state) ⌝ }
+    ensures { λ r. ⌜ Takes (now («rule_table» .entry)) (now («rule_strings» .entry)) (now («record_table» .entry)) (now («record_strings» .entry)) (now (cells .entry)) t (Frame.Argument p) value r (now (cells .exit)) ⌝ }
+{
+    let context = t.context;
+    let s = t.state;
+    let bottom = s.bottom - 1;
+    put(cells, bottom, value);
+    let after = state(s.left, s.top, bottom, s.deep);
+    let next = operand(next_row(rule_table, t.row), context, after);
+    let op = p.op;
+    let more = Pending {
+        op,
+        done: p.done + 1,
+        rest: p.rest,
+    };
+    arguments(
+        rule_strings,
+        record_table,
+        record_strings,
+        cells,
+        next,
+        more,
+    )
+}
+
+// With the value of a task's rule, what its frame says; its refusal ends the rule around it.
+pub fn take<'a>(
+    rule_table: &[u8],
+    rule_strings: &'a [u8],
+    record_table: &[u8],
+    record_strings: &'a [u8],
+    cells: &mut [u8],
+    task: Task,
+    frame: Frame,
+    e: Ended,
+) -> Next
+    requires { ⌜ Taking (now cells) task frame e ⌝ }
+    ensures { λ r. ⌜ TakesEnd (now («rule_table» .entry)) (now («rule_strings» .entry)) (now («record_table» .entry)) (now («record_strings» .entry)) (now (cells .entry)) task frame e r (now (cells .exit)) ⌝ }
+{
+    let Ended::Gives(value, s) = e else {
+        return Next::Ends(e);
+    };
+    let context = task.context;
+    let t = operand(task.row, context, s);
+    match frame {
+        Frame::Guard => after_guard(rule_table, t, value),
+        Frame::Branch => Next::Ends(e),
+        Frame::Conjunct(count) => after_conjunct(rule_table, t, count, value),
+        Frame::Source => after_source(rule_table, t, value),
+        Frame::Initial { lambda, items } => {
+            after_initial(record_table, cells, t, lambda, items, value)
+        }
+        Frame::Item(items) => next_item(record_table, cells, t, items, value),
+        Frame::Argument(p) => after_argument(
+            rule_table,
+            rule_strings,
+            record_table,
+            record_strings,
+            cells,
+            t,
+            p,
+            value,
+        ),
+    }
+}
