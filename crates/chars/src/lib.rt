@@ -29,7 +29,7 @@ pub enum Decoded {
 // The least byte of a character: what is below it are control characters.
 const LEAST: u8 = b' ';
 
-fn fault(number: u32, at: usize) -> Decoded
+fn fault(number: usize, at: usize) -> Decoded
     ensures { λ r. ⌜ r ≡ Decoded.NoChars (faultAt number at) ⌝ }
 {
     Decoded::NoChars(Fault { number, at })

@@ -139,6 +139,18 @@ module _ (T A : Bytes) (T′ A′ : Bytes) where
 pub told : {s T A : Bytes} {r x : TextStep} {T′ A′ : Bytes} → TextRead s T A r T′ A′ → r ≡ x → TextRead s T A x T′ A′
 told {s} {T} {A} {T′ = T′} {A′} h e = subst (λ (x : TextStep). TextRead s T A x T′ A′) e h
 
+fault-small : (k : ReadFault) → readNumber k ≤ 5
+fault-small notJson = omega arith
+fault-small repeatedName = omega arith
+fault-small loneSurrogate = omega arith
+fault-small badNumber = omega arith
+fault-small tooLarge = omega arith
+
+pub number-small : {s T A : Bytes} {x : Fault} {T′ A′ : Bytes} → TextRead s T A (NoText x) T′ A′ → x .number ≤ 5
+number-small {s} {T} {A} {x} {T′} {A′} m =
+    let o = refused-of T A T′ A′ x (read s) (m .meets) in
+    rw (o .fault) (fault-small (o .k))
+
 pub rows-few : {s T A : Bytes} {rows used : ℕ} {T′ A′ : Bytes} → TextRead s T A (Whole rows used) T′ A′ → rows ≤ maxValues
 rows-few {s} {T} {A} {rows} {used} {T′} {A′} m = done-of T A T′ A′ rows used (read s) (m .meets) .wrote .few
 

@@ -184,8 +184,8 @@ module _ {X : Type 0} (F : Form X) (wrap : X → Value) (kind : ℕ) (label : La
 
 -- ---- a law for each return of `filled`
 module _ {T : Bytes} {row kind : ℕ} {name : Label} {r : Step} where
-  pub filled-failed : {x : Fault} {T′ : Bytes} → r ≡ Failed x → Filled T row kind name r r T′
-  filled-failed {T′ = T′} e = record { meets = subst⁻¹ (λ (y : Step). FilledMeets T row kind name y y T′) e refl }
+  pub filled-failed : {x : Fault} {T′ : Bytes} → r ≡ Failed x → Filled T row kind name r (Failed x) T′
+  filled-failed {x} {T′} e = record { meets = subst⁻¹ (λ (y : Step). FilledMeets T row kind name y (Failed x) T′) e refl }
 
   pub filled-around : {c d : Cursor} {T′ : Bytes} → r ≡ Reached c → T′ ≡ sets T (row * rowBytes) (layout.row kind (labelOf name) (c .count) (c .row))
       → d ≡ cursor (c .at) (c .row) (c .used) 0 → Filled T row kind name r (Reached d) T′

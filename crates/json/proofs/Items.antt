@@ -20,7 +20,7 @@ use Rattle.json.specs.declared.step.Cursor.{Cursor}
 use Rattle.json.specs.declared.step.Step.{Step}
 use Rattle.json.specs.declared.step.Step.the-variants.{Reached, Failed}
 use Rattle.json.specs.declared.row.Label.{Label}
-use Rattle.json.specs.Inner.{valueForm, itemsForm, cursor, Wrote, ValueRead, ItemsRead, Room, Ended, failed, stopped, closed, Continued}
+use Rattle.json.specs.Inner.{valueForm, itemsForm, cursor, Wrote, ValueRead, ItemsRead, Room, Breaks, failed, stopped, Closes, Continued}
 use Rattle.json.proofs.Form.{gone-then, got-at, gone-at, read-as}
 use Rattle.json.proofs.Loop.{Front, Onward, Inv, inv-start, loop-bad, loop-last, loop-more}
 
@@ -133,10 +133,14 @@ module _ {depth : ℕ} {s : Bytes} {at row used : ℕ} {T A T₁ A₁ : Bytes} {
           });
     }
 
-  pub items-done : {r t : Step} → ValueRead bare (λ f. value f next depth) 0 s here next to T₁ A₁ r T₂ A₂ → Ended s r count 93 t → ItemsRead s at row used depth T A t T₂ A₂
-  items-done h (failed e q) = subst⁻¹ (λ (x : Step). ItemsRead s at row used depth T A x T₂ A₂) q (items-bad (read-as h e))
-  items-done h (stopped e sk se q) = subst⁻¹ (λ (x : Step). ItemsRead s at row used depth T A x T₂ A₂) q (items-stop (read-as h e) sk se)
-  items-done h (closed e sk se q) = subst⁻¹ (λ (x : Step). ItemsRead s at row used depth T A x T₂ A₂) q (items-last (read-as h e) sk se)
+  pub items-broken : {r : Step} {f : Fault} → ValueRead bare (λ f. value f next depth) 0 s here next to T₁ A₁ r T₂ A₂ → Breaks s r 93 f
+      → ItemsRead s at row used depth T A (Failed f) T₂ A₂
+  items-broken h (failed e) = items-bad (read-as h e)
+  items-broken h (stopped e sk se q) = subst⁻¹ (λ (x : Fault). ItemsRead s at row used depth T A (Failed x) T₂ A₂) q (items-stop (read-as h e) sk se)
+
+  pub items-closed : {r : Step} {t : Cursor} → ValueRead bare (λ f. value f next depth) 0 s here next to T₁ A₁ r T₂ A₂ → Closes s r count 93 t
+      → ItemsRead s at row used depth T A (Reached t) T₂ A₂
+  items-closed h c = subst⁻¹ (λ (x : Cursor). ItemsRead s at row used depth T A (Reached x) T₂ A₂) (c .is) (items-last (read-as h (c .good)) (c .skipped) (c .closing))
 
   module _ {r : Step} (h : ValueRead bare (λ f. value f next depth) 0 s here next to T₁ A₁ r T₂ A₂) {t : Cursor} (c : Continued s r count 93 t) where
     pub items-next : length T₂ ≡ length T → length A₂ ≡ length A → ItemsInv depth s at row used T A T₂ A₂ (t .at) (t .row) (t .used) (t .count)

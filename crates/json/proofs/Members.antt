@@ -32,7 +32,7 @@ use Rattle.json.specs.declared.step.Step.the-variants.{Reached, Failed}
 use Rattle.json.specs.declared.name.NameStep.{NameStep}
 use Rattle.json.specs.declared.name.NameStep.the-variants.{Named, NoName}
 use Rattle.json.specs.declared.row.Label.{Label}
-use Rattle.json.specs.Inner.{rowsPart, valueForm, membersForm, cursor, Wrote, ValueRead, MembersRead, MembersRoom, Holds, Has, named, NameMeets, NameRead, Ended, failed, stopped, closed, Continued}
+use Rattle.json.specs.Inner.{rowsPart, valueForm, membersForm, cursor, Wrote, ValueRead, MembersRead, MembersRoom, Holds, Has, named, NameMeets, NameRead, Breaks, failed, stopped, Closes, Continued}
 use Rattle.json.proofs.Rows.{length-rowsPart, take-rows, first-row, row-size, row-start}
 use Rattle.json.proofs.Form.{Got, gone-then, got-at, gone-at, read-as}
 use Rattle.json.proofs.Loop.{Front, Onward, Inv, inv-start, loop-bad, loop-last, loop-more}
@@ -335,10 +335,16 @@ module _ {depth : ℕ} {s : Bytes} {at row used : ℕ} {T A T₁ A₁ : Bytes} {
                 ∙ white-by _ sk₁
                 ∙ (λ j. then (members f (sym (g .wrote .rows) j) depth (k j) (drop here₁ s) here₁) (λ ms. give (member m v ms)))
 
-    pub members-done : {r t : Step} {T₃ A₃ : Bytes} → ValueRead nm (λ f. value f next depth) 0 s on next (to + nm .size) T₂ A₂ r T₃ A₃ → Ended s r count 125 t → MembersRead [] s at row used depth T A t T₃ A₃
-    members-done {T₃ = T₃} {A₃} h (failed e q) = subst⁻¹ (λ (x : Step). MembersRead [] s at row used depth T A x T₃ A₃) q (members-no-value (read-as h e))
-    members-done {T₃ = T₃} {A₃} h (stopped e sk se q) = subst⁻¹ (λ (x : Step). MembersRead [] s at row used depth T A x T₃ A₃) q (members-stop (read-as h e) sk se)
-    members-done {T₃ = T₃} {A₃} h (closed e sk se q) = subst⁻¹ (λ (x : Step). MembersRead [] s at row used depth T A x T₃ A₃) q (members-last (read-as h e) sk se)
+    pub members-broken : {r : Step} {f : Fault} {T₃ A₃ : Bytes} → ValueRead nm (λ f. value f next depth) 0 s on next (to + nm .size) T₂ A₂ r T₃ A₃ → Breaks s r 125 f
+        → MembersRead [] s at row used depth T A (Failed f) T₃ A₃
+    members-broken h (failed e) = members-no-value (read-as h e)
+    members-broken {T₃ = T₃} {A₃} h (stopped e sk se q) =
+        subst⁻¹ (λ (x : Fault). MembersRead [] s at row used depth T A (Failed x) T₃ A₃) q (members-stop (read-as h e) sk se)
+
+    pub members-closed : {r : Step} {t : Cursor} {T₃ A₃ : Bytes} → ValueRead nm (λ f. value f next depth) 0 s on next (to + nm .size) T₂ A₂ r T₃ A₃ → Closes s r count 125 t
+        → MembersRead [] s at row used depth T A (Reached t) T₃ A₃
+    members-closed {T₃ = T₃} {A₃} h c =
+        subst⁻¹ (λ (x : Cursor). MembersRead [] s at row used depth T A (Reached x) T₃ A₃) (c .is) (members-last (read-as h (c .good)) (c .skipped) (c .closing))
 
     module _ {r : Step} {T₃ A₃ : Bytes} (h : ValueRead nm (λ f. value f next depth) 0 s on next (to + nm .size) T₂ A₂ r T₃ A₃) {t : Cursor} (c : Continued s r count 125 t) where
       pub members-next : MembersRoom s T A at row used → length T₂ ≡ length T → length T₃ ≡ length T → length A₃ ≡ length A

@@ -35,12 +35,12 @@ use Rattle.syntax.specs.Layout as layout
 use Rattle.syntax.specs.Laws.Layout.{length-row}
 use Rattle.syntax.specs.Read.{Parsed, ok, bad, Parser, then, _>>=_, give, fail, if, eat, literal, int, chars, clear, quoted, name, value, items, members, onStart}
 use Rattle.json.specs.declared.list.After.{After}
-use Rattle.json.specs.declared.list.After.the-variants.{Done, More}
+use Rattle.json.specs.declared.list.After.the-variants.{Closed, More, Broken}
 use Rattle.json.specs.declared.step.Cursor.{Cursor}
 use Rattle.json.specs.declared.step.Step.{Step}
 use Rattle.json.specs.declared.step.Step.the-variants.{Reached, Failed}
 use Rattle.json.specs.declared.row.Label.{Label}
-use Rattle.json.specs.Inner.{rowsPart, labelOf, valueForm, itemsForm, membersForm, cursor, Reads, Emptied, Filled, kindOf, stringFrom, arrayFrom, objectFrom, ValueRead, RowRead, ItemsRead, MembersRead, Ended, Continued, FollowMeets, Followed}
+use Rattle.json.specs.Inner.{rowsPart, labelOf, valueForm, itemsForm, membersForm, cursor, Reads, Emptied, Filled, kindOf, stringFrom, arrayFrom, objectFrom, ValueRead, RowRead, ItemsRead, MembersRead, Breaks, Closes, Continued, FollowMeets, Followed}
 use Rattle.json.proofs.Rows.{rows-sets, entry-sets}
 use Rattle.json.proofs.Form.{gone-then, reads-ok, reads-bad, fuelled, On, through, contained}
 
@@ -232,8 +232,11 @@ pub separated : {s : Bytes} {close at : ℕ} {r g : Separator} → Separated s c
 separated {s} {close} {at} h e = subst (λ (x : Separator). Separated s close at x) e h
 
 module _ {t : Bytes} {s : Step} {count close : ℕ} {o : After} (h : Followed t s count close o) where
-  pub ended : {r : Step} → o ≡ Done r → Ended t s count close r
-  ended e = subst (FollowMeets t s count close) e (h .meets)
+  pub breaks : {f : Fault} → o ≡ Broken f → Breaks t s close f
+  breaks e = subst (FollowMeets t s count close) e (h .meets)
+
+  pub closes : {r : Cursor} → o ≡ Closed r → Closes t s count close r
+  closes e = subst (FollowMeets t s count close) e (h .meets)
 
   pub continued : {r : Cursor} → o ≡ More r → Continued t s count close r
   continued e = subst (FollowMeets t s count close) e (h .meets)

@@ -21,7 +21,7 @@ use Rattle.syntax.specs.declared.Word.{Word}
 use Rattle.syntax.specs.declared.Word.the-variants.{TrueWord, FalseWord, NullWord}
 use Rattle.syntax.specs.declared.Separator.the-variants.{Comma, Close, Neither}
 use Rattle.json.specs.declared.list.After.{After}
-use Rattle.json.specs.declared.list.After.the-variants.{Done, More}
+use Rattle.json.specs.declared.list.After.the-variants.{Closed, More, Broken}
 use Rattle.json.specs.declared.step.Cursor.{Cursor}
 use Rattle.json.specs.declared.step.Step.{Step}
 use Rattle.json.specs.declared.step.Step.the-variants.{Reached, Failed}
@@ -190,13 +190,19 @@ pub record FollowRoom (s : Bytes) (count : ℕ) : Type 0 where
   pub short : length s ≤ maxTextBytes
   pub few : count ≤ maxValues
 
--- How a list ends whose last part ended with s: that part failed, or neither a comma nor the closing byte follows, or the closing byte.
-pub data Ended (t : Bytes) (s : Step) (count close : ℕ) (r : Step) : Type 0 where
-  failed : {f : Fault} → s ≡ Failed f → r ≡ Failed f → Ended t s count close r
-  stopped : {c : Cursor} {end : ℕ} → s ≡ Reached c → Skipped t (c .at) end → Separated t close end Neither → r ≡ Failed (faultOf notJson end)
-      → Ended t s count close r
-  closed : {c : Cursor} {end : ℕ} → s ≡ Reached c → Skipped t (c .at) end → Separated t close end Close
-      → r ≡ Reached (cursor (end + 1) (c .row) (c .used) (count + 1)) → Ended t s count close r
+-- How a list breaks whose last part ended with s: that part failed, or neither a comma nor the closing byte follows.
+pub data Breaks (t : Bytes) (s : Step) (close : ℕ) (f : Fault) : Type 0 where
+  failed : s ≡ Failed f → Breaks t s close f
+  stopped : {here : Cursor} {end : ℕ} → s ≡ Reached here → Skipped t (here .at) end → Separated t close end Neither → f ≡ faultOf notJson end → Breaks t s close f
+
+-- The closing byte follows.
+pub record Closes (t : Bytes) (s : Step) (count close : ℕ) (r : Cursor) : Type 0 where
+  pub here : Cursor
+  pub end : ℕ
+  pub good : s ≡ Reached here
+  pub skipped : Skipped t (here .at) end
+  pub closing : Separated t close end Close
+  pub is : r ≡ cursor (end + 1) (here .row) (here .used) (count + 1)
 
 -- A comma follows, and then a part.
 pub record Continued (t : Bytes) (s : Step) (count close : ℕ) (r : Cursor) : Type 0 where
@@ -210,8 +216,9 @@ pub record Continued (t : Bytes) (s : Step) (count close : ℕ) (r : Cursor) : T
   pub is : r ≡ cursor next (here .row) (here .used) (count + 1)
 
 abbrev pub FollowMeets : Bytes → Step → ℕ → ℕ → After → Type 0
-FollowMeets t s count close (Done r) = Ended t s count close r
+FollowMeets t s count close (Closed r) = Closes t s count close r
 FollowMeets t s count close (More r) = Continued t s count close r
+FollowMeets t s count close (Broken f) = Breaks t s close f
 
 pub record Followed (t : Bytes) (s : Step) (count close : ℕ) (o : After) : Type 0 where
   pub meets : FollowMeets t s count close o

@@ -88,7 +88,7 @@ pub fn read(text: &[u8], table: &mut [u8], strings: &mut [u8]) -> Answer
             clear_from(table, 0);
             clear_from(strings, 0);
             Answer {
-                refusal: f.number,
+                refusal: f.number as u32,
                 place: f.at,
                 rows: 0,
             }

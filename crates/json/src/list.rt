@@ -1,17 +1,18 @@
 // What follows an item of an array or a member of an object.
 use crate::step::Cursor;
 use crate::step::Step;
-use crate::step::fail;
+use scan::Fault;
 use scan::token::separator;
 use scan::token::skip_white;
 use syntax::Separator;
 ghost use mathlib.Core.Path.{_≡_};
 ghost use Rattle.json.specs.Inner.{cursor, FollowRoom, Followed};
 
-// The list is done, well or not; or one more part begins.
+// The list is done, or one more part begins, or there is a fault.
 pub enum After {
-    Done(Step),
+    Closed(Cursor),
     More(Cursor),
+    Broken(Fault),
 }
 
 // After the part that ended with `s`, before which there were `count`.
@@ -19,15 +20,17 @@ pub fn follow(text: &[u8], s: Step, count: usize, close: u8) -> After
     requires { ⌜ FollowRoom (now text) count ⌝ }
     ensures { λ r. ⌜ Followed (now (text .entry)) s count close r ⌝ }
 {
-    let Step::Reached(here) = s else {
-        return After::Done(s);
-    };
-    let end = skip_white(text, here.at);
-    let next = separator(text, end, close);
-    match next {
-        Separator::Close => After::Done(Step::Reached(moved(here, end + 1, count + 1))),
-        Separator::Comma => After::More(moved(here, skip_white(text, end + 1), count + 1)),
-        Separator::Neither => After::Done(fail(2, end)),
+    match s {
+        Step::Failed(f) => After::Broken(f),
+        Step::Reached(here) => {
+            let end = skip_white(text, here.at);
+            let next = separator(text, end, close);
+            match next {
+                Separator::Close => After::Closed(moved(here, end + 1, count + 1)),
+                Separator::Comma => After::More(moved(here, skip_white(text, end + 1), count + 1)),
+                Separator::Neither => After::Broken(Fault { number: 2, at: end }),
+            }
+        }
     }
 }
 

@@ -16,7 +16,7 @@ pub enum NameStep {
     NoName(Fault),
 }
 
-fn no_name(number: u32, at: usize) -> NameStep
+fn no_name(number: usize, at: usize) -> NameStep
     ensures { λ r. ⌜ r ≡ NameStep.NoName (faultAt number at) ⌝ }
 {
     NameStep::NoName(Fault { number, at })

@@ -40,9 +40,11 @@ pub fn filled(table: &mut [u8], row: usize, kind: usize, name: Label, s: Step) -
     requires { ⌜ RowRoom (now table) row kind (name .size) ⌝ }
     ensures { λ r. ⌜ Filled (now (table .entry)) row kind name s r (now (table .exit)) ⌝ }
 {
-    let Step::Reached(end) = s else {
-        return s;
-    };
-    put_row(table, row, kind, name, end.count, end.row);
-    Step::Reached(place(end.at, end.row, end.used))
+    match s {
+        Step::Failed(f) => Step::Failed(f),
+        Step::Reached(end) => {
+            put_row(table, row, kind, name, end.count, end.row);
+            Step::Reached(place(end.at, end.row, end.used))
+        }
+    }
 }

@@ -19,7 +19,7 @@ pub enum Step {
 }
 
 // A fault at a place.
-pub fn fail(number: u32, at: usize) -> Step
+pub fn fail(number: usize, at: usize) -> Step
     ensures { λ r. ⌜ r ≡ Step.Failed (faultAt number at) ⌝ }
 {
     Step::Failed(Fault { number, at })

@@ -123,8 +123,11 @@ fn all_items(
         );
         let after = follow(text, s, here.count, b']');
         match after {
-            After::Done(end) => {
-                return end;
+            After::Broken(f) => {
+                return Step::Failed(f);
+            }
+            After::Closed(end) => {
+                return Step::Reached(end);
             }
             After::More(next) => {
                 here = next;
@@ -158,8 +161,11 @@ fn all_members(
                 let s = value(text, content, table, here.row, strings, to, depth, name);
                 let after = follow(text, s, here.count, b'}');
                 match after {
-                    After::Done(end) => {
-                        return end;
+                    After::Broken(f) => {
+                        return Step::Failed(f);
+                    }
+                    After::Closed(end) => {
+                        return Step::Reached(end);
                     }
                     After::More(next) => {
                         here = next;

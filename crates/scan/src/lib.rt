@@ -4,6 +4,6 @@ pub mod token;
 
 // A text is refused: with which number, and at which offset.
 pub struct Fault {
-    pub number: u32,
+    pub number: usize,
     pub at: usize,
 }

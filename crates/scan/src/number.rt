@@ -18,7 +18,7 @@ pub enum Numeral {
     NoInteger(Fault),
 }
 
-fn fault(number: u32, at: usize) -> Numeral
+fn fault(number: usize, at: usize) -> Numeral
     ensures { λ r. ⌜ r ≡ Numeral.NoInteger (faultAt number at) ⌝ }
 {
     Numeral::NoInteger(Fault { number, at })

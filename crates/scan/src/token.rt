@@ -111,10 +111,10 @@ pub fn decimal_of(b: u8) -> Decimal
     if b < b'0' {
         return Decimal::NoDecimal;
     }
-    if b'9' < b {
-        return Decimal::NoDecimal;
+    if b <= b'9' {
+        return Decimal::DecimalDigit(b - b'0');
     }
-    Decimal::DecimalDigit(b - b'0')
+    Decimal::NoDecimal
 }
 
 // What stands at `at`, after an item or a member.

@@ -9,12 +9,6 @@ use Rattle.chars.proofs.Promise.{room-of, promise-closed, promise-stopp
 use Rattle.chars.proofs.Steps.{taken-none, taken-then}
 use Rattle.chars.proofs.chars.Statement.{statement}
 use Rattle.chars.proofs.chars.Tie as tie
-use Rattle.chars.proofs.chars.Reads as reads
-use Rattle.chars.proofs.chars.Lts as lts
-use Rattle.chars.proofs.fault.Reads as fault-reads
-use Rattle.chars.proofs.piece.Reads as piece-reads
-use Rattle.chars.proofs.plain_run.Reads as plain-run-reads
-use Rattle.scan.proofs.token.stands.Reads as stands-reads
 
 abbrev Inv-loop : tie.InvT-loop
 Inv-loop text at strings₀ used i₀ to₀ strings i to = Taken text at used strings₀ i to strings
@@ -22,19 +16,15 @@ Inv-loop text at strings₀ used i₀ to₀ strings i to = Taken text at used st
 abbrev μ-loop : tie.MeasureT-loop
 μ-loop text at strings₀ used i₀ to₀ strings i to = length text - i
 
--- src/lib.rt:430:9
 fault-requires : tie.Need-fault-requires Inv-loop μ-loop
 fault-requires c κs = tt
 
--- src/lib.rt:430:9
 returns : tie.Need-returns Inv-loop μ-loop
 returns c = promise-end (c .before .if1 .taken) (c .fault .ensures)
 
--- src/lib.rt:434:5
 loop-holds : tie.Need-loop-holds Inv-loop μ-loop
 loop-holds c = taken-none _ _ _ _ (omega (arith, c .if1 .left))
 
--- src/lib.rt:435:13
 plain-run-requires : tie.Need-plain-run-requires Inv-loop μ-loop
 plain-run-requires c κs = room-of (c .before .loop .inv) (c .before .before .before .before .before .pre .0) (c .before .before .before .before .before .pre .1)
 
@@ -47,51 +37,39 @@ run-room : (c : tie.After-plain-run Inv-loop μ-loop)
     → Room (c .before .before .before .before .before .before .args .text .now) (c .plain-run .result) (c .before .before .loop .to + (c .plain-run .result - c .before .before .loop .i)) (c .plain-run .last .1 .1 .0)
 run-room c = room-of (run c) (c .before .before .before .before .before .before .pre .0) (c .before .before .before .before .before .before .pre .1)
 
--- src/lib.rt:436:15
 sub-to : tie.Need-sub-to Inv-loop μ-loop
 sub-to c = omega (arith, c .before .before .plain-run .ensures .reads .few)
 
--- src/lib.rt:436:9
 add-to : tie.Need-add-to Inv-loop μ-loop
 add-to c = omega (arith, run-room (c .before .before))
 
--- src/lib.rt:437:12
 stands-requires : tie.Need-stands-requires Inv-loop μ-loop
 stands-requires c κs = tt
 
--- src/lib.rt:438:13
 same-length : tie.Need-same-length Inv-loop μ-loop
 same-length c = taken-length (run (c .before .before .before .before))
 
--- src/lib.rt:438:13
 returns-2 : tie.Need-returns-2 Inv-loop μ-loop
 returns-2 c = promise-closed (run (c .before .before .before .before)) (c .before .stands .ensures) (c .if2 .taken)
 
--- src/lib.rt:440:13
 piece-requires : tie.Need-piece-requires Inv-loop μ-loop
 piece-requires c κs = (run-room (c .before .before .before .before .before), rw (c .before .if2 .left) at (c .before .before .stands .ensures))
 
--- src/lib.rt:442:30
 enum-known-one : tie.Need-enum-known-one Inv-loop μ-loop
 enum-known-one c = search needs
 
--- src/lib.rt:443:17
 same-length-2 : tie.Need-same-length-2 Inv-loop μ-loop
 same-length-2 c = ap length (stopped (c .before .before .before .before .before .piece .ensures) (c .before .one .given .1) .same) ∙ taken-length (run (c .before .before .before .before .before .before .before .before .before .before .before))
 
--- src/lib.rt:443:17
 returns-3 : tie.Need-returns-3 Inv-loop μ-loop
 returns-3 c = promise-stopped (run (c .before .before .before .before .before .before .before .before .before .before .before)) (stopped (c .before .before .before .before .before .piece .ensures) (c .before .one .given .1))
 
--- src/lib.rt:446:21
 enum-known-one-2 : tie.Need-enum-known-one-2 Inv-loop μ-loop
 enum-known-one-2 c = search needs
 
--- src/lib.rt:434:5
 loop-less : tie.Need-loop-less Inv-loop μ-loop
 loop-less c = let a = advanced (c .before .before .before .before .before .piece .ensures) (c .before .one2 .given .1) in omega (arith, c .before .before .before .before .before .before .before .before .before .before .before .plain-run .ensures .reads .few, a .on, a .taken .reads .inside)
 
--- src/lib.rt:434:5
 loop-again : tie.Need-loop-again Inv-loop μ-loop
 loop-again c = taken-then (run (c .before .before .before .before .before .before .before .before .before .before .before)) (advanced (c .before .before .before .before .before .piece .ensures) (c .before .one2 .given .1) .taken)
 

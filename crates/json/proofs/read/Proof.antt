@@ -2,7 +2,7 @@
 use native.Mathlib.Omega.{arith}
 use Rattle.model.specs.Limits.{maxTextBytes, maxValues}
 use Rattle.syntax.specs.Layout.{rowBytes, entryBytes}
-use Rattle.json.proofs.All.{told, rows-few, law-short-table, law-short-strings, law-refused, law-done}
+use Rattle.json.proofs.All.{told, number-small, rows-few, law-short-table, law-short-strings, law-refused, law-done}
 use borrow.Author.Needs.{needs}
 use Rattle.json.proofs.read.Statement.{statement}
 use Rattle.json.proofs.read.Tie as tie
@@ -38,6 +38,10 @@ clear-from-requires c κs = search needs
 clear-from-requires-2 : tie.Need-clear-from-requires-2
 clear-from-requires-2 c κs = search needs
 
+-- src/lib.rt:91:26
+cast-t20 : tie.Need-cast-t20
+cast-t20 c = omega (arith, number-small (told (c .before .before .before .before .before .before .before .before .before .before .before .before .before .before .before .before .read-text .ensures) (c .before .before .before .before .before .before .before .before .before .before .s .given .1)))
+
 -- src/lib.rt:96:27
 enum-known-s-2 : tie.Need-enum-known-s-2
 enum-known-s-2 c = search needs
@@ -66,7 +70,7 @@ same-length-2 c = search needs
 -- src/lib.rt:68:1
 returns-3 : tie.Need-returns-3
 unfolding maxValues maxTextBytes rowBytes entryBytes
-returns-3 c = law-refused (c .before .before .before .before .before .before .before .before .before .before .before .before .before .before .before .before .before .before .before .if1 .left) (c .before .before .before .before .before .before .before .before .before .before .before .before .before .before .before .before .before .before .if2 .left) (c .before .before .before .before .before .before .before .before .before .before .before .before .before .before .before .read-text .kept .1 .0) (c .before .before .before .before .before .before .before .before .before .before .before .before .before .before .before .read-text .kept .1 .1 .0) (told (c .before .before .before .before .before .before .before .before .before .before .before .before .before .before .before .read-text .ensures) (c .before .before .before .before .before .before .before .before .before .s .given .1)) (c .before .before .before .before .before .before .clear-from .ensures) (c .before .before .clear-from2 .ensures)
+returns-3 c = law-refused (c .before .before .before .before .before .before .before .before .before .before .before .before .before .before .before .before .before .before .before .before .if1 .left) (c .before .before .before .before .before .before .before .before .before .before .before .before .before .before .before .before .before .before .before .if2 .left) (c .before .before .before .before .before .before .before .before .before .before .before .before .before .before .before .before .read-text .kept .1 .0) (c .before .before .before .before .before .before .before .before .before .before .before .before .before .before .before .before .read-text .kept .1 .1 .0) (told (c .before .before .before .before .before .before .before .before .before .before .before .before .before .before .before .before .read-text .ensures) (c .before .before .before .before .before .before .before .before .before .before .s .given .1)) (c .before .before .before .before .before .before .before .clear-from .ensures) (c .before .before .before .clear-from2 .ensures)
 
 -- src/lib.rt:68:1
 same-length-3 : tie.Need-same-length-3
@@ -91,6 +95,7 @@ read-spec =
     enum-known-s
     clear-from-requires
     clear-from-requires-2
+    cast-t20
     enum-known-s-2
     mul-clear-from
     clear-from-requires-3

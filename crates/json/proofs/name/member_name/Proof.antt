@@ -9,120 +9,86 @@ use borrow.Author.Tests.{not-true, not-false}
 use borrow.Author.Needs.{needs}
 use Rattle.json.proofs.name.member_name.Statement.{statement}
 use Rattle.json.proofs.name.member_name.Tie as tie
-use Rattle.json.proofs.name.member_name.Reads as reads
-use Rattle.json.proofs.name.member_name.Lts as lts
-use Rattle.chars.proofs.chars.Reads as chars-reads
-use Rattle.json.proofs.name.no_name.Reads as no-name-reads
-use Rattle.names.proofs.enter.Reads as enter-reads
-use Rattle.scan.proofs.token.skip_white.Reads as skip-white-reads
-use Rattle.scan.proofs.token.stands.Reads as stands-reads
 
--- src/name.rt:38:9
 stands-requires : tie.Need-stands-requires
 stands-requires c κs = search needs
 
--- src/name.rt:39:9
 no-name-requires : tie.Need-no-name-requires
 no-name-requires c κs = search needs
 
--- src/name.rt:39:9
 returns : tie.Need-returns
 returns c = law-no-name (c .before .before .stands .ensures) (not-true _ (c .before .if1 .taken)) (c .no-name .ensures)
 
--- src/name.rt:41:31
 add-chars : tie.Need-add-chars
 add-chars c = search needs
 
--- src/name.rt:41:9
 chars-requires : tie.Need-chars-requires
 chars-requires c κs = omega (arith, c .before .before .stands .ensures .room (not-false _ (c .before .if1 .left)))
 
--- src/name.rt:43:26
 enum-known-decoded : tie.Need-enum-known-decoded
 enum-known-decoded c = search needs
 
--- src/name.rt:44:30
 enum-known-decoded-2 : tie.Need-enum-known-decoded-2
 enum-known-decoded-2 c = search needs
 
--- src/name.rt:47:23
 sub-skip-white : tie.Need-sub-skip-white
 sub-skip-white c = string-end (c .before .before .before .before .before .chars .ensures) (c .before .decoded2 .given .1) .1
 
--- src/name.rt:49:16
 enter-requires : tie.Need-enter-requires
 enter-requires c κs = law-enter-room (c .before .before .before .before .before .before .before .before .before .before .stands .ensures) (not-false _ (c .before .before .before .before .before .before .before .before .before .if1 .left)) (c .before .before .before .before .before .before .before .chars .ensures) (c .before .before .before .decoded2 .given .1) (c .before .before .before .before .before .before .before .before .before .before .before .before .before .before .pre)
 
--- src/name.rt:50:17
 no-name-requires-2 : tie.Need-no-name-requires-2
 no-name-requires-2 c κs = search needs
 
--- src/name.rt:50:17
 same-length : tie.Need-same-length
 same-length c = search needs
 
--- src/name.rt:50:17
 same-length-2 : tie.Need-same-length-2
 same-length-2 c = search needs
 
--- src/name.rt:50:17
 returns-2 : tie.Need-returns-2
 returns-2 c = law-repeated (c .before .before .before .before .before .before .before .before .before .before .before .before .before .before .before .stands .ensures) (not-false _ (c .before .before .before .before .before .before .before .before .before .before .before .before .before .before .if1 .left)) (c .before .before .before .before .before .before .before .before .before .before .before .before .chars .ensures) (c .before .before .before .before .before .before .before .before .decoded2 .given .1) (c .before .before .before .before .before .before .before .before .before .before .before .before .before .before .before .before .before .before .before .pre) (c .before .before .before .before .enter .ensures) (c .before .if2 .taken) (c .no-name2 .ensures)
 
--- src/name.rt:52:42
 add-skip-white : tie.Need-add-skip-white
 add-skip-white c = omega (arith, string-end (c .before .before .before .before .before .before .before .before .before .before .before .chars .ensures) (c .before .before .before .before .before .before .before .decoded2 .given .1))
 
--- src/name.rt:52:17
 skip-white-requires : tie.Need-skip-white-requires
 skip-white-requires c κs = search needs
 
--- src/name.rt:53:17
 stands-requires-2 : tie.Need-stands-requires-2
 stands-requires-2 c κs = search needs
 
--- src/name.rt:54:17
 no-name-requires-3 : tie.Need-no-name-requires-3
 no-name-requires-3 c κs = search needs
 
--- src/name.rt:54:17
 same-length-3 : tie.Need-same-length-3
 same-length-3 c = search needs
 
--- src/name.rt:54:17
 same-length-4 : tie.Need-same-length-4
 same-length-4 c = search needs
 
--- src/name.rt:54:17
 returns-3 : tie.Need-returns-3
 returns-3 c = law-no-colon (c .before .before .before .before .before .before .before .before .before .before .before .before .before .before .before .before .before .before .stands .ensures) (not-false _ (c .before .before .before .before .before .before .before .before .before .before .before .before .before .before .before .before .before .if1 .left)) (c .before .before .before .before .before .before .before .before .before .before .before .before .before .before .before .chars .ensures) (c .before .before .before .before .before .before .before .before .before .before .before .decoded2 .given .1) (c .before .before .before .before .before .before .before .before .before .before .before .before .before .before .before .before .before .before .before .before .before .before .pre) (c .before .before .before .before .before .before .before .enter .ensures) (c .before .before .before .before .if2 .left) (c .before .before .before .skip-white .ensures) (c .before .before .stands2 .ensures) (not-true _ (c .before .if3 .taken)) (c .no-name3 .ensures)
 
--- src/name.rt:56:46
 add-skip-white-2 : tie.Need-add-skip-white-2
 unfolding maxTextBytes
 add-skip-white-2 c = let l : c .before .before .skip-white .result < length (c .before .before .before .before .before .before .before .before .before .before .before .before .before .before .before .before .before .before .before .before .before .args .text .now) = c .before .stands2 .ensures .room (not-false _ (c .if3 .left)) in omega (arith, c .before .before .before .before .before .before .before .before .before .before .before .before .before .before .before .before .before .before .before .before .before .pre .room .short)
 
--- src/name.rt:56:29
 skip-white-requires-2 : tie.Need-skip-white-requires-2
 skip-white-requires-2 c κs = search needs
 
--- src/name.rt:26:1
 same-length-5 : tie.Need-same-length-5
 same-length-5 c = search needs
 
--- src/name.rt:26:1
 returns-4 : tie.Need-returns-4
 returns-4 c = law-name-chars (c .before .before .before .before .before .before .before .before .stands .ensures) (not-false _ (c .before .before .before .before .before .before .before .if1 .left)) (c .before .before .before .before .before .chars .ensures) (c .before .decoded .given .1)
 
--- src/name.rt:26:1
 same-length-6 : tie.Need-same-length-6
 same-length-6 c = search needs
 
--- src/name.rt:26:1
 same-length-7 : tie.Need-same-length-7
 same-length-7 c = search needs
 
--- src/name.rt:26:1
 returns-5 : tie.Need-returns-5
 returns-5 c = law-name (c .before .before .before .before .before .before .before .before .before .before .before .before .before .before .before .before .before .before .stands .ensures) (not-false _ (c .before .before .before .before .before .before .before .before .before .before .before .before .before .before .before .before .before .if1 .left)) (c .before .before .before .before .before .before .before .before .before .before .before .before .before .before .before .chars .ensures) (c .before .before .before .before .before .before .before .before .before .before .before .decoded2 .given .1) (c .before .before .before .before .before .before .before .before .before .before .before .before .before .before .before .before .before .before .before .before .before .before .pre) (c .before .before .before .before .before .before .before .enter .ensures) (c .before .before .before .before .if2 .left) (c .before .before .before .skip-white .ensures) (c .before .before .stands2 .ensures) (not-false _ (c .before .if3 .left)) (c .skip-white2 .ensures)
 

@@ -5,46 +5,32 @@ use Rattle.json.proofs.Values.{law-number, law-number-bad}
 use borrow.Author.Needs.{needs}
 use Rattle.json.proofs.scalar.read_number.Statement.{statement}
 use Rattle.json.proofs.scalar.read_number.Tie as tie
-use Rattle.json.proofs.scalar.read_number.Reads as reads
-use Rattle.json.proofs.scalar.read_number.Lts as lts
-use Rattle.json.proofs.row.put_row.Reads as put-row-reads
-use Rattle.json.proofs.step.place.Reads as place-reads
-use Rattle.scan.proofs.number.number.Reads as number-reads
 
--- src/scalar.rt:71:9
 number-requires : tie.Need-number-requires
 number-requires c κs = search needs
 
--- src/scalar.rt:73:28
 enum-known-numeral : tie.Need-enum-known-numeral
 enum-known-numeral c = search needs
 
--- src/scalar.rt:74:32
 enum-known-numeral-2 : tie.Need-enum-known-numeral-2
 enum-known-numeral-2 c = search needs
 
--- src/scalar.rt:77:13
 put-row-requires : tie.Need-put-row-requires
 put-row-requires c κs = search needs
 
--- src/scalar.rt:78:38
 add-place : tie.Need-add-place
 unfolding maxValues
 add-place c = omega arith
 
--- src/scalar.rt:78:27
 place-requires : tie.Need-place-requires
 place-requires c κs = search needs
 
--- src/scalar.rt:59:1
 returns : tie.Need-returns
 returns c = law-number-bad (c .before .before .before .before .before .before .args .negative) (c .before .before .before .number .ensures) (c .before .numeral .given .1)
 
--- src/scalar.rt:59:1
 same-length : tie.Need-same-length
 same-length c = search needs
 
--- src/scalar.rt:59:1
 returns-2 : tie.Need-returns-2
 returns-2 c = law-number (c .before .before .before .before .before .before .before .before .before .before .before .args .negative) (c .before .before .before .before .before .before .before .before .number .ensures) (c .before .before .before .before .before .before .numeral2 .given .1) (c .before .before .before .before .before .before .before .before .before .before .before .pre .text) (c .before .before .before .before .before .before .before .before .before .before .before .pre .rows) (c .before .before .before .put-row .ensures .is) (c .place .ensures)
 

@@ -5,9 +5,9 @@ use native.Mathlib.Omega.{arith}
 use borrow.Author.Needs.{needs}
 use lib.ListN.{length}
 use Rattle.model.specs.Limits.{maxValues, maxNesting}
-use Rattle.json.proofs.Values.{started, ended, continued, law-none, law-much, law-word, law-minus, law-digit, law-quote, law-bracket, law-brace, law-array, law-array-empty, law-object, law-object-empty}
-use Rattle.json.proofs.Items.{ItemsInv, items-start, items-done, items-next, items-less}
-use Rattle.json.proofs.Members.{named-as, MembersInv, members-start, members-no-name, members-done, members-next, members-less}
+use Rattle.json.proofs.Values.{started, breaks, closes, continued, law-none, law-much, law-word, law-minus, law-digit, law-quote, law-bracket, law-brace, law-array, law-array-empty, law-object, law-object-empty}
+use Rattle.json.proofs.Items.{ItemsInv, items-start, items-broken, items-closed, items-next, items-less}
+use Rattle.json.proofs.Members.{named-as, MembersInv, members-start, members-no-name, members-broken, members-closed, members-next, members-less}
 use Prim.Native.Nat.{ℕ, _<_}
 use borrow.Fn.Kinds.{In}
 use borrow.Fn.PlainCycle.{Measures, is, falls, and}
@@ -141,7 +141,7 @@ all-items-follow-requires : (t : ℕ) → all-items-lts.Need-follow-requires (
 ) (all-items-at t) all-items.Post all-items-Inv-loop all-items-μ-loop
 all-items-follow-requires t c κs = record { short = c .before .before .before .before .before .before .before .before .before .before .before .before .pre .1 .short; few = omega (arith, c .before .before .before .before .before .before .before .loop .inv .inv) }
 
--- src/tree.rt:126:25
+-- src/tree.rt:126:27
 all-items-enum-known-after : (t : ℕ) → all-items-lts.Need-enum-known-after (
   place-reads.Asked,
   place-reads.Learnt,
@@ -183,9 +183,9 @@ all-items-returns : (t : ℕ) → all-items-lts.Need-returns (
   follow-reads.Asked,
   follow-reads.Learnt,
 ) (all-items-at t) all-items.Post all-items-Inv-loop all-items-μ-loop
-all-items-returns t c = items-done (c .before .before .before .before .before .before .before .before .before .before .before .loop .inv) (c .before .before .before .before .before .before .before .before .value .ensures) (ended (c .before .before .before .follow .ensures) (c .before .after .given .1))
+all-items-returns t c = items-broken (c .before .before .before .before .before .before .before .before .before .before .before .loop .inv) (c .before .before .before .before .before .before .before .before .value .ensures) (breaks (c .before .before .before .follow .ensures) (c .before .after .given .1))
 
--- src/tree.rt:129:25
+-- src/tree.rt:129:27
 all-items-enum-known-after-2 : (t : ℕ) → all-items-lts.Need-enum-known-after-2 (
   place-reads.Asked,
   place-reads.Learnt,
@@ -196,6 +196,50 @@ all-items-enum-known-after-2 : (t : ℕ) → all-items-lts.Need-enum-known-after
 ) (all-items-at t) all-items.Post all-items-Inv-loop all-items-μ-loop
 all-items-enum-known-after-2 t c = search needs
 
+-- src/tree.rt:130:17
+all-items-same-length-3 : (t : ℕ) → all-items-lts.Need-same-length-3 (
+  place-reads.Asked,
+  place-reads.Learnt,
+  value-below t,
+  value.Post,
+  follow-reads.Asked,
+  follow-reads.Learnt,
+) (all-items-at t) all-items.Post all-items-Inv-loop all-items-μ-loop
+all-items-same-length-3 t c = search needs
+
+-- src/tree.rt:130:17
+all-items-same-length-4 : (t : ℕ) → all-items-lts.Need-same-length-4 (
+  place-reads.Asked,
+  place-reads.Learnt,
+  value-below t,
+  value.Post,
+  follow-reads.Asked,
+  follow-reads.Learnt,
+) (all-items-at t) all-items.Post all-items-Inv-loop all-items-μ-loop
+all-items-same-length-4 t c = search needs
+
+-- src/tree.rt:130:17
+all-items-returns-2 : (t : ℕ) → all-items-lts.Need-returns-2 (
+  place-reads.Asked,
+  place-reads.Learnt,
+  value-below t,
+  value.Post,
+  follow-reads.Asked,
+  follow-reads.Learnt,
+) (all-items-at t) all-items.Post all-items-Inv-loop all-items-μ-loop
+all-items-returns-2 t c = items-closed (c .before .before .before .before .before .before .before .before .before .before .before .loop .inv) (c .before .before .before .before .before .before .before .before .value .ensures) (closes (c .before .before .before .follow .ensures) (c .before .after2 .given .1))
+
+-- src/tree.rt:132:25
+all-items-enum-known-after-3 : (t : ℕ) → all-items-lts.Need-enum-known-after-3 (
+  place-reads.Asked,
+  place-reads.Learnt,
+  value-below t,
+  value.Post,
+  follow-reads.Asked,
+  follow-reads.Learnt,
+) (all-items-at t) all-items.Post all-items-Inv-loop all-items-μ-loop
+all-items-enum-known-after-3 t c = search needs
+
 -- src/tree.rt:113:5
 all-items-loop-less : (t : ℕ) → all-items-lts.Need-loop-less (
   place-reads.Asked,
@@ -205,7 +249,7 @@ all-items-loop-less : (t : ℕ) → all-items-lts.Need-loop-less (
   follow-reads.Asked,
   follow-reads.Learnt,
 ) (all-items-at t) all-items.Post all-items-Inv-loop all-items-μ-loop
-all-items-loop-less t c = items-less (c .before .before .before .before .before .before .before .before .before .before .before .loop .inv) (c .before .before .before .before .before .before .before .before .value .ensures) (continued (c .before .before .before .follow .ensures) (c .before .after2 .given .1))
+all-items-loop-less t c = items-less (c .before .before .before .before .before .before .before .before .before .before .before .loop .inv) (c .before .before .before .before .before .before .before .before .value .ensures) (continued (c .before .before .before .follow .ensures) (c .before .after3 .given .1))
 
 -- src/tree.rt:113:5
 all-items-loop-again : (t : ℕ) → all-items-lts.Need-loop-again (
@@ -216,7 +260,7 @@ all-items-loop-again : (t : ℕ) → all-items-lts.Need-loop-again (
   follow-reads.Asked,
   follow-reads.Learnt,
 ) (all-items-at t) all-items.Post all-items-Inv-loop all-items-μ-loop
-all-items-loop-again t c = items-next (c .before .before .before .before .before .before .before .before .before .before .before .loop .inv) (c .before .before .before .before .before .before .before .before .value .ensures) (continued (c .before .before .before .follow .ensures) (c .before .after2 .given .1)) (omega (arith, c .before .before .before .before .before .before .before .before .value .kept, c .before .before .before .before .before .before .before .before .before .before .before .loop .inv .inv)) (omega (arith, c .before .before .before .before .before .before .before .before .value .kept, c .before .before .before .before .before .before .before .before .before .before .before .loop .inv .inv))
+all-items-loop-again t c = items-next (c .before .before .before .before .before .before .before .before .before .before .before .loop .inv) (c .before .before .before .before .before .before .before .before .value .ensures) (continued (c .before .before .before .follow .ensures) (c .before .after3 .given .1)) (omega (arith, c .before .before .before .before .before .before .before .before .value .kept, c .before .before .before .before .before .before .before .before .before .before .before .loop .inv .inv)) (omega (arith, c .before .before .before .before .before .before .before .before .value .kept, c .before .before .before .before .before .before .before .before .before .before .before .loop .inv .inv))
 
 abbrev all-members-Inv-loop : all-members-lts.InvT-loop
 all-members-Inv-loop text at table₀ row strings₀ used depth here₀ table strings here =
@@ -226,7 +270,7 @@ abbrev all-members-μ-loop : all-members-lts.MeasureT-loop
 all-members-μ-loop text at table₀ row strings₀ used depth here₀ table strings here =
     length text - here .at
 
--- src/tree.rt:149:9
+-- src/tree.rt:152:9
 all-members-place-requires : (t : ℕ) → all-members-lts.Need-place-requires (
   place-reads.Asked,
   place-reads.Learnt,
@@ -239,7 +283,7 @@ all-members-place-requires : (t : ℕ) → all-members-lts.Need-place-requires (
 ) (all-members-at t) all-members.Post all-members-Inv-loop all-members-μ-loop
 all-members-place-requires t c κs = search needs
 
--- src/tree.rt:150:5
+-- src/tree.rt:153:5
 all-members-loop-holds : (t : ℕ) → all-members-lts.Need-loop-holds (
   place-reads.Asked,
   place-reads.Learnt,
@@ -252,7 +296,7 @@ all-members-loop-holds : (t : ℕ) → all-members-lts.Need-loop-holds (
 ) (all-members-at t) all-members.Post all-members-Inv-loop all-members-μ-loop
 all-members-loop-holds t c = members-start (c .before .before .before .before .pre .1) (c .place .ensures)
 
--- src/tree.rt:151:13
+-- src/tree.rt:154:13
 all-members-member-name-requires : (t : ℕ) → all-members-lts.Need-member-name-requires (
   place-reads.Asked,
   place-reads.Learnt,
@@ -265,7 +309,7 @@ all-members-member-name-requires : (t : ℕ) → all-members-lts.Need-member-nam
 ) (all-members-at t) all-members.Post all-members-Inv-loop all-members-μ-loop
 all-members-member-name-requires t c κs = search needs
 
--- src/tree.rt:153:30
+-- src/tree.rt:156:30
 all-members-enum-known-n : (t : ℕ) → all-members-lts.Need-enum-known-n (
   place-reads.Asked,
   place-reads.Learnt,
@@ -278,7 +322,7 @@ all-members-enum-known-n : (t : ℕ) → all-members-lts.Need-enum-known-n (
 ) (all-members-at t) all-members.Post all-members-Inv-loop all-members-μ-loop
 all-members-enum-known-n t c = search needs
 
--- src/tree.rt:154:17
+-- src/tree.rt:157:17
 all-members-same-length : (t : ℕ) → all-members-lts.Need-same-length (
   place-reads.Asked,
   place-reads.Learnt,
@@ -291,7 +335,7 @@ all-members-same-length : (t : ℕ) → all-members-lts.Need-same-length (
 ) (all-members-at t) all-members.Post all-members-Inv-loop all-members-μ-loop
 all-members-same-length t c = search needs
 
--- src/tree.rt:154:17
+-- src/tree.rt:157:17
 all-members-same-length-2 : (t : ℕ) → all-members-lts.Need-same-length-2 (
   place-reads.Asked,
   place-reads.Learnt,
@@ -304,7 +348,7 @@ all-members-same-length-2 : (t : ℕ) → all-members-lts.Need-same-length-2 (
 ) (all-members-at t) all-members.Post all-members-Inv-loop all-members-μ-loop
 all-members-same-length-2 t c = search needs
 
--- src/tree.rt:154:17
+-- src/tree.rt:157:17
 all-members-returns : (t : ℕ) → all-members-lts.Need-returns (
   place-reads.Asked,
   place-reads.Learnt,
@@ -317,7 +361,7 @@ all-members-returns : (t : ℕ) → all-members-lts.Need-returns (
 ) (all-members-at t) all-members.Post all-members-Inv-loop all-members-μ-loop
 all-members-returns t c = members-no-name (c .before .before .before .before .before .before .before .before .before .before .loop .inv) (named-as (c .before .before .before .before .before .before .before .member-name .ensures) (c .before .n .given .1))
 
--- src/tree.rt:156:29
+-- src/tree.rt:159:29
 all-members-enum-known-n-2 : (t : ℕ) → all-members-lts.Need-enum-known-n-2 (
   place-reads.Asked,
   place-reads.Learnt,
@@ -330,7 +374,7 @@ all-members-enum-known-n-2 : (t : ℕ) → all-members-lts.Need-enum-known-n-2 (
 ) (all-members-at t) all-members.Post all-members-Inv-loop all-members-μ-loop
 all-members-enum-known-n-2 t c = search needs
 
--- src/tree.rt:157:26
+-- src/tree.rt:160:26
 all-members-add-to : (t : ℕ) → all-members-lts.Need-add-to (
   place-reads.Asked,
   place-reads.Learnt,
@@ -343,7 +387,7 @@ all-members-add-to : (t : ℕ) → all-members-lts.Need-add-to (
 ) (all-members-at t) all-members.Post all-members-Inv-loop all-members-μ-loop
 all-members-add-to t c = let safe = (named-as (c .before .before .before .before .before .before .before .before .before .member-name .ensures) (c .before .before .before .n2 .given .1)) .safe in omega (arith, safe)
 
--- src/tree.rt:158:21
+-- src/tree.rt:161:21
 all-members-value-requires : (t : ℕ) → all-members-lts.Need-value-requires (
   place-reads.Asked,
   place-reads.Learnt,
@@ -356,7 +400,7 @@ all-members-value-requires : (t : ℕ) → all-members-lts.Need-value-requires (
 ) (all-members-at t) all-members.Post all-members-Inv-loop all-members-μ-loop
 all-members-value-requires t c κs = let safe = (named-as (c .before .before .before .before .before .before .before .before .before .before .before .member-name .ensures) (c .before .before .before .before .before .n2 .given .1)) .safe in omega (arith, safe, c .before .before .before .before .before .before .before .before .before .before .before .before .before .before .loop .inv .inv, c .before .before .before .before .before .before .before .before .before .before .before .member-name .kept, c .before .before .before .before .before .before .before .before .before .before .before .before .before .before .before .before .before .before .before .pre)
 
--- src/tree.rt:159:21
+-- src/tree.rt:162:21
 all-members-follow-requires : (t : ℕ) → all-members-lts.Need-follow-requires (
   place-reads.Asked,
   place-reads.Learnt,
@@ -369,7 +413,7 @@ all-members-follow-requires : (t : ℕ) → all-members-lts.Need-follow-requires
 ) (all-members-at t) all-members.Post all-members-Inv-loop all-members-μ-loop
 all-members-follow-requires t c κs = record { short = c .before .before .before .before .before .before .before .before .before .before .before .before .before .before .before .before .before .before .before .before .before .before .before .before .pre .1 .room .short; few = omega (arith, c .before .before .before .before .before .before .before .before .before .before .before .before .before .before .before .before .before .before .before .loop .inv .inv) }
 
--- src/tree.rt:161:33
+-- src/tree.rt:164:35
 all-members-enum-known-after : (t : ℕ) → all-members-lts.Need-enum-known-after (
   place-reads.Asked,
   place-reads.Learnt,
@@ -382,7 +426,7 @@ all-members-enum-known-after : (t : ℕ) → all-members-lts.Need-enum-known-aft
 ) (all-members-at t) all-members.Post all-members-Inv-loop all-members-μ-loop
 all-members-enum-known-after t c = search needs
 
--- src/tree.rt:162:25
+-- src/tree.rt:165:25
 all-members-same-length-3 : (t : ℕ) → all-members-lts.Need-same-length-3 (
   place-reads.Asked,
   place-reads.Learnt,
@@ -395,7 +439,7 @@ all-members-same-length-3 : (t : ℕ) → all-members-lts.Need-same-length-3 (
 ) (all-members-at t) all-members.Post all-members-Inv-loop all-members-μ-loop
 all-members-same-length-3 t c = omega (arith, c .before .before .before .before .before .before .before .before .value .kept, c .before .before .before .before .before .before .before .before .before .before .before .before .before .before .before .before .before .before .before .before .member-name .kept, c .before .before .before .before .before .before .before .before .before .before .before .before .before .before .before .before .before .before .before .before .before .before .before .loop .inv .inv)
 
--- src/tree.rt:162:25
+-- src/tree.rt:165:25
 all-members-same-length-4 : (t : ℕ) → all-members-lts.Need-same-length-4 (
   place-reads.Asked,
   place-reads.Learnt,
@@ -408,7 +452,7 @@ all-members-same-length-4 : (t : ℕ) → all-members-lts.Need-same-length-4 (
 ) (all-members-at t) all-members.Post all-members-Inv-loop all-members-μ-loop
 all-members-same-length-4 t c = omega (arith, c .before .before .before .before .before .before .before .before .value .kept, c .before .before .before .before .before .before .before .before .before .before .before .before .before .before .before .before .before .before .before .before .member-name .kept, c .before .before .before .before .before .before .before .before .before .before .before .before .before .before .before .before .before .before .before .before .before .before .before .loop .inv .inv)
 
--- src/tree.rt:162:25
+-- src/tree.rt:165:25
 all-members-returns-2 : (t : ℕ) → all-members-lts.Need-returns-2 (
   place-reads.Asked,
   place-reads.Learnt,
@@ -419,9 +463,9 @@ all-members-returns-2 : (t : ℕ) → all-members-lts.Need-returns-2 (
   follow-reads.Asked,
   follow-reads.Learnt,
 ) (all-members-at t) all-members.Post all-members-Inv-loop all-members-μ-loop
-all-members-returns-2 t c = members-done (c .before .before .before .before .before .before .before .before .before .before .before .before .before .before .before .before .before .before .before .before .before .before .before .loop .inv) (named-as (c .before .before .before .before .before .before .before .before .before .before .before .before .before .before .before .before .before .before .before .before .member-name .ensures) (c .before .before .before .before .before .before .before .before .before .before .before .before .before .before .n2 .given .1)) (c .before .before .before .before .before .before .before .before .value .ensures) (ended (c .before .before .before .follow .ensures) (c .before .after .given .1))
+all-members-returns-2 t c = members-broken (c .before .before .before .before .before .before .before .before .before .before .before .before .before .before .before .before .before .before .before .before .before .before .before .loop .inv) (named-as (c .before .before .before .before .before .before .before .before .before .before .before .before .before .before .before .before .before .before .before .before .member-name .ensures) (c .before .before .before .before .before .before .before .before .before .before .before .before .before .before .n2 .given .1)) (c .before .before .before .before .before .before .before .before .value .ensures) (breaks (c .before .before .before .follow .ensures) (c .before .after .given .1))
 
--- src/tree.rt:164:33
+-- src/tree.rt:167:35
 all-members-enum-known-after-2 : (t : ℕ) → all-members-lts.Need-enum-known-after-2 (
   place-reads.Asked,
   place-reads.Learnt,
@@ -434,7 +478,59 @@ all-members-enum-known-after-2 : (t : ℕ) → all-members-lts.Need-enum-known-a
 ) (all-members-at t) all-members.Post all-members-Inv-loop all-members-μ-loop
 all-members-enum-known-after-2 t c = search needs
 
--- src/tree.rt:150:5
+-- src/tree.rt:168:25
+all-members-same-length-5 : (t : ℕ) → all-members-lts.Need-same-length-5 (
+  place-reads.Asked,
+  place-reads.Learnt,
+  member-name-reads.Asked,
+  member-name-reads.Learnt,
+  value-below t,
+  value.Post,
+  follow-reads.Asked,
+  follow-reads.Learnt,
+) (all-members-at t) all-members.Post all-members-Inv-loop all-members-μ-loop
+all-members-same-length-5 t c = omega (arith, c .before .before .before .before .before .before .before .before .value .kept, c .before .before .before .before .before .before .before .before .before .before .before .before .before .before .before .before .before .before .before .before .member-name .kept, c .before .before .before .before .before .before .before .before .before .before .before .before .before .before .before .before .before .before .before .before .before .before .before .loop .inv .inv)
+
+-- src/tree.rt:168:25
+all-members-same-length-6 : (t : ℕ) → all-members-lts.Need-same-length-6 (
+  place-reads.Asked,
+  place-reads.Learnt,
+  member-name-reads.Asked,
+  member-name-reads.Learnt,
+  value-below t,
+  value.Post,
+  follow-reads.Asked,
+  follow-reads.Learnt,
+) (all-members-at t) all-members.Post all-members-Inv-loop all-members-μ-loop
+all-members-same-length-6 t c = omega (arith, c .before .before .before .before .before .before .before .before .value .kept, c .before .before .before .before .before .before .before .before .before .before .before .before .before .before .before .before .before .before .before .before .member-name .kept, c .before .before .before .before .before .before .before .before .before .before .before .before .before .before .before .before .before .before .before .before .before .before .before .loop .inv .inv)
+
+-- src/tree.rt:168:25
+all-members-returns-3 : (t : ℕ) → all-members-lts.Need-returns-3 (
+  place-reads.Asked,
+  place-reads.Learnt,
+  member-name-reads.Asked,
+  member-name-reads.Learnt,
+  value-below t,
+  value.Post,
+  follow-reads.Asked,
+  follow-reads.Learnt,
+) (all-members-at t) all-members.Post all-members-Inv-loop all-members-μ-loop
+all-members-returns-3 t c = members-closed (c .before .before .before .before .before .before .before .before .before .before .before .before .before .before .before .before .before .before .before .before .before .before .before .loop .inv) (named-as (c .before .before .before .before .before .before .before .before .before .before .before .before .before .before .before .before .before .before .before .before .member-name .ensures) (c .before .before .before .before .before .before .before .before .before .before .before .before .before .before .n2 .given .1)) (c .before .before .before .before .before .before .before .before .value .ensures) (closes (c .before .before .before .follow .ensures) (c .before .after2 .given .1))
+
+-- src/tree.rt:170:33
+all-members-enum-known-after-3 : (t : ℕ) → all-members-lts.Need-enum-known-after-3 (
+  place-reads.Asked,
+  place-reads.Learnt,
+  member-name-reads.Asked,
+  member-name-reads.Learnt,
+  value-below t,
+  value.Post,
+  follow-reads.Asked,
+  follow-reads.Learnt,
+) (all-members-at t) all-members.Post all-members-Inv-loop all-members-μ-loop
+all-members-enum-known-after-3 t c = search needs
+
+-- src/tree.rt:153:5
 all-members-loop-less : (t : ℕ) → all-members-lts.Need-loop-less (
   place-reads.Asked,
   place-reads.Learnt,
@@ -445,9 +541,9 @@ all-members-loop-less : (t : ℕ) → all-members-lts.Need-loop-less (
   follow-reads.Asked,
   follow-reads.Learnt,
 ) (all-members-at t) all-members.Post all-members-Inv-loop all-members-μ-loop
-all-members-loop-less t c = members-less (c .before .before .before .before .before .before .before .before .before .before .before .before .before .before .before .before .before .before .before .before .before .before .before .loop .inv) (named-as (c .before .before .before .before .before .before .before .before .before .before .before .before .before .before .before .before .before .before .before .before .member-name .ensures) (c .before .before .before .before .before .before .before .before .before .before .before .before .before .before .n2 .given .1)) (c .before .before .before .before .before .before .before .before .value .ensures) (continued (c .before .before .before .follow .ensures) (c .before .after2 .given .1))
+all-members-loop-less t c = members-less (c .before .before .before .before .before .before .before .before .before .before .before .before .before .before .before .before .before .before .before .before .before .before .before .loop .inv) (named-as (c .before .before .before .before .before .before .before .before .before .before .before .before .before .before .before .before .before .before .before .before .member-name .ensures) (c .before .before .before .before .before .before .before .before .before .before .before .before .before .before .n2 .given .1)) (c .before .before .before .before .before .before .before .before .value .ensures) (continued (c .before .before .before .follow .ensures) (c .before .after3 .given .1))
 
--- src/tree.rt:150:5
+-- src/tree.rt:153:5
 all-members-loop-again : (t : ℕ) → all-members-lts.Need-loop-again (
   place-reads.Asked,
   place-reads.Learnt,
@@ -458,7 +554,7 @@ all-members-loop-again : (t : ℕ) → all-members-lts.Need-loop-again (
   follow-reads.Asked,
   follow-reads.Learnt,
 ) (all-members-at t) all-members.Post all-members-Inv-loop all-members-μ-loop
-all-members-loop-again t c = members-next (c .before .before .before .before .before .before .before .before .before .before .before .before .before .before .before .before .before .before .before .before .before .before .before .loop .inv) (named-as (c .before .before .before .before .before .before .before .before .before .before .before .before .before .before .before .before .before .before .before .before .member-name .ensures) (c .before .before .before .before .before .before .before .before .before .before .before .before .before .before .n2 .given .1)) (c .before .before .before .before .before .before .before .before .value .ensures) (continued (c .before .before .before .follow .ensures) (c .before .after2 .given .1)) (c .before .before .before .before .before .before .before .before .before .before .before .before .before .before .before .before .before .before .before .before .before .before .before .before .before .before .before .before .pre .1) (omega (arith, c .before .before .before .before .before .before .before .before .before .before .before .before .before .before .before .before .before .before .before .before .member-name .kept, c .before .before .before .before .before .before .before .before .before .before .before .before .before .before .before .before .before .before .before .before .before .before .before .loop .inv .inv)) (omega (arith, c .before .before .before .before .before .before .before .before .value .kept, c .before .before .before .before .before .before .before .before .before .before .before .before .before .before .before .before .before .before .before .before .member-name .kept, c .before .before .before .before .before .before .before .before .before .before .before .before .before .before .before .before .before .before .before .before .before .before .before .loop .inv .inv)) (omega (arith, c .before .before .before .before .before .before .before .before .value .kept, c .before .before .before .before .before .before .before .before .before .before .before .before .before .before .before .before .before .before .before .before .member-name .kept, c .before .before .before .before .before .before .before .before .before .before .before .before .before .before .before .before .before .before .before .before .before .before .before .loop .inv .inv))
+all-members-loop-again t c = members-next (c .before .before .before .before .before .before .before .before .before .before .before .before .before .before .before .before .before .before .before .before .before .before .before .loop .inv) (named-as (c .before .before .before .before .before .before .before .before .before .before .before .before .before .before .before .before .before .before .before .before .member-name .ensures) (c .before .before .before .before .before .before .before .before .before .before .before .before .before .before .n2 .given .1)) (c .before .before .before .before .before .before .before .before .value .ensures) (continued (c .before .before .before .follow .ensures) (c .before .after3 .given .1)) (c .before .before .before .before .before .before .before .before .before .before .before .before .before .before .before .before .before .before .before .before .before .before .before .before .before .before .before .before .pre .1) (omega (arith, c .before .before .before .before .before .before .before .before .before .before .before .before .before .before .before .before .before .before .before .before .member-name .kept, c .before .before .before .before .before .before .before .before .before .before .before .before .before .before .before .before .before .before .before .before .before .before .before .loop .inv .inv)) (omega (arith, c .before .before .before .before .before .before .before .before .value .kept, c .before .before .before .before .before .before .before .before .before .before .before .before .before .before .before .before .before .before .before .before .member-name .kept, c .before .before .before .before .before .before .before .before .before .before .before .before .before .before .before .before .before .before .before .before .before .before .before .loop .inv .inv)) (omega (arith, c .before .before .before .before .before .before .before .before .value .kept, c .before .before .before .before .before .before .before .before .before .before .before .before .before .before .before .before .before .before .before .before .member-name .kept, c .before .before .before .before .before .before .before .before .before .before .before .before .before .before .before .before .before .before .before .before .before .before .before .loop .inv .inv))
 
 -- src/tree.rt:68:9
 array-skip-white-requires : (t : ℕ) → array-lts.Need-skip-white-requires (
@@ -1569,6 +1665,10 @@ pub +all-items+all-members+array+object+value-spec : {M : Type 1} → statement 
     (all-items-same-length-2 t)
     (all-items-returns t)
     (all-items-enum-known-after-2 t)
+    (all-items-same-length-3 t)
+    (all-items-same-length-4 t)
+    (all-items-returns-2 t)
+    (all-items-enum-known-after-3 t)
     (all-items-loop-less t)
     (all-items-loop-again t))
     (λ t. all-members-lts.spec (
@@ -1601,6 +1701,10 @@ pub +all-items+all-members+array+object+value-spec : {M : Type 1} → statement 
     (all-members-same-length-4 t)
     (all-members-returns-2 t)
     (all-members-enum-known-after-2 t)
+    (all-members-same-length-5 t)
+    (all-members-same-length-6 t)
+    (all-members-returns-3 t)
+    (all-members-enum-known-after-3 t)
     (all-members-loop-less t)
     (all-members-loop-again t))
     (λ t. array-lts.spec (

@@ -7,12 +7,6 @@ use Rattle.scan.specs.Laws.{decimal-as}
 use Rattle.scan.proofs.Numerals.{Counting, count-start, count-more, count-stop, count-past, count-end}
 use Rattle.scan.proofs.number.digits.Statement.{statement}
 use Rattle.scan.proofs.number.digits.Tie as tie
-use Rattle.scan.proofs.number.digits.Reads as reads
-use Rattle.scan.proofs.number.digits.Lts as lts
-use Rattle.scan.proofs.number.ended.Reads as ended-reads
-use Rattle.scan.proofs.number.fault.Reads as fault-reads
-use Rattle.scan.proofs.number.signed.Reads as signed-reads
-use Rattle.scan.proofs.token.decimal_of.Reads as decimal-of-reads
 
 abbrev Inv-loop : tie.InvT-loop
 Inv-loop text at negative first i₀ n₀ i n = Counting text at negative first i n
@@ -20,83 +14,66 @@ Inv-loop text at negative first i₀ n₀ i n = Counting text at negative first 
 abbrev μ-loop : tie.MeasureT-loop
 μ-loop text at negative first i₀ n₀ i n = length text - i
 
--- src/number.rt:77:5
 loop-holds : tie.Need-loop-holds Inv-loop μ-loop
 loop-holds c = count-start _ _ _ _ (c .before .pre .0) (c .before .pre .1)
 
--- src/number.rt:78:51
 shared-slice-read-decimal-of : tie.Need-shared-slice-read-decimal-of Inv-loop μ-loop
 shared-slice-read-decimal-of c = omega arith
 
--- src/number.rt:78:40
 decimal-of-requires : tie.Need-decimal-of-requires Inv-loop μ-loop
 decimal-of-requires c κs = search needs
 
--- src/number.rt:78:35
 enum-known-d : tie.Need-enum-known-d Inv-loop μ-loop
 enum-known-d c = search needs
 
--- src/number.rt:79:13
 enum-told : tie.Need-enum-told Inv-loop μ-loop
 enum-told c = search needs
 
--- src/number.rt:79:13
 ended-requires : tie.Need-ended-requires Inv-loop μ-loop
 ended-requires c κs =
     let l = c .before .before .before .before .before .loop in
     (l .inv .inside, l .inv .small)
 
--- src/number.rt:79:13
 returns : tie.Need-returns Inv-loop μ-loop
 returns c =
     count-stop (c .before .before .before .before .before .before .loop .inv) (c .before .before .before .before .before .loop-test .taken) (decimal-as _ (c .before .before .before .decimal-of .ensures) (c .before .enum-told .given .1)) (c .ended .ensures)
 
--- src/number.rt:81:13
 mul-n : tie.Need-mul-n Inv-loop μ-loop
 unfolding maxInteger
 mul-n c = omega (arith, c .before .before .before .before .before .before .loop .inv .small)
 
--- src/number.rt:81:22
 cast-n : tie.Need-cast-n Inv-loop μ-loop
 cast-n c = omega (arith, decimal-as _ (c .before .before .before .decimal-of .ensures) (c .before .d .given .1))
 
--- src/number.rt:81:13
 add-n : tie.Need-add-n Inv-loop μ-loop
 unfolding maxInteger
 add-n c =
     omega (arith, c .before .before .before .before .before .before .loop .inv .small, decimal-as _ (c .before .before .before .decimal-of .ensures) (c .before .d .given .1))
 
--- src/number.rt:83:13
 fault-requires : tie.Need-fault-requires Inv-loop μ-loop
 fault-requires c κs = search needs
 
--- src/number.rt:83:13
 returns-2 : tie.Need-returns-2 Inv-loop μ-loop
 unfolding maxInteger
 returns-2 c =
     let d = decimal-as _ (c .before .before .before .before .before .decimal-of .ensures) (c .before .before .before .d .given .1) in
     count-past (c .before .before .before .before .before .before .before .before .loop .inv) (c .before .before .before .before .before .before .before .loop-test .taken) (d .0) (d .1) (c .before .if1 .taken) (c .fault .ensures)
 
--- src/number.rt:85:9
 add-i : tie.Need-add-i Inv-loop μ-loop
 add-i c = omega arith
 
--- src/number.rt:77:5
 loop-less : tie.Need-loop-less Inv-loop μ-loop
 loop-less c = omega arith
 
--- src/number.rt:77:5
 loop-again : tie.Need-loop-again Inv-loop μ-loop
 unfolding maxInteger
 loop-again c =
     let d = decimal-as _ (c .before .before .before .before .decimal-of .ensures) (c .before .before .d .given .1) in
     count-more (c .before .before .before .before .before .before .before .loop .inv) (c .before .before .before .before .before .before .loop-test .taken) (d .0) (d .1) (c .if1 .left)
 
--- src/number.rt:87:5
 signed-requires : tie.Need-signed-requires Inv-loop μ-loop
 signed-requires c κs = c .before .loop .inv .small
 
--- src/number.rt:71:1
 returns-3 : tie.Need-returns-3 Inv-loop μ-loop
 returns-3 c = count-end (c .before .before .loop .inv) (c .before .loop-test .left) (c .signed .ensures)
 

@@ -6,73 +6,52 @@ use Rattle.scan.specs.Laws.{decimal-as}
 use Rattle.scan.proofs.Numerals.{number-end, number-none, number-zero, number-digits}
 use Rattle.scan.proofs.number.number.Statement.{statement}
 use Rattle.scan.proofs.number.number.Tie as tie
-use Rattle.scan.proofs.number.number.Reads as reads
-use Rattle.scan.proofs.number.number.Lts as lts
-use Rattle.scan.proofs.number.digits.Reads as digits-reads
-use Rattle.scan.proofs.number.ended.Reads as ended-reads
-use Rattle.scan.proofs.number.fault.Reads as fault-reads
-use Rattle.scan.proofs.token.decimal_of.Reads as decimal-of-reads
 
--- src/number.rt:95:9
 fault-requires : tie.Need-fault-requires
 fault-requires c κs = search needs
 
--- src/number.rt:95:9
 returns : tie.Need-returns
 returns c = number-end _ _ _ _ (c .before .if1 .taken) (c .fault .ensures)
 
--- src/number.rt:97:47
 shared-slice-read-decimal-of : tie.Need-shared-slice-read-decimal-of
 shared-slice-read-decimal-of c = omega arith
 
--- src/number.rt:97:36
 decimal-of-requires : tie.Need-decimal-of-requires
 decimal-of-requires c κs = search needs
 
--- src/number.rt:97:31
 enum-known-d : tie.Need-enum-known-d
 enum-known-d c = search needs
 
--- src/number.rt:98:9
 enum-told : tie.Need-enum-told
 enum-told c = search needs
 
--- src/number.rt:98:9
 fault-requires-2 : tie.Need-fault-requires-2
 fault-requires-2 c κs = search needs
 
--- src/number.rt:98:9
 returns-2 : tie.Need-returns-2
 returns-2 c =
     number-none _ _ _ _ (c .before .before .before .before .before .if1 .left) (decimal-as _ (c .before .before .before .decimal-of .ensures) (c .before .enum-told .given .1)) (c .fault2 .ensures)
 
--- src/number.rt:101:28
 add-ended : tie.Need-add-ended
 add-ended c = search needs
 
--- src/number.rt:101:9
 ended-requires : tie.Need-ended-requires
 ended-requires c κs = search needs
 
--- src/number.rt:101:9
 returns-3 : tie.Need-returns-3
 returns-3 c = let d = decimal-as _ (c .before .before .before .before .before .decimal-of .ensures) (c .before .before .before .d .given .1) in number-zero _ _ _ _ (c .before .before .before .before .before .before .before .if1 .left) (d .0) (sym (d .1) ∙ c .before .if2 .taken) (c .ended .ensures)
 
--- src/number.rt:103:18
 add-digits : tie.Need-add-digits
 add-digits c = search needs
 
--- src/number.rt:103:36
 cast-digits : tie.Need-cast-digits
 cast-digits c = omega (arith, decimal-as _ (c .before .before .before .before .decimal-of .ensures) (c .before .before .d .given .1))
 
--- src/number.rt:103:5
 digits-requires : tie.Need-digits-requires
 unfolding maxInteger
 digits-requires c κs =
     omega (arith, decimal-as _ (c .before .before .before .before .decimal-of .ensures) (c .before .before .d .given .1))
 
--- src/number.rt:91:1
 returns-4 : tie.Need-returns-4
 returns-4 c =
     let d = decimal-as _ (c .before .before .before .before .before .decimal-of .ensures) (c .before .before .before .d .given .1) in number-digits _ _ _ _ (c .before .before .before .before .before .before .before .if1 .left) (d .0) (c .before .if2 .left) (d .1) (c .digits .ensures)

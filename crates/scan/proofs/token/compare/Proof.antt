@@ -6,9 +6,6 @@ use lib.ListN.{length}
 use Rattle.scan.proofs.Words.{Comparing, compare-start, compare-below, compare-more, compare-stop, compare-end}
 use Rattle.scan.proofs.token.compare.Statement.{statement}
 use Rattle.scan.proofs.token.compare.Tie as tie
-use Rattle.scan.proofs.token.compare.Reads as reads
-use Rattle.scan.proofs.token.compare.Lts as lts
-use Rattle.scan.proofs.token.stands.Reads as stands-reads
 
 abbrev Inv-loop : tie.InvT-loop
 Inv-loop text at word i₀ i = Comparing text at word i
@@ -16,51 +13,40 @@ Inv-loop text at word i₀ i = Comparing text at word i
 abbrev μ-loop : tie.MeasureT-loop
 μ-loop text at word i₀ i = length word - i
 
--- src/token.rt:158:5
 loop-holds : tie.Need-loop-holds Inv-loop μ-loop
 loop-holds c = compare-start _ _ _
 
--- src/token.rt:159:26
 add-stands : tie.Need-add-stands Inv-loop μ-loop
 add-stands c = omega (arith, compare-below 18446744073709551615 _ (omega arith) (omega arith) (c .before .loop .inv))
 
--- src/token.rt:159:34
 shared-slice-read-stands : tie.Need-shared-slice-read-stands Inv-loop μ-loop
 shared-slice-read-stands c = omega arith
 
--- src/token.rt:159:13
 stands-requires : tie.Need-stands-requires Inv-loop μ-loop
 stands-requires c κs = search needs
 
--- src/token.rt:162:21
 add-t10 : tie.Need-add-t10 Inv-loop μ-loop
 add-t10 c = omega (arith, compare-below 18446744073709551615 _ (omega arith) (omega arith) (c .before .before .before .before .loop .inv))
 
--- src/token.rt:160:13
 returns : tie.Need-returns Inv-loop μ-loop
 returns c =
     let t = c .before .before .before in
     compare-stop (t .before .loop .inv) (t .loop-test .taken) (c .before .stands .ensures) (not-true _ (c .if1 .taken))
 
--- src/token.rt:165:9
 add-i : tie.Need-add-i Inv-loop μ-loop
 add-i c = omega arith
 
--- src/token.rt:158:5
 loop-less : tie.Need-loop-less Inv-loop μ-loop
 loop-less c = omega arith
 
--- src/token.rt:158:5
 loop-again : tie.Need-loop-again Inv-loop μ-loop
 loop-again c =
     let t = c .before .before .before in
     compare-more (t .before .loop .inv) (t .loop-test .taken) (c .before .stands .ensures) (not-false _ (c .if1 .left))
 
--- src/token.rt:167:24
 add-t12 : tie.Need-add-t12 Inv-loop μ-loop
 add-t12 c = omega (arith, compare-below 18446744073709551615 _ (omega arith) (omega arith) (c .before .loop .inv))
 
--- src/token.rt:154:1
 returns-2 : tie.Need-returns-2 Inv-loop μ-loop
 returns-2 c = compare-end (c .before .loop .inv) (c .loop-test .left)
 
