@@ -148,6 +148,7 @@ SOURCE = '''const LIMIT: u8 = 1;
 fn f(x: u8) -> u8
     ensures { λ r. ⌜ r ≡ x ⌝ }
 {
+    if x == b'}' { return 2; }
     if x == LIMIT { return 1; }
     x
 }

@@ -23,6 +23,11 @@ def without_comments(text):
     return re.sub(r'//[^\n]*', lambda m: ' ' * len(m.group(0)), text)
 
 
+def without_bytes(text):
+    """The text with spaces for its byte literals, which may hold a brace: every place stays what it was."""
+    return re.sub(r"b'(?:\\[^\n]|[^\\\n])[^'\n]*'", lambda m: ' ' * len(m.group(0)), text)
+
+
 def skip(text, at, opening, closing):
     """The position after the brackets that open at `at`."""
     level = 0
@@ -53,7 +58,7 @@ def body_of(text, start):
 
 def functions_of(text, file, modules=(), public=True):
     """The functions of a source's text, which stands in these modules; public ones only if the modules are, or exported to C."""
-    text = without_comments(text)
+    text = without_bytes(without_comments(text))
     types = [(m.group(1), m.end() - 1, skip(text, m.end() - 1, '{', '}')) for m in IMPL.finditer(text)]
     for m in HEAD.finditer(text):
         opens = body_of(text, m.start('name'))

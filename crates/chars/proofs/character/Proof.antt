@@ -1,5 +1,4 @@
 use borrow.Author.Needs.{needs}
-use mathlib.Core.Path.{refl}
 use native.Mathlib.Omega.{arith}
 use Rattle.model.specs.Refusal.{notJson}
 use Rattle.chars.proofs.Pieces.{gives, stops-at, char-short, taken-char}

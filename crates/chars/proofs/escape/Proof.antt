@@ -1,5 +1,5 @@
 use borrow.Author.Needs.{needs}
-use mathlib.Core.Path.{refl, sym, _∙_}
+use mathlib.Core.Path.{sym, _∙_}
 use native.Mathlib.Omega.{arith}
 use Rattle.model.specs.Refusal.{notJson}
 use Rattle.chars.proofs.Pieces.{gives, stops-at, letter-end, letter-not, letter-u, taken-letter}

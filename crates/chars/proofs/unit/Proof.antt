@@ -1,4 +1,4 @@
-use mathlib.Core.Path.{refl, sym, _∙_}
+use mathlib.Core.Path.{sym, _∙_}
 use native.Mathlib.Omega.{arith}
 use Rattle.chars.proofs.Pieces.{gives, stops-low, taken-unit, of-kind}
 use borrow.Author.Needs.{needs}
