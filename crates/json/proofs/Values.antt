@@ -30,7 +30,7 @@ use Rattle.syntax.specs.declared.Start.{Start}
 use Rattle.syntax.specs.declared.Start.the-variants.{NoValue, TooMuch, Literal, Minus, Digit, Quote, Bracket, Brace}
 use Rattle.syntax.specs.declared.Word.{Word}
 use Rattle.syntax.specs.declared.Word.the-variants.{TrueWord, FalseWord, NullWord}
-use Rattle.syntax.specs.Layout.{rowBytes, rowsOf, scalarRow, stringsOf, biased, itemCount}
+use Rattle.syntax.specs.Layout.{rowBytes, rowsOf, scalarRow, stringsOf, itemCount}
 use Rattle.syntax.specs.Layout as layout
 use Rattle.syntax.specs.Laws.Layout.{length-row}
 use Rattle.syntax.specs.Read.{Parsed, ok, bad, Parser, then, _>>=_, give, fail, if, eat, literal, int, chars, clear, quoted, name, value, items, members, onStart}

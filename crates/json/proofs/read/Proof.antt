@@ -6,81 +6,60 @@ use Rattle.json.proofs.All.{told, number-small, rows-few, law-short-tab
 use borrow.Author.Needs.{needs}
 use Rattle.json.proofs.read.Statement.{statement}
 use Rattle.json.proofs.read.Tie as tie
-use Rattle.json.proofs.read.Reads as reads
-use Rattle.json.proofs.read.Lts as lts
-use Rattle.area.proofs.clear_from.Reads as clear-from-reads
-use Rattle.json.proofs.read_text.Reads as read-text-reads
 
--- src/lib.rt:72:9
 returns : tie.Need-returns
 unfolding maxValues maxTextBytes rowBytes entryBytes
 returns c = law-short-table (c .if1 .taken)
 
--- src/lib.rt:79:9
 returns-2 : tie.Need-returns-2
 unfolding maxValues maxTextBytes rowBytes entryBytes
 returns-2 c = law-short-strings (c .before .if1 .left) (c .if2 .taken)
 
--- src/lib.rt:85:9
 read-text-requires : tie.Need-read-text-requires
 unfolding maxValues maxTextBytes rowBytes entryBytes
 read-text-requires c κs = (c .before .before .before .if1 .left, c .before .before .if2 .left)
 
--- src/lib.rt:87:26
 enum-known-s : tie.Need-enum-known-s
 enum-known-s c = search needs
 
--- src/lib.rt:88:13
 clear-from-requires : tie.Need-clear-from-requires
 clear-from-requires c κs = search needs
 
--- src/lib.rt:89:13
 clear-from-requires-2 : tie.Need-clear-from-requires-2
 clear-from-requires-2 c κs = search needs
 
--- src/lib.rt:91:26
 cast-t20 : tie.Need-cast-t20
 cast-t20 c = omega (arith, number-small (told (c .before .before .before .before .before .before .before .before .before .before .before .before .before .before .before .before .read-text .ensures) (c .before .before .before .before .before .before .before .before .before .before .s .given .1)))
 
--- src/lib.rt:96:27
 enum-known-s-2 : tie.Need-enum-known-s-2
 enum-known-s-2 c = search needs
 
--- src/lib.rt:97:31
 mul-clear-from : tie.Need-mul-clear-from
 unfolding maxValues
 mul-clear-from c = omega (arith, rows-few (told (c .before .before .before .before .before .before .before .before .read-text .ensures) (c .before .before .s2 .given .1)))
 
--- src/lib.rt:97:13
 clear-from-requires-3 : tie.Need-clear-from-requires-3
 clear-from-requires-3 c κs = search needs
 
--- src/lib.rt:98:13
 clear-from-requires-4 : tie.Need-clear-from-requires-4
 clear-from-requires-4 c κs = search needs
 
--- src/lib.rt:68:1
 same-length : tie.Need-same-length
 same-length c = search needs
 
--- src/lib.rt:68:1
 same-length-2 : tie.Need-same-length-2
 same-length-2 c = search needs
 
--- src/lib.rt:68:1
 returns-3 : tie.Need-returns-3
 unfolding maxValues maxTextBytes rowBytes entryBytes
 returns-3 c = law-refused (c .before .before .before .before .before .before .before .before .before .before .before .before .before .before .before .before .before .before .before .before .if1 .left) (c .before .before .before .before .before .before .before .before .before .before .before .before .before .before .before .before .before .before .before .if2 .left) (c .before .before .before .before .before .before .before .before .before .before .before .before .before .before .before .before .read-text .kept .1 .0) (c .before .before .before .before .before .before .before .before .before .before .before .before .before .before .before .before .read-text .kept .1 .1 .0) (told (c .before .before .before .before .before .before .before .before .before .before .before .before .before .before .before .before .read-text .ensures) (c .before .before .before .before .before .before .before .before .before .before .s .given .1)) (c .before .before .before .before .before .before .before .clear-from .ensures) (c .before .before .before .clear-from2 .ensures)
 
--- src/lib.rt:68:1
 same-length-3 : tie.Need-same-length-3
 same-length-3 c = search needs
 
--- src/lib.rt:68:1
 same-length-4 : tie.Need-same-length-4
 same-length-4 c = search needs
 
--- src/lib.rt:68:1
 returns-4 : tie.Need-returns-4
 unfolding maxValues maxTextBytes rowBytes entryBytes
 returns-4 c = law-done (c .before .before .before .before .before .before .before .before .before .before .before .before .before .before .before .before .before .before .before .if1 .left) (c .before .before .before .before .before .before .before .before .before .before .before .before .before .before .before .before .before .before .if2 .left) (c .before .before .before .before .before .before .before .before .before .before .before .before .before .before .before .read-text .kept .1 .0) (c .before .before .before .before .before .before .before .before .before .before .before .before .before .before .before .read-text .kept .1 .1 .0) (told (c .before .before .before .before .before .before .before .before .before .before .before .before .before .before .before .read-text .ensures) (c .before .before .before .before .before .before .before .before .before .s2 .given .1)) (c .before .before .before .before .before .before .clear-from3 .ensures) (c .before .before .clear-from4 .ensures)

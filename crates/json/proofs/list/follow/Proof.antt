@@ -6,89 +6,65 @@ use lib.ListN.{length}
 use Rattle.model.specs.Limits.{maxTextBytes, maxValues}
 use Rattle.json.specs.Inner.{failed, stopped}
 use Rattle.json.proofs.Values.{separated}
-use Rattle.json.proofs.step.fail.Reads as fail-reads
 use borrow.Author.Needs.{needs}
 use Rattle.json.proofs.list.follow.Statement.{statement}
 use Rattle.json.proofs.list.follow.Tie as tie
-use Rattle.json.proofs.list.follow.Reads as reads
-use Rattle.json.proofs.list.follow.Lts as lts
-use Rattle.json.proofs.list.moved.Reads as moved-reads
-use Rattle.scan.proofs.token.separator.Reads as separator-reads
-use Rattle.scan.proofs.token.skip_white.Reads as skip-white-reads
 
--- src/list.rt:24:22
 enum-known-s : tie.Need-enum-known-s
 enum-known-s c = search needs
 
--- src/list.rt:25:23
 enum-known-s-2 : tie.Need-enum-known-s-2
 enum-known-s-2 c = search needs
 
--- src/list.rt:26:17
 skip-white-requires : tie.Need-skip-white-requires
 skip-white-requires c κs = search needs
 
--- src/list.rt:27:17
 separator-requires : tie.Need-separator-requires
 separator-requires c κs = search needs
 
--- src/list.rt:29:63
 enum-told : tie.Need-enum-told
 enum-told c = search needs
 
--- src/list.rt:29:63
 add-moved : tie.Need-add-moved
 unfolding maxTextBytes
 add-moved c = let l : c .before .before .before .skip-white .result < length (c .before .before .before .before .before .before .before .before .args .text .now) = (separated (c .before .before .separator .ensures) (c .enum-told .given .1)) .room in omega (arith, c .before .before .before .before .before .before .before .before .pre .short)
 
--- src/list.rt:29:72
 add-moved-2 : tie.Need-add-moved-2
 unfolding maxValues
 add-moved-2 c = omega (arith, c .before .before .before .before .before .before .before .before .pre)
 
--- src/list.rt:29:51
 moved-requires : tie.Need-moved-requires
 moved-requires c κs = search needs
 
--- src/list.rt:30:78
 enum-told-2 : tie.Need-enum-told-2
 enum-told-2 c = search needs
 
--- src/list.rt:30:78
 add-skip-white : tie.Need-add-skip-white
 unfolding maxTextBytes
 add-skip-white c = let l : c .before .before .before .skip-white .result < length (c .before .before .before .before .before .before .before .before .args .text .now) = (separated (c .before .before .separator .ensures) (c .enum-told2 .given .1)) .room in omega (arith, c .before .before .before .before .before .before .before .before .pre .short)
 
--- src/list.rt:30:61
 skip-white-requires-2 : tie.Need-skip-white-requires-2
 skip-white-requires-2 c κs = search needs
 
--- src/list.rt:30:88
 add-moved-3 : tie.Need-add-moved-3
 unfolding maxValues
 add-moved-3 c = omega (arith, c .before .before .before .before .before .before .before .before .before .pre)
 
--- src/list.rt:30:49
 moved-requires-2 : tie.Need-moved-requires-2
 moved-requires-2 c κs = search needs
 
--- src/list.rt:31:53
 enum-told-3 : tie.Need-enum-told-3
 enum-told-3 c = search needs
 
--- src/list.rt:19:1
 returns : tie.Need-returns
 returns c = record { meets = failed (c .before .s .given .1) }
 
--- src/list.rt:19:1
 returns-2 : tie.Need-returns-2
 returns-2 c = record { meets = record { here = c .before .before .before .before .before .before .s2 .given .0 .0; end = c .before .before .before .before .skip-white .result; good = c .before .before .before .before .before .before .s2 .given .1; skipped = c .before .before .before .before .skip-white .ensures; closing = separated (c .before .before .before .separator .ensures) (c .before .enum-told .given .1); is = c .moved .ensures } }
 
--- src/list.rt:19:1
 returns-3 : tie.Need-returns-3
 returns-3 c = record { meets = record { here = c .before .before .before .before .before .before .before .s2 .given .0 .0; end = c .before .before .before .before .before .skip-white .result; good = c .before .before .before .before .before .before .before .s2 .given .1; skipped = c .before .before .before .before .before .skip-white .ensures; comma = separated (c .before .before .before .before .separator .ensures) (c .before .before .enum-told2 .given .1); next = c .before .skip-white2 .result; white = c .before .skip-white2 .ensures; is = c .moved2 .ensures } }
 
--- src/list.rt:19:1
 returns-4 : tie.Need-returns-4
 returns-4 c = record { meets = stopped (c .before .before .before .before .before .s2 .given .1) (c .before .before .before .skip-white .ensures) (separated (c .before .before .separator .ensures) (c .enum-told3 .given .1)) refl }
 

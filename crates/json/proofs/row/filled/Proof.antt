@@ -3,36 +3,25 @@ use Rattle.json.proofs.Form.{filled-failed, filled-around}
 use borrow.Author.Needs.{needs}
 use Rattle.json.proofs.row.filled.Statement.{statement}
 use Rattle.json.proofs.row.filled.Tie as tie
-use Rattle.json.proofs.row.filled.Reads as reads
-use Rattle.json.proofs.row.filled.Lts as lts
-use Rattle.json.proofs.row.put_row.Reads as put-row-reads
-use Rattle.json.proofs.step.place.Reads as place-reads
 
--- src/row.rt:44:22
 enum-known-s : tie.Need-enum-known-s
 enum-known-s c = search needs
 
--- src/row.rt:45:23
 enum-known-s-2 : tie.Need-enum-known-s-2
 enum-known-s-2 c = search needs
 
--- src/row.rt:46:13
 put-row-requires : tie.Need-put-row-requires
 put-row-requires c κs = search needs
 
--- src/row.rt:47:27
 place-requires : tie.Need-place-requires
 place-requires c κs = search needs
 
--- src/row.rt:39:1
 returns : tie.Need-returns
 returns c = filled-failed (c .before .s .given .1)
 
--- src/row.rt:39:1
 same-length : tie.Need-same-length
 same-length c = search needs
 
--- src/row.rt:39:1
 returns-2 : tie.Need-returns-2
 returns-2 c = filled-around (c .before .before .before .before .before .before .s2 .given .1) (c .before .before .before .put-row .ensures .is) (c .place .ensures)
 

@@ -8,7 +8,6 @@ use Rattle.model.specs.Limits.{maxValues, maxNesting}
 use Rattle.json.proofs.Values.{started, breaks, closes, continued, law-none, law-much, law-word, law-minus, law-digit, law-quote, law-bracket, law-brace, law-array, law-array-empty, law-object, law-object-empty}
 use Rattle.json.proofs.Items.{ItemsInv, items-start, items-broken, items-closed, items-next, items-less}
 use Rattle.json.proofs.Members.{named-as, MembersInv, members-start, members-no-name, members-broken, members-closed, members-next, members-less}
-use Prim.Native.Nat.{ℕ, _<_}
 use borrow.Fn.Kinds.{In}
 use borrow.Fn.PlainCycle.{Measures, is, falls, and}
 use Rattle.json.proofs.tree.all_items.Reads as all-items
@@ -97,169 +96,65 @@ abbrev all-items-μ-loop : all-items-lts.MeasureT-loop
 all-items-μ-loop text at table₀ row strings₀ used depth bare here₀ table strings here =
     length text - here .at
 
--- src/tree.rt:112:9
-all-items-place-requires : (t : ℕ) → all-items-lts.Need-place-requires (
-  place-reads.Asked,
-  place-reads.Learnt,
-  value-below t,
-  value.Post,
-  follow-reads.Asked,
-  follow-reads.Learnt,
-) (all-items-at t) all-items.Post all-items-Inv-loop all-items-μ-loop
+-- what the callees of each member ask and ensure, at a measure below t
+abbrev all-items-calls : ℕ → all-items-lts.Claims
+all-items-calls t = (place-reads.Asked, place-reads.Learnt, value-below t, value.Post, follow-reads.Asked, follow-reads.Learnt)
+
+abbrev all-members-calls : ℕ → all-members-lts.Claims
+all-members-calls t = (place-reads.Asked, place-reads.Learnt, member-name-reads.Asked, member-name-reads.Learnt, value-below t, value.Post, follow-reads.Asked, follow-reads.Learnt)
+
+abbrev array-calls : ℕ → array-lts.Claims
+array-calls t = (skip-white-reads.Asked, skip-white-reads.Learnt, stands-reads.Asked, stands-reads.Learnt, empty-reads.Asked, empty-reads.Learnt, all-items-below t, all-items.Post, filled-reads.Asked, filled-reads.Learnt)
+
+abbrev object-calls : ℕ → object-lts.Claims
+object-calls t = (skip-white-reads.Asked, skip-white-reads.Learnt, stands-reads.Asked, stands-reads.Learnt, empty-reads.Asked, empty-reads.Learnt, all-members-below t, all-members.Post, filled-reads.Asked, filled-reads.Learnt)
+
+abbrev value-calls : ℕ → value-lts.Claims
+value-calls t = (start-reads.Asked, start-reads.Learnt, fail-reads.Asked, fail-reads.Learnt, read-literal-reads.Asked, read-literal-reads.Learnt, read-number-reads.Asked, read-number-reads.Learnt, read-string-reads.Asked, read-string-reads.Learnt, array-below t, array.Post, object-below t, object.Post)
+
+all-items-place-requires : (t : ℕ) → all-items-lts.Need-place-requires (all-items-calls t) (all-items-at t) all-items.Post all-items-Inv-loop all-items-μ-loop
 all-items-place-requires t c κs = search needs
 
--- src/tree.rt:113:5
-all-items-loop-holds : (t : ℕ) → all-items-lts.Need-loop-holds (
-  place-reads.Asked,
-  place-reads.Learnt,
-  value-below t,
-  value.Post,
-  follow-reads.Asked,
-  follow-reads.Learnt,
-) (all-items-at t) all-items.Post all-items-Inv-loop all-items-μ-loop
+all-items-loop-holds : (t : ℕ) → all-items-lts.Need-loop-holds (all-items-calls t) (all-items-at t) all-items.Post all-items-Inv-loop all-items-μ-loop
 all-items-loop-holds t c = items-start (c .before .before .before .before .pre .1) (c .place .ensures)
 
--- src/tree.rt:114:13
-all-items-value-requires : (t : ℕ) → all-items-lts.Need-value-requires (
-  place-reads.Asked,
-  place-reads.Learnt,
-  value-below t,
-  value.Post,
-  follow-reads.Asked,
-  follow-reads.Learnt,
-) (all-items-at t) all-items.Post all-items-Inv-loop all-items-μ-loop
+all-items-value-requires : (t : ℕ) → all-items-lts.Need-value-requires (all-items-calls t) (all-items-at t) all-items.Post all-items-Inv-loop all-items-μ-loop
 all-items-value-requires t c κs = search needs
 
--- src/tree.rt:124:13
-all-items-follow-requires : (t : ℕ) → all-items-lts.Need-follow-requires (
-  place-reads.Asked,
-  place-reads.Learnt,
-  value-below t,
-  value.Post,
-  follow-reads.Asked,
-  follow-reads.Learnt,
-) (all-items-at t) all-items.Post all-items-Inv-loop all-items-μ-loop
+all-items-follow-requires : (t : ℕ) → all-items-lts.Need-follow-requires (all-items-calls t) (all-items-at t) all-items.Post all-items-Inv-loop all-items-μ-loop
 all-items-follow-requires t c κs = record { short = c .before .before .before .before .before .before .before .before .before .before .before .before .pre .1 .short; few = omega (arith, c .before .before .before .before .before .before .before .loop .inv .inv) }
 
--- src/tree.rt:126:27
-all-items-enum-known-after : (t : ℕ) → all-items-lts.Need-enum-known-after (
-  place-reads.Asked,
-  place-reads.Learnt,
-  value-below t,
-  value.Post,
-  follow-reads.Asked,
-  follow-reads.Learnt,
-) (all-items-at t) all-items.Post all-items-Inv-loop all-items-μ-loop
+all-items-enum-known-after : (t : ℕ) → all-items-lts.Need-enum-known-after (all-items-calls t) (all-items-at t) all-items.Post all-items-Inv-loop all-items-μ-loop
 all-items-enum-known-after t c = search needs
 
--- src/tree.rt:127:17
-all-items-same-length : (t : ℕ) → all-items-lts.Need-same-length (
-  place-reads.Asked,
-  place-reads.Learnt,
-  value-below t,
-  value.Post,
-  follow-reads.Asked,
-  follow-reads.Learnt,
-) (all-items-at t) all-items.Post all-items-Inv-loop all-items-μ-loop
+all-items-same-length : (t : ℕ) → all-items-lts.Need-same-length (all-items-calls t) (all-items-at t) all-items.Post all-items-Inv-loop all-items-μ-loop
 all-items-same-length t c = search needs
 
--- src/tree.rt:127:17
-all-items-same-length-2 : (t : ℕ) → all-items-lts.Need-same-length-2 (
-  place-reads.Asked,
-  place-reads.Learnt,
-  value-below t,
-  value.Post,
-  follow-reads.Asked,
-  follow-reads.Learnt,
-) (all-items-at t) all-items.Post all-items-Inv-loop all-items-μ-loop
+all-items-same-length-2 : (t : ℕ) → all-items-lts.Need-same-length-2 (all-items-calls t) (all-items-at t) all-items.Post all-items-Inv-loop all-items-μ-loop
 all-items-same-length-2 t c = search needs
 
--- src/tree.rt:127:17
-all-items-returns : (t : ℕ) → all-items-lts.Need-returns (
-  place-reads.Asked,
-  place-reads.Learnt,
-  value-below t,
-  value.Post,
-  follow-reads.Asked,
-  follow-reads.Learnt,
-) (all-items-at t) all-items.Post all-items-Inv-loop all-items-μ-loop
+all-items-returns : (t : ℕ) → all-items-lts.Need-returns (all-items-calls t) (all-items-at t) all-items.Post all-items-Inv-loop all-items-μ-loop
 all-items-returns t c = items-broken (c .before .before .before .before .before .before .before .before .before .before .before .loop .inv) (c .before .before .before .before .before .before .before .before .value .ensures) (breaks (c .before .before .before .follow .ensures) (c .before .after .given .1))
 
--- src/tree.rt:129:27
-all-items-enum-known-after-2 : (t : ℕ) → all-items-lts.Need-enum-known-after-2 (
-  place-reads.Asked,
-  place-reads.Learnt,
-  value-below t,
-  value.Post,
-  follow-reads.Asked,
-  follow-reads.Learnt,
-) (all-items-at t) all-items.Post all-items-Inv-loop all-items-μ-loop
+all-items-enum-known-after-2 : (t : ℕ) → all-items-lts.Need-enum-known-after-2 (all-items-calls t) (all-items-at t) all-items.Post all-items-Inv-loop all-items-μ-loop
 all-items-enum-known-after-2 t c = search needs
 
--- src/tree.rt:130:17
-all-items-same-length-3 : (t : ℕ) → all-items-lts.Need-same-length-3 (
-  place-reads.Asked,
-  place-reads.Learnt,
-  value-below t,
-  value.Post,
-  follow-reads.Asked,
-  follow-reads.Learnt,
-) (all-items-at t) all-items.Post all-items-Inv-loop all-items-μ-loop
+all-items-same-length-3 : (t : ℕ) → all-items-lts.Need-same-length-3 (all-items-calls t) (all-items-at t) all-items.Post all-items-Inv-loop all-items-μ-loop
 all-items-same-length-3 t c = search needs
 
--- src/tree.rt:130:17
-all-items-same-length-4 : (t : ℕ) → all-items-lts.Need-same-length-4 (
-  place-reads.Asked,
-  place-reads.Learnt,
-  value-below t,
-  value.Post,
-  follow-reads.Asked,
-  follow-reads.Learnt,
-) (all-items-at t) all-items.Post all-items-Inv-loop all-items-μ-loop
+all-items-same-length-4 : (t : ℕ) → all-items-lts.Need-same-length-4 (all-items-calls t) (all-items-at t) all-items.Post all-items-Inv-loop all-items-μ-loop
 all-items-same-length-4 t c = search needs
 
--- src/tree.rt:130:17
-all-items-returns-2 : (t : ℕ) → all-items-lts.Need-returns-2 (
-  place-reads.Asked,
-  place-reads.Learnt,
-  value-below t,
-  value.Post,
-  follow-reads.Asked,
-  follow-reads.Learnt,
-) (all-items-at t) all-items.Post all-items-Inv-loop all-items-μ-loop
+all-items-returns-2 : (t : ℕ) → all-items-lts.Need-returns-2 (all-items-calls t) (all-items-at t) all-items.Post all-items-Inv-loop all-items-μ-loop
 all-items-returns-2 t c = items-closed (c .before .before .before .before .before .before .before .before .before .before .before .loop .inv) (c .before .before .before .before .before .before .before .before .value .ensures) (closes (c .before .before .before .follow .ensures) (c .before .after2 .given .1))
 
--- src/tree.rt:132:25
-all-items-enum-known-after-3 : (t : ℕ) → all-items-lts.Need-enum-known-after-3 (
-  place-reads.Asked,
-  place-reads.Learnt,
-  value-below t,
-  value.Post,
-  follow-reads.Asked,
-  follow-reads.Learnt,
-) (all-items-at t) all-items.Post all-items-Inv-loop all-items-μ-loop
+all-items-enum-known-after-3 : (t : ℕ) → all-items-lts.Need-enum-known-after-3 (all-items-calls t) (all-items-at t) all-items.Post all-items-Inv-loop all-items-μ-loop
 all-items-enum-known-after-3 t c = search needs
 
--- src/tree.rt:113:5
-all-items-loop-less : (t : ℕ) → all-items-lts.Need-loop-less (
-  place-reads.Asked,
-  place-reads.Learnt,
-  value-below t,
-  value.Post,
-  follow-reads.Asked,
-  follow-reads.Learnt,
-) (all-items-at t) all-items.Post all-items-Inv-loop all-items-μ-loop
+all-items-loop-less : (t : ℕ) → all-items-lts.Need-loop-less (all-items-calls t) (all-items-at t) all-items.Post all-items-Inv-loop all-items-μ-loop
 all-items-loop-less t c = items-less (c .before .before .before .before .before .before .before .before .before .before .before .loop .inv) (c .before .before .before .before .before .before .before .before .value .ensures) (continued (c .before .before .before .follow .ensures) (c .before .after3 .given .1))
 
--- src/tree.rt:113:5
-all-items-loop-again : (t : ℕ) → all-items-lts.Need-loop-again (
-  place-reads.Asked,
-  place-reads.Learnt,
-  value-below t,
-  value.Post,
-  follow-reads.Asked,
-  follow-reads.Learnt,
-) (all-items-at t) all-items.Post all-items-Inv-loop all-items-μ-loop
+all-items-loop-again : (t : ℕ) → all-items-lts.Need-loop-again (all-items-calls t) (all-items-at t) all-items.Post all-items-Inv-loop all-items-μ-loop
 all-items-loop-again t c = items-next (c .before .before .before .before .before .before .before .before .before .before .before .loop .inv) (c .before .before .before .before .before .before .before .before .value .ensures) (continued (c .before .before .before .follow .ensures) (c .before .after3 .given .1)) (omega (arith, c .before .before .before .before .before .before .before .before .value .kept, c .before .before .before .before .before .before .before .before .before .before .before .loop .inv .inv)) (omega (arith, c .before .before .before .before .before .before .before .before .value .kept, c .before .before .before .before .before .before .before .before .before .before .before .loop .inv .inv))
 
 abbrev all-members-Inv-loop : all-members-lts.InvT-loop
@@ -270,1388 +165,265 @@ abbrev all-members-μ-loop : all-members-lts.MeasureT-loop
 all-members-μ-loop text at table₀ row strings₀ used depth here₀ table strings here =
     length text - here .at
 
--- src/tree.rt:152:9
-all-members-place-requires : (t : ℕ) → all-members-lts.Need-place-requires (
-  place-reads.Asked,
-  place-reads.Learnt,
-  member-name-reads.Asked,
-  member-name-reads.Learnt,
-  value-below t,
-  value.Post,
-  follow-reads.Asked,
-  follow-reads.Learnt,
-) (all-members-at t) all-members.Post all-members-Inv-loop all-members-μ-loop
+all-members-place-requires : (t : ℕ) → all-members-lts.Need-place-requires (all-members-calls t) (all-members-at t) all-members.Post all-members-Inv-loop all-members-μ-loop
 all-members-place-requires t c κs = search needs
 
--- src/tree.rt:153:5
-all-members-loop-holds : (t : ℕ) → all-members-lts.Need-loop-holds (
-  place-reads.Asked,
-  place-reads.Learnt,
-  member-name-reads.Asked,
-  member-name-reads.Learnt,
-  value-below t,
-  value.Post,
-  follow-reads.Asked,
-  follow-reads.Learnt,
-) (all-members-at t) all-members.Post all-members-Inv-loop all-members-μ-loop
+all-members-loop-holds : (t : ℕ) → all-members-lts.Need-loop-holds (all-members-calls t) (all-members-at t) all-members.Post all-members-Inv-loop all-members-μ-loop
 all-members-loop-holds t c = members-start (c .before .before .before .before .pre .1) (c .place .ensures)
 
--- src/tree.rt:154:13
-all-members-member-name-requires : (t : ℕ) → all-members-lts.Need-member-name-requires (
-  place-reads.Asked,
-  place-reads.Learnt,
-  member-name-reads.Asked,
-  member-name-reads.Learnt,
-  value-below t,
-  value.Post,
-  follow-reads.Asked,
-  follow-reads.Learnt,
-) (all-members-at t) all-members.Post all-members-Inv-loop all-members-μ-loop
+all-members-member-name-requires : (t : ℕ) → all-members-lts.Need-member-name-requires (all-members-calls t) (all-members-at t) all-members.Post all-members-Inv-loop all-members-μ-loop
 all-members-member-name-requires t c κs = search needs
 
--- src/tree.rt:156:30
-all-members-enum-known-n : (t : ℕ) → all-members-lts.Need-enum-known-n (
-  place-reads.Asked,
-  place-reads.Learnt,
-  member-name-reads.Asked,
-  member-name-reads.Learnt,
-  value-below t,
-  value.Post,
-  follow-reads.Asked,
-  follow-reads.Learnt,
-) (all-members-at t) all-members.Post all-members-Inv-loop all-members-μ-loop
+all-members-enum-known-n : (t : ℕ) → all-members-lts.Need-enum-known-n (all-members-calls t) (all-members-at t) all-members.Post all-members-Inv-loop all-members-μ-loop
 all-members-enum-known-n t c = search needs
 
--- src/tree.rt:157:17
-all-members-same-length : (t : ℕ) → all-members-lts.Need-same-length (
-  place-reads.Asked,
-  place-reads.Learnt,
-  member-name-reads.Asked,
-  member-name-reads.Learnt,
-  value-below t,
-  value.Post,
-  follow-reads.Asked,
-  follow-reads.Learnt,
-) (all-members-at t) all-members.Post all-members-Inv-loop all-members-μ-loop
+all-members-same-length : (t : ℕ) → all-members-lts.Need-same-length (all-members-calls t) (all-members-at t) all-members.Post all-members-Inv-loop all-members-μ-loop
 all-members-same-length t c = search needs
 
--- src/tree.rt:157:17
-all-members-same-length-2 : (t : ℕ) → all-members-lts.Need-same-length-2 (
-  place-reads.Asked,
-  place-reads.Learnt,
-  member-name-reads.Asked,
-  member-name-reads.Learnt,
-  value-below t,
-  value.Post,
-  follow-reads.Asked,
-  follow-reads.Learnt,
-) (all-members-at t) all-members.Post all-members-Inv-loop all-members-μ-loop
+all-members-same-length-2 : (t : ℕ) → all-members-lts.Need-same-length-2 (all-members-calls t) (all-members-at t) all-members.Post all-members-Inv-loop all-members-μ-loop
 all-members-same-length-2 t c = search needs
 
--- src/tree.rt:157:17
-all-members-returns : (t : ℕ) → all-members-lts.Need-returns (
-  place-reads.Asked,
-  place-reads.Learnt,
-  member-name-reads.Asked,
-  member-name-reads.Learnt,
-  value-below t,
-  value.Post,
-  follow-reads.Asked,
-  follow-reads.Learnt,
-) (all-members-at t) all-members.Post all-members-Inv-loop all-members-μ-loop
+all-members-returns : (t : ℕ) → all-members-lts.Need-returns (all-members-calls t) (all-members-at t) all-members.Post all-members-Inv-loop all-members-μ-loop
 all-members-returns t c = members-no-name (c .before .before .before .before .before .before .before .before .before .before .loop .inv) (named-as (c .before .before .before .before .before .before .before .member-name .ensures) (c .before .n .given .1))
 
--- src/tree.rt:159:29
-all-members-enum-known-n-2 : (t : ℕ) → all-members-lts.Need-enum-known-n-2 (
-  place-reads.Asked,
-  place-reads.Learnt,
-  member-name-reads.Asked,
-  member-name-reads.Learnt,
-  value-below t,
-  value.Post,
-  follow-reads.Asked,
-  follow-reads.Learnt,
-) (all-members-at t) all-members.Post all-members-Inv-loop all-members-μ-loop
+all-members-enum-known-n-2 : (t : ℕ) → all-members-lts.Need-enum-known-n-2 (all-members-calls t) (all-members-at t) all-members.Post all-members-Inv-loop all-members-μ-loop
 all-members-enum-known-n-2 t c = search needs
 
--- src/tree.rt:160:26
-all-members-add-to : (t : ℕ) → all-members-lts.Need-add-to (
-  place-reads.Asked,
-  place-reads.Learnt,
-  member-name-reads.Asked,
-  member-name-reads.Learnt,
-  value-below t,
-  value.Post,
-  follow-reads.Asked,
-  follow-reads.Learnt,
-) (all-members-at t) all-members.Post all-members-Inv-loop all-members-μ-loop
+all-members-add-to : (t : ℕ) → all-members-lts.Need-add-to (all-members-calls t) (all-members-at t) all-members.Post all-members-Inv-loop all-members-μ-loop
 all-members-add-to t c = let safe = (named-as (c .before .before .before .before .before .before .before .before .before .member-name .ensures) (c .before .before .before .n2 .given .1)) .safe in omega (arith, safe)
 
--- src/tree.rt:161:21
-all-members-value-requires : (t : ℕ) → all-members-lts.Need-value-requires (
-  place-reads.Asked,
-  place-reads.Learnt,
-  member-name-reads.Asked,
-  member-name-reads.Learnt,
-  value-below t,
-  value.Post,
-  follow-reads.Asked,
-  follow-reads.Learnt,
-) (all-members-at t) all-members.Post all-members-Inv-loop all-members-μ-loop
+all-members-value-requires : (t : ℕ) → all-members-lts.Need-value-requires (all-members-calls t) (all-members-at t) all-members.Post all-members-Inv-loop all-members-μ-loop
 all-members-value-requires t c κs = let safe = (named-as (c .before .before .before .before .before .before .before .before .before .before .before .member-name .ensures) (c .before .before .before .before .before .n2 .given .1)) .safe in omega (arith, safe, c .before .before .before .before .before .before .before .before .before .before .before .before .before .before .loop .inv .inv, c .before .before .before .before .before .before .before .before .before .before .before .member-name .kept, c .before .before .before .before .before .before .before .before .before .before .before .before .before .before .before .before .before .before .before .pre)
 
--- src/tree.rt:162:21
-all-members-follow-requires : (t : ℕ) → all-members-lts.Need-follow-requires (
-  place-reads.Asked,
-  place-reads.Learnt,
-  member-name-reads.Asked,
-  member-name-reads.Learnt,
-  value-below t,
-  value.Post,
-  follow-reads.Asked,
-  follow-reads.Learnt,
-) (all-members-at t) all-members.Post all-members-Inv-loop all-members-μ-loop
+all-members-follow-requires : (t : ℕ) → all-members-lts.Need-follow-requires (all-members-calls t) (all-members-at t) all-members.Post all-members-Inv-loop all-members-μ-loop
 all-members-follow-requires t c κs = record { short = c .before .before .before .before .before .before .before .before .before .before .before .before .before .before .before .before .before .before .before .before .before .before .before .before .pre .1 .room .short; few = omega (arith, c .before .before .before .before .before .before .before .before .before .before .before .before .before .before .before .before .before .before .before .loop .inv .inv) }
 
--- src/tree.rt:164:35
-all-members-enum-known-after : (t : ℕ) → all-members-lts.Need-enum-known-after (
-  place-reads.Asked,
-  place-reads.Learnt,
-  member-name-reads.Asked,
-  member-name-reads.Learnt,
-  value-below t,
-  value.Post,
-  follow-reads.Asked,
-  follow-reads.Learnt,
-) (all-members-at t) all-members.Post all-members-Inv-loop all-members-μ-loop
+all-members-enum-known-after : (t : ℕ) → all-members-lts.Need-enum-known-after (all-members-calls t) (all-members-at t) all-members.Post all-members-Inv-loop all-members-μ-loop
 all-members-enum-known-after t c = search needs
 
--- src/tree.rt:165:25
-all-members-same-length-3 : (t : ℕ) → all-members-lts.Need-same-length-3 (
-  place-reads.Asked,
-  place-reads.Learnt,
-  member-name-reads.Asked,
-  member-name-reads.Learnt,
-  value-below t,
-  value.Post,
-  follow-reads.Asked,
-  follow-reads.Learnt,
-) (all-members-at t) all-members.Post all-members-Inv-loop all-members-μ-loop
+all-members-same-length-3 : (t : ℕ) → all-members-lts.Need-same-length-3 (all-members-calls t) (all-members-at t) all-members.Post all-members-Inv-loop all-members-μ-loop
 all-members-same-length-3 t c = omega (arith, c .before .before .before .before .before .before .before .before .value .kept, c .before .before .before .before .before .before .before .before .before .before .before .before .before .before .before .before .before .before .before .before .member-name .kept, c .before .before .before .before .before .before .before .before .before .before .before .before .before .before .before .before .before .before .before .before .before .before .before .loop .inv .inv)
 
--- src/tree.rt:165:25
-all-members-same-length-4 : (t : ℕ) → all-members-lts.Need-same-length-4 (
-  place-reads.Asked,
-  place-reads.Learnt,
-  member-name-reads.Asked,
-  member-name-reads.Learnt,
-  value-below t,
-  value.Post,
-  follow-reads.Asked,
-  follow-reads.Learnt,
-) (all-members-at t) all-members.Post all-members-Inv-loop all-members-μ-loop
+all-members-same-length-4 : (t : ℕ) → all-members-lts.Need-same-length-4 (all-members-calls t) (all-members-at t) all-members.Post all-members-Inv-loop all-members-μ-loop
 all-members-same-length-4 t c = omega (arith, c .before .before .before .before .before .before .before .before .value .kept, c .before .before .before .before .before .before .before .before .before .before .before .before .before .before .before .before .before .before .before .before .member-name .kept, c .before .before .before .before .before .before .before .before .before .before .before .before .before .before .before .before .before .before .before .before .before .before .before .loop .inv .inv)
 
--- src/tree.rt:165:25
-all-members-returns-2 : (t : ℕ) → all-members-lts.Need-returns-2 (
-  place-reads.Asked,
-  place-reads.Learnt,
-  member-name-reads.Asked,
-  member-name-reads.Learnt,
-  value-below t,
-  value.Post,
-  follow-reads.Asked,
-  follow-reads.Learnt,
-) (all-members-at t) all-members.Post all-members-Inv-loop all-members-μ-loop
+all-members-returns-2 : (t : ℕ) → all-members-lts.Need-returns-2 (all-members-calls t) (all-members-at t) all-members.Post all-members-Inv-loop all-members-μ-loop
 all-members-returns-2 t c = members-broken (c .before .before .before .before .before .before .before .before .before .before .before .before .before .before .before .before .before .before .before .before .before .before .before .loop .inv) (named-as (c .before .before .before .before .before .before .before .before .before .before .before .before .before .before .before .before .before .before .before .before .member-name .ensures) (c .before .before .before .before .before .before .before .before .before .before .before .before .before .before .n2 .given .1)) (c .before .before .before .before .before .before .before .before .value .ensures) (breaks (c .before .before .before .follow .ensures) (c .before .after .given .1))
 
--- src/tree.rt:167:35
-all-members-enum-known-after-2 : (t : ℕ) → all-members-lts.Need-enum-known-after-2 (
-  place-reads.Asked,
-  place-reads.Learnt,
-  member-name-reads.Asked,
-  member-name-reads.Learnt,
-  value-below t,
-  value.Post,
-  follow-reads.Asked,
-  follow-reads.Learnt,
-) (all-members-at t) all-members.Post all-members-Inv-loop all-members-μ-loop
+all-members-enum-known-after-2 : (t : ℕ) → all-members-lts.Need-enum-known-after-2 (all-members-calls t) (all-members-at t) all-members.Post all-members-Inv-loop all-members-μ-loop
 all-members-enum-known-after-2 t c = search needs
 
--- src/tree.rt:168:25
-all-members-same-length-5 : (t : ℕ) → all-members-lts.Need-same-length-5 (
-  place-reads.Asked,
-  place-reads.Learnt,
-  member-name-reads.Asked,
-  member-name-reads.Learnt,
-  value-below t,
-  value.Post,
-  follow-reads.Asked,
-  follow-reads.Learnt,
-) (all-members-at t) all-members.Post all-members-Inv-loop all-members-μ-loop
+all-members-same-length-5 : (t : ℕ) → all-members-lts.Need-same-length-5 (all-members-calls t) (all-members-at t) all-members.Post all-members-Inv-loop all-members-μ-loop
 all-members-same-length-5 t c = omega (arith, c .before .before .before .before .before .before .before .before .value .kept, c .before .before .before .before .before .before .before .before .before .before .before .before .before .before .before .before .before .before .before .before .member-name .kept, c .before .before .before .before .before .before .before .before .before .before .before .before .before .before .before .before .before .before .before .before .before .before .before .loop .inv .inv)
 
--- src/tree.rt:168:25
-all-members-same-length-6 : (t : ℕ) → all-members-lts.Need-same-length-6 (
-  place-reads.Asked,
-  place-reads.Learnt,
-  member-name-reads.Asked,
-  member-name-reads.Learnt,
-  value-below t,
-  value.Post,
-  follow-reads.Asked,
-  follow-reads.Learnt,
-) (all-members-at t) all-members.Post all-members-Inv-loop all-members-μ-loop
+all-members-same-length-6 : (t : ℕ) → all-members-lts.Need-same-length-6 (all-members-calls t) (all-members-at t) all-members.Post all-members-Inv-loop all-members-μ-loop
 all-members-same-length-6 t c = omega (arith, c .before .before .before .before .before .before .before .before .value .kept, c .before .before .before .before .before .before .before .before .before .before .before .before .before .before .before .before .before .before .before .before .member-name .kept, c .before .before .before .before .before .before .before .before .before .before .before .before .before .before .before .before .before .before .before .before .before .before .before .loop .inv .inv)
 
--- src/tree.rt:168:25
-all-members-returns-3 : (t : ℕ) → all-members-lts.Need-returns-3 (
-  place-reads.Asked,
-  place-reads.Learnt,
-  member-name-reads.Asked,
-  member-name-reads.Learnt,
-  value-below t,
-  value.Post,
-  follow-reads.Asked,
-  follow-reads.Learnt,
-) (all-members-at t) all-members.Post all-members-Inv-loop all-members-μ-loop
+all-members-returns-3 : (t : ℕ) → all-members-lts.Need-returns-3 (all-members-calls t) (all-members-at t) all-members.Post all-members-Inv-loop all-members-μ-loop
 all-members-returns-3 t c = members-closed (c .before .before .before .before .before .before .before .before .before .before .before .before .before .before .before .before .before .before .before .before .before .before .before .loop .inv) (named-as (c .before .before .before .before .before .before .before .before .before .before .before .before .before .before .before .before .before .before .before .before .member-name .ensures) (c .before .before .before .before .before .before .before .before .before .before .before .before .before .before .n2 .given .1)) (c .before .before .before .before .before .before .before .before .value .ensures) (closes (c .before .before .before .follow .ensures) (c .before .after2 .given .1))
 
--- src/tree.rt:170:33
-all-members-enum-known-after-3 : (t : ℕ) → all-members-lts.Need-enum-known-after-3 (
-  place-reads.Asked,
-  place-reads.Learnt,
-  member-name-reads.Asked,
-  member-name-reads.Learnt,
-  value-below t,
-  value.Post,
-  follow-reads.Asked,
-  follow-reads.Learnt,
-) (all-members-at t) all-members.Post all-members-Inv-loop all-members-μ-loop
+all-members-enum-known-after-3 : (t : ℕ) → all-members-lts.Need-enum-known-after-3 (all-members-calls t) (all-members-at t) all-members.Post all-members-Inv-loop all-members-μ-loop
 all-members-enum-known-after-3 t c = search needs
 
--- src/tree.rt:153:5
-all-members-loop-less : (t : ℕ) → all-members-lts.Need-loop-less (
-  place-reads.Asked,
-  place-reads.Learnt,
-  member-name-reads.Asked,
-  member-name-reads.Learnt,
-  value-below t,
-  value.Post,
-  follow-reads.Asked,
-  follow-reads.Learnt,
-) (all-members-at t) all-members.Post all-members-Inv-loop all-members-μ-loop
+all-members-loop-less : (t : ℕ) → all-members-lts.Need-loop-less (all-members-calls t) (all-members-at t) all-members.Post all-members-Inv-loop all-members-μ-loop
 all-members-loop-less t c = members-less (c .before .before .before .before .before .before .before .before .before .before .before .before .before .before .before .before .before .before .before .before .before .before .before .loop .inv) (named-as (c .before .before .before .before .before .before .before .before .before .before .before .before .before .before .before .before .before .before .before .before .member-name .ensures) (c .before .before .before .before .before .before .before .before .before .before .before .before .before .before .n2 .given .1)) (c .before .before .before .before .before .before .before .before .value .ensures) (continued (c .before .before .before .follow .ensures) (c .before .after3 .given .1))
 
--- src/tree.rt:153:5
-all-members-loop-again : (t : ℕ) → all-members-lts.Need-loop-again (
-  place-reads.Asked,
-  place-reads.Learnt,
-  member-name-reads.Asked,
-  member-name-reads.Learnt,
-  value-below t,
-  value.Post,
-  follow-reads.Asked,
-  follow-reads.Learnt,
-) (all-members-at t) all-members.Post all-members-Inv-loop all-members-μ-loop
+all-members-loop-again : (t : ℕ) → all-members-lts.Need-loop-again (all-members-calls t) (all-members-at t) all-members.Post all-members-Inv-loop all-members-μ-loop
 all-members-loop-again t c = members-next (c .before .before .before .before .before .before .before .before .before .before .before .before .before .before .before .before .before .before .before .before .before .before .before .loop .inv) (named-as (c .before .before .before .before .before .before .before .before .before .before .before .before .before .before .before .before .before .before .before .before .member-name .ensures) (c .before .before .before .before .before .before .before .before .before .before .before .before .before .before .n2 .given .1)) (c .before .before .before .before .before .before .before .before .value .ensures) (continued (c .before .before .before .follow .ensures) (c .before .after3 .given .1)) (c .before .before .before .before .before .before .before .before .before .before .before .before .before .before .before .before .before .before .before .before .before .before .before .before .before .before .before .before .pre .1) (omega (arith, c .before .before .before .before .before .before .before .before .before .before .before .before .before .before .before .before .before .before .before .before .member-name .kept, c .before .before .before .before .before .before .before .before .before .before .before .before .before .before .before .before .before .before .before .before .before .before .before .loop .inv .inv)) (omega (arith, c .before .before .before .before .before .before .before .before .value .kept, c .before .before .before .before .before .before .before .before .before .before .before .before .before .before .before .before .before .before .before .before .member-name .kept, c .before .before .before .before .before .before .before .before .before .before .before .before .before .before .before .before .before .before .before .before .before .before .before .loop .inv .inv)) (omega (arith, c .before .before .before .before .before .before .before .before .value .kept, c .before .before .before .before .before .before .before .before .before .before .before .before .before .before .before .before .before .before .before .before .member-name .kept, c .before .before .before .before .before .before .before .before .before .before .before .before .before .before .before .before .before .before .before .before .before .before .before .loop .inv .inv))
 
--- src/tree.rt:68:9
-array-skip-white-requires : (t : ℕ) → array-lts.Need-skip-white-requires (
-  skip-white-reads.Asked,
-  skip-white-reads.Learnt,
-  stands-reads.Asked,
-  stands-reads.Learnt,
-  empty-reads.Asked,
-  empty-reads.Learnt,
-  all-items-below t,
-  all-items.Post,
-  filled-reads.Asked,
-  filled-reads.Learnt,
-) (array-at t) array.Post
+array-skip-white-requires : (t : ℕ) → array-lts.Need-skip-white-requires (array-calls t) (array-at t) array.Post
 array-skip-white-requires t c κs = search needs
 
--- src/tree.rt:69:8
-array-stands-requires : (t : ℕ) → array-lts.Need-stands-requires (
-  skip-white-reads.Asked,
-  skip-white-reads.Learnt,
-  stands-reads.Asked,
-  stands-reads.Learnt,
-  empty-reads.Asked,
-  empty-reads.Learnt,
-  all-items-below t,
-  all-items.Post,
-  filled-reads.Asked,
-  filled-reads.Learnt,
-) (array-at t) array.Post
+array-stands-requires : (t : ℕ) → array-lts.Need-stands-requires (array-calls t) (array-at t) array.Post
 array-stands-requires t c κs = search needs
 
--- src/tree.rt:70:9
-array-empty-requires : (t : ℕ) → array-lts.Need-empty-requires (
-  skip-white-reads.Asked,
-  skip-white-reads.Learnt,
-  stands-reads.Asked,
-  stands-reads.Learnt,
-  empty-reads.Asked,
-  empty-reads.Learnt,
-  all-items-below t,
-  all-items.Post,
-  filled-reads.Asked,
-  filled-reads.Learnt,
-) (array-at t) array.Post
+array-empty-requires : (t : ℕ) → array-lts.Need-empty-requires (array-calls t) (array-at t) array.Post
 array-empty-requires t c κs = omega (arith, c .before .before .stands .ensures .room (c .before .if1 .taken), c .before .before .before .before .before .before .before .pre)
 
--- src/tree.rt:70:9
-array-same-length : (t : ℕ) → array-lts.Need-same-length (
-  skip-white-reads.Asked,
-  skip-white-reads.Learnt,
-  stands-reads.Asked,
-  stands-reads.Learnt,
-  empty-reads.Asked,
-  empty-reads.Learnt,
-  all-items-below t,
-  all-items.Post,
-  filled-reads.Asked,
-  filled-reads.Learnt,
-) (array-at t) array.Post
+array-same-length : (t : ℕ) → array-lts.Need-same-length (array-calls t) (array-at t) array.Post
 array-same-length t c = search needs
 
--- src/tree.rt:70:9
-array-returns : (t : ℕ) → array-lts.Need-returns (
-  skip-white-reads.Asked,
-  skip-white-reads.Learnt,
-  stands-reads.Asked,
-  stands-reads.Learnt,
-  empty-reads.Asked,
-  empty-reads.Learnt,
-  all-items-below t,
-  all-items.Post,
-  filled-reads.Asked,
-  filled-reads.Learnt,
-) (array-at t) array.Post
+array-returns : (t : ℕ) → array-lts.Need-returns (array-calls t) (array-at t) array.Post
 array-returns t c = law-array-empty (c .before .before .before .before .before .before .before .before .before .before .args .depth) (c .before .before .before .before .before .before .skip-white .ensures) (c .before .before .before .before .before .stands .ensures) (c .before .before .before .before .if1 .taken) (c .before .before .before .before .before .before .before .before .before .before .pre .1 .0 .text) (c .before .before .before .before .before .before .before .before .before .before .pre .1 .1) (c .before .before .empty .ensures)
 
--- src/tree.rt:72:43
-array-add-all-items : (t : ℕ) → array-lts.Need-add-all-items (
-  skip-white-reads.Asked,
-  skip-white-reads.Learnt,
-  stands-reads.Asked,
-  stands-reads.Learnt,
-  empty-reads.Asked,
-  empty-reads.Learnt,
-  all-items-below t,
-  all-items.Post,
-  filled-reads.Asked,
-  filled-reads.Learnt,
-) (array-at t) array.Post
+array-add-all-items : (t : ℕ) → array-lts.Need-add-all-items (array-calls t) (array-at t) array.Post
 unfolding maxValues
 array-add-all-items t c = omega (arith, c .before .before .before .before .before .before .before .pre)
 
--- src/tree.rt:72:67
-array-add-all-items-2 : (t : ℕ) → array-lts.Need-add-all-items-2 (
-  skip-white-reads.Asked,
-  skip-white-reads.Learnt,
-  stands-reads.Asked,
-  stands-reads.Learnt,
-  empty-reads.Asked,
-  empty-reads.Learnt,
-  all-items-below t,
-  all-items.Post,
-  filled-reads.Asked,
-  filled-reads.Learnt,
-) (array-at t) array.Post
+array-add-all-items-2 : (t : ℕ) → array-lts.Need-add-all-items-2 (array-calls t) (array-at t) array.Post
 unfolding maxNesting
 array-add-all-items-2 t c = omega (arith, c .before .before .before .before .before .before .before .before .pre)
 
--- src/tree.rt:72:9
-array-all-items-requires : (t : ℕ) → array-lts.Need-all-items-requires (
-  skip-white-reads.Asked,
-  skip-white-reads.Learnt,
-  stands-reads.Asked,
-  stands-reads.Learnt,
-  empty-reads.Asked,
-  empty-reads.Learnt,
-  all-items-below t,
-  all-items.Post,
-  filled-reads.Asked,
-  filled-reads.Learnt,
-) (array-at t) array.Post
+array-all-items-requires : (t : ℕ) → array-lts.Need-all-items-requires (array-calls t) (array-at t) array.Post
 array-all-items-requires t c κs = let l : c .before .before .before .before .skip-white .result ≤ length (c .before .before .before .before .before .before .before .before .args .text .now) = c .before .before .before .before .skip-white .ensures .inside (c .before .before .before .before .before .before .before .before .pre .1 .0 .place) in omega (arith, c .before .before .before .before .skip-white .ensures .on, c .before .before .before .before .before .before .before .before .pre)
 
--- src/tree.rt:73:5
-array-filled-requires : (t : ℕ) → array-lts.Need-filled-requires (
-  skip-white-reads.Asked,
-  skip-white-reads.Learnt,
-  stands-reads.Asked,
-  stands-reads.Learnt,
-  empty-reads.Asked,
-  empty-reads.Learnt,
-  all-items-below t,
-  all-items.Post,
-  filled-reads.Asked,
-  filled-reads.Learnt,
-) (array-at t) array.Post
+array-filled-requires : (t : ℕ) → array-lts.Need-filled-requires (array-calls t) (array-at t) array.Post
 array-filled-requires t c κs = search needs
 
--- src/tree.rt:55:1
-array-same-length-2 : (t : ℕ) → array-lts.Need-same-length-2 (
-  skip-white-reads.Asked,
-  skip-white-reads.Learnt,
-  stands-reads.Asked,
-  stands-reads.Learnt,
-  empty-reads.Asked,
-  empty-reads.Learnt,
-  all-items-below t,
-  all-items.Post,
-  filled-reads.Asked,
-  filled-reads.Learnt,
-) (array-at t) array.Post
+array-same-length-2 : (t : ℕ) → array-lts.Need-same-length-2 (array-calls t) (array-at t) array.Post
 array-same-length-2 t c = search needs
 
--- src/tree.rt:55:1
-array-same-length-3 : (t : ℕ) → array-lts.Need-same-length-3 (
-  skip-white-reads.Asked,
-  skip-white-reads.Learnt,
-  stands-reads.Asked,
-  stands-reads.Learnt,
-  empty-reads.Asked,
-  empty-reads.Learnt,
-  all-items-below t,
-  all-items.Post,
-  filled-reads.Asked,
-  filled-reads.Learnt,
-) (array-at t) array.Post
+array-same-length-3 : (t : ℕ) → array-lts.Need-same-length-3 (array-calls t) (array-at t) array.Post
 array-same-length-3 t c = search needs
 
--- src/tree.rt:55:1
-array-returns-2 : (t : ℕ) → array-lts.Need-returns-2 (
-  skip-white-reads.Asked,
-  skip-white-reads.Learnt,
-  stands-reads.Asked,
-  stands-reads.Learnt,
-  empty-reads.Asked,
-  empty-reads.Learnt,
-  all-items-below t,
-  all-items.Post,
-  filled-reads.Asked,
-  filled-reads.Learnt,
-) (array-at t) array.Post
+array-returns-2 : (t : ℕ) → array-lts.Need-returns-2 (array-calls t) (array-at t) array.Post
 array-returns-2 t c = law-array (c .before .before .before .before .before .before .before .before .before .before .before .before .before .before .before .before .before .args .depth) (c .before .before .before .before .before .before .before .before .before .before .before .before .before .skip-white .ensures) (c .before .before .before .before .before .before .before .before .before .before .before .before .stands .ensures) (c .before .before .before .before .before .before .before .before .before .before .before .if1 .left) (c .before .before .before .before .before .before .before .before .before .before .before .before .before .before .before .before .before .pre .1 .1) (c .before .before .before .before .before .before .before .before .all-items .ensures) (c .before .before .filled .ensures)
 
--- src/tree.rt:90:9
-object-skip-white-requires : (t : ℕ) → object-lts.Need-skip-white-requires (
-  skip-white-reads.Asked,
-  skip-white-reads.Learnt,
-  stands-reads.Asked,
-  stands-reads.Learnt,
-  empty-reads.Asked,
-  empty-reads.Learnt,
-  all-members-below t,
-  all-members.Post,
-  filled-reads.Asked,
-  filled-reads.Learnt,
-) (object-at t) object.Post
+object-skip-white-requires : (t : ℕ) → object-lts.Need-skip-white-requires (object-calls t) (object-at t) object.Post
 object-skip-white-requires t c κs = search needs
 
--- src/tree.rt:91:8
-object-stands-requires : (t : ℕ) → object-lts.Need-stands-requires (
-  skip-white-reads.Asked,
-  skip-white-reads.Learnt,
-  stands-reads.Asked,
-  stands-reads.Learnt,
-  empty-reads.Asked,
-  empty-reads.Learnt,
-  all-members-below t,
-  all-members.Post,
-  filled-reads.Asked,
-  filled-reads.Learnt,
-) (object-at t) object.Post
+object-stands-requires : (t : ℕ) → object-lts.Need-stands-requires (object-calls t) (object-at t) object.Post
 object-stands-requires t c κs = search needs
 
--- src/tree.rt:92:9
-object-empty-requires : (t : ℕ) → object-lts.Need-empty-requires (
-  skip-white-reads.Asked,
-  skip-white-reads.Learnt,
-  stands-reads.Asked,
-  stands-reads.Learnt,
-  empty-reads.Asked,
-  empty-reads.Learnt,
-  all-members-below t,
-  all-members.Post,
-  filled-reads.Asked,
-  filled-reads.Learnt,
-) (object-at t) object.Post
+object-empty-requires : (t : ℕ) → object-lts.Need-empty-requires (object-calls t) (object-at t) object.Post
 object-empty-requires t c κs = omega (arith, c .before .before .stands .ensures .room (c .before .if1 .taken), c .before .before .before .before .before .before .before .pre)
 
--- src/tree.rt:92:9
-object-same-length : (t : ℕ) → object-lts.Need-same-length (
-  skip-white-reads.Asked,
-  skip-white-reads.Learnt,
-  stands-reads.Asked,
-  stands-reads.Learnt,
-  empty-reads.Asked,
-  empty-reads.Learnt,
-  all-members-below t,
-  all-members.Post,
-  filled-reads.Asked,
-  filled-reads.Learnt,
-) (object-at t) object.Post
+object-same-length : (t : ℕ) → object-lts.Need-same-length (object-calls t) (object-at t) object.Post
 object-same-length t c = search needs
 
--- src/tree.rt:92:9
-object-returns : (t : ℕ) → object-lts.Need-returns (
-  skip-white-reads.Asked,
-  skip-white-reads.Learnt,
-  stands-reads.Asked,
-  stands-reads.Learnt,
-  empty-reads.Asked,
-  empty-reads.Learnt,
-  all-members-below t,
-  all-members.Post,
-  filled-reads.Asked,
-  filled-reads.Learnt,
-) (object-at t) object.Post
+object-returns : (t : ℕ) → object-lts.Need-returns (object-calls t) (object-at t) object.Post
 object-returns t c = law-object-empty (c .before .before .before .before .before .before .before .before .before .before .args .depth) (c .before .before .before .before .before .before .skip-white .ensures) (c .before .before .before .before .before .stands .ensures) (c .before .before .before .before .if1 .taken) (c .before .before .before .before .before .before .before .before .before .before .pre .1 .0 .text) (c .before .before .before .before .before .before .before .before .before .before .pre .1 .1) (c .before .before .empty .ensures)
 
--- src/tree.rt:94:45
-object-add-all-members : (t : ℕ) → object-lts.Need-add-all-members (
-  skip-white-reads.Asked,
-  skip-white-reads.Learnt,
-  stands-reads.Asked,
-  stands-reads.Learnt,
-  empty-reads.Asked,
-  empty-reads.Learnt,
-  all-members-below t,
-  all-members.Post,
-  filled-reads.Asked,
-  filled-reads.Learnt,
-) (object-at t) object.Post
+object-add-all-members : (t : ℕ) → object-lts.Need-add-all-members (object-calls t) (object-at t) object.Post
 unfolding maxValues
 object-add-all-members t c = omega (arith, c .before .before .before .before .before .before .before .pre)
 
--- src/tree.rt:94:69
-object-add-all-members-2 : (t : ℕ) → object-lts.Need-add-all-members-2 (
-  skip-white-reads.Asked,
-  skip-white-reads.Learnt,
-  stands-reads.Asked,
-  stands-reads.Learnt,
-  empty-reads.Asked,
-  empty-reads.Learnt,
-  all-members-below t,
-  all-members.Post,
-  filled-reads.Asked,
-  filled-reads.Learnt,
-) (object-at t) object.Post
+object-add-all-members-2 : (t : ℕ) → object-lts.Need-add-all-members-2 (object-calls t) (object-at t) object.Post
 unfolding maxNesting
 object-add-all-members-2 t c = omega (arith, c .before .before .before .before .before .before .before .before .pre)
 
--- src/tree.rt:94:9
-object-all-members-requires : (t : ℕ) → object-lts.Need-all-members-requires (
-  skip-white-reads.Asked,
-  skip-white-reads.Learnt,
-  stands-reads.Asked,
-  stands-reads.Learnt,
-  empty-reads.Asked,
-  empty-reads.Learnt,
-  all-members-below t,
-  all-members.Post,
-  filled-reads.Asked,
-  filled-reads.Learnt,
-) (object-at t) object.Post
+object-all-members-requires : (t : ℕ) → object-lts.Need-all-members-requires (object-calls t) (object-at t) object.Post
 object-all-members-requires t c κs = let l : c .before .before .before .before .skip-white .result ≤ length (c .before .before .before .before .before .before .before .before .args .text .now) = c .before .before .before .before .skip-white .ensures .inside (c .before .before .before .before .before .before .before .before .pre .1 .0 .place) in omega (arith, c .before .before .before .before .skip-white .ensures .on, c .before .before .before .before .before .before .before .before .pre)
 
--- src/tree.rt:95:5
-object-filled-requires : (t : ℕ) → object-lts.Need-filled-requires (
-  skip-white-reads.Asked,
-  skip-white-reads.Learnt,
-  stands-reads.Asked,
-  stands-reads.Learnt,
-  empty-reads.Asked,
-  empty-reads.Learnt,
-  all-members-below t,
-  all-members.Post,
-  filled-reads.Asked,
-  filled-reads.Learnt,
-) (object-at t) object.Post
+object-filled-requires : (t : ℕ) → object-lts.Need-filled-requires (object-calls t) (object-at t) object.Post
 object-filled-requires t c κs = search needs
 
--- src/tree.rt:77:1
-object-same-length-2 : (t : ℕ) → object-lts.Need-same-length-2 (
-  skip-white-reads.Asked,
-  skip-white-reads.Learnt,
-  stands-reads.Asked,
-  stands-reads.Learnt,
-  empty-reads.Asked,
-  empty-reads.Learnt,
-  all-members-below t,
-  all-members.Post,
-  filled-reads.Asked,
-  filled-reads.Learnt,
-) (object-at t) object.Post
+object-same-length-2 : (t : ℕ) → object-lts.Need-same-length-2 (object-calls t) (object-at t) object.Post
 object-same-length-2 t c = search needs
 
--- src/tree.rt:77:1
-object-same-length-3 : (t : ℕ) → object-lts.Need-same-length-3 (
-  skip-white-reads.Asked,
-  skip-white-reads.Learnt,
-  stands-reads.Asked,
-  stands-reads.Learnt,
-  empty-reads.Asked,
-  empty-reads.Learnt,
-  all-members-below t,
-  all-members.Post,
-  filled-reads.Asked,
-  filled-reads.Learnt,
-) (object-at t) object.Post
+object-same-length-3 : (t : ℕ) → object-lts.Need-same-length-3 (object-calls t) (object-at t) object.Post
 object-same-length-3 t c = search needs
 
--- src/tree.rt:77:1
-object-returns-2 : (t : ℕ) → object-lts.Need-returns-2 (
-  skip-white-reads.Asked,
-  skip-white-reads.Learnt,
-  stands-reads.Asked,
-  stands-reads.Learnt,
-  empty-reads.Asked,
-  empty-reads.Learnt,
-  all-members-below t,
-  all-members.Post,
-  filled-reads.Asked,
-  filled-reads.Learnt,
-) (object-at t) object.Post
+object-returns-2 : (t : ℕ) → object-lts.Need-returns-2 (object-calls t) (object-at t) object.Post
 object-returns-2 t c = law-object (c .before .before .before .before .before .before .before .before .before .before .before .before .before .before .before .before .before .args .depth) (c .before .before .before .before .before .before .before .before .before .before .before .before .before .skip-white .ensures) (c .before .before .before .before .before .before .before .before .before .before .before .before .stands .ensures) (c .before .before .before .before .before .before .before .before .before .before .before .if1 .left) (c .before .before .before .before .before .before .before .before .before .before .before .before .before .before .before .before .before .pre .1 .1) (c .before .before .before .before .before .before .before .before .all-members .ensures) (c .before .before .filled .ensures)
 
--- src/tree.rt:41:9
-value-start-requires : (t : ℕ) → value-lts.Need-start-requires (
-  start-reads.Asked,
-  start-reads.Learnt,
-  fail-reads.Asked,
-  fail-reads.Learnt,
-  read-literal-reads.Asked,
-  read-literal-reads.Learnt,
-  read-number-reads.Asked,
-  read-number-reads.Learnt,
-  read-string-reads.Asked,
-  read-string-reads.Learnt,
-  array-below t,
-  array.Post,
-  object-below t,
-  object.Post,
-) (value-at t) value.Post
+value-start-requires : (t : ℕ) → value-lts.Need-start-requires (value-calls t) (value-at t) value.Post
 value-start-requires t c κs = search needs
 
--- src/tree.rt:43:27
-value-enum-told : (t : ℕ) → value-lts.Need-enum-told (
-  start-reads.Asked,
-  start-reads.Learnt,
-  fail-reads.Asked,
-  fail-reads.Learnt,
-  read-literal-reads.Asked,
-  read-literal-reads.Learnt,
-  read-number-reads.Asked,
-  read-number-reads.Learnt,
-  read-string-reads.Asked,
-  read-string-reads.Learnt,
-  array-below t,
-  array.Post,
-  object-below t,
-  object.Post,
-) (value-at t) value.Post
+value-enum-told : (t : ℕ) → value-lts.Need-enum-told (value-calls t) (value-at t) value.Post
 value-enum-told t c = search needs
 
--- src/tree.rt:43:27
-value-fail-requires : (t : ℕ) → value-lts.Need-fail-requires (
-  start-reads.Asked,
-  start-reads.Learnt,
-  fail-reads.Asked,
-  fail-reads.Learnt,
-  read-literal-reads.Asked,
-  read-literal-reads.Learnt,
-  read-number-reads.Asked,
-  read-number-reads.Learnt,
-  read-string-reads.Asked,
-  read-string-reads.Learnt,
-  array-below t,
-  array.Post,
-  object-below t,
-  object.Post,
-) (value-at t) value.Post
+value-fail-requires : (t : ℕ) → value-lts.Need-fail-requires (value-calls t) (value-at t) value.Post
 value-fail-requires t c κs = search needs
 
--- src/tree.rt:44:27
-value-enum-told-2 : (t : ℕ) → value-lts.Need-enum-told-2 (
-  start-reads.Asked,
-  start-reads.Learnt,
-  fail-reads.Asked,
-  fail-reads.Learnt,
-  read-literal-reads.Asked,
-  read-literal-reads.Learnt,
-  read-number-reads.Asked,
-  read-number-reads.Learnt,
-  read-string-reads.Asked,
-  read-string-reads.Learnt,
-  array-below t,
-  array.Post,
-  object-below t,
-  object.Post,
-) (value-at t) value.Post
+value-enum-told-2 : (t : ℕ) → value-lts.Need-enum-told-2 (value-calls t) (value-at t) value.Post
 value-enum-told-2 t c = search needs
 
--- src/tree.rt:44:27
-value-fail-requires-2 : (t : ℕ) → value-lts.Need-fail-requires-2 (
-  start-reads.Asked,
-  start-reads.Learnt,
-  fail-reads.Asked,
-  fail-reads.Learnt,
-  read-literal-reads.Asked,
-  read-literal-reads.Learnt,
-  read-number-reads.Asked,
-  read-number-reads.Learnt,
-  read-string-reads.Asked,
-  read-string-reads.Learnt,
-  array-below t,
-  array.Post,
-  object-below t,
-  object.Post,
-) (value-at t) value.Post
+value-fail-requires-2 : (t : ℕ) → value-lts.Need-fail-requires-2 (value-calls t) (value-at t) value.Post
 value-fail-requires-2 t c κs = search needs
 
--- src/tree.rt:45:24
-value-enum-known-kind : (t : ℕ) → value-lts.Need-enum-known-kind (
-  start-reads.Asked,
-  start-reads.Learnt,
-  fail-reads.Asked,
-  fail-reads.Learnt,
-  read-literal-reads.Asked,
-  read-literal-reads.Learnt,
-  read-number-reads.Asked,
-  read-number-reads.Learnt,
-  read-string-reads.Asked,
-  read-string-reads.Learnt,
-  array-below t,
-  array.Post,
-  object-below t,
-  object.Post,
-) (value-at t) value.Post
+value-enum-known-kind : (t : ℕ) → value-lts.Need-enum-known-kind (value-calls t) (value-at t) value.Post
 value-enum-known-kind t c = search needs
 
--- src/tree.rt:45:33
-value-read-literal-requires : (t : ℕ) → value-lts.Need-read-literal-requires (
-  start-reads.Asked,
-  start-reads.Learnt,
-  fail-reads.Asked,
-  fail-reads.Learnt,
-  read-literal-reads.Asked,
-  read-literal-reads.Learnt,
-  read-number-reads.Asked,
-  read-number-reads.Learnt,
-  read-string-reads.Asked,
-  read-string-reads.Learnt,
-  array-below t,
-  array.Post,
-  object-below t,
-  object.Post,
-) (value-at t) value.Post
+value-read-literal-requires : (t : ℕ) → value-lts.Need-read-literal-requires (value-calls t) (value-at t) value.Post
 value-read-literal-requires t c κs = let st = (started (c .before .before .before .before .start .ensures) (c .before .before .kind .given .1)) in omega (arith, st .room, c .before .before .before .before .before .before .before .before .pre)
 
--- src/tree.rt:46:43
-value-enum-told-3 : (t : ℕ) → value-lts.Need-enum-told-3 (
-  start-reads.Asked,
-  start-reads.Learnt,
-  fail-reads.Asked,
-  fail-reads.Learnt,
-  read-literal-reads.Asked,
-  read-literal-reads.Learnt,
-  read-number-reads.Asked,
-  read-number-reads.Learnt,
-  read-string-reads.Asked,
-  read-string-reads.Learnt,
-  array-below t,
-  array.Post,
-  object-below t,
-  object.Post,
-) (value-at t) value.Post
+value-enum-told-3 : (t : ℕ) → value-lts.Need-enum-told-3 (value-calls t) (value-at t) value.Post
 value-enum-told-3 t c = search needs
 
--- src/tree.rt:46:43
-value-add-read-number : (t : ℕ) → value-lts.Need-add-read-number (
-  start-reads.Asked,
-  start-reads.Learnt,
-  fail-reads.Asked,
-  fail-reads.Learnt,
-  read-literal-reads.Asked,
-  read-literal-reads.Learnt,
-  read-number-reads.Asked,
-  read-number-reads.Learnt,
-  read-string-reads.Asked,
-  read-string-reads.Learnt,
-  array-below t,
-  array.Post,
-  object-below t,
-  object.Post,
-) (value-at t) value.Post
+value-add-read-number : (t : ℕ) → value-lts.Need-add-read-number (value-calls t) (value-at t) value.Post
 value-add-read-number t c = search needs
 
--- src/tree.rt:46:25
-value-read-number-requires : (t : ℕ) → value-lts.Need-read-number-requires (
-  start-reads.Asked,
-  start-reads.Learnt,
-  fail-reads.Asked,
-  fail-reads.Learnt,
-  read-literal-reads.Asked,
-  read-literal-reads.Learnt,
-  read-number-reads.Asked,
-  read-number-reads.Learnt,
-  read-string-reads.Asked,
-  read-string-reads.Learnt,
-  array-below t,
-  array.Post,
-  object-below t,
-  object.Post,
-) (value-at t) value.Post
+value-read-number-requires : (t : ℕ) → value-lts.Need-read-number-requires (value-calls t) (value-at t) value.Post
 value-read-number-requires t c κs = let st = (started (c .before .before .before .start .ensures) (c .before .enum-told3 .given .1)) in omega (arith, st .room, c .before .before .before .before .before .before .before .pre)
 
--- src/tree.rt:47:54
-value-enum-told-4 : (t : ℕ) → value-lts.Need-enum-told-4 (
-  start-reads.Asked,
-  start-reads.Learnt,
-  fail-reads.Asked,
-  fail-reads.Learnt,
-  read-literal-reads.Asked,
-  read-literal-reads.Learnt,
-  read-number-reads.Asked,
-  read-number-reads.Learnt,
-  read-string-reads.Asked,
-  read-string-reads.Learnt,
-  array-below t,
-  array.Post,
-  object-below t,
-  object.Post,
-) (value-at t) value.Post
+value-enum-told-4 : (t : ℕ) → value-lts.Need-enum-told-4 (value-calls t) (value-at t) value.Post
 value-enum-told-4 t c = search needs
 
--- src/tree.rt:47:25
-value-read-number-requires-2 : (t : ℕ) → value-lts.Need-read-number-requires-2 (
-  start-reads.Asked,
-  start-reads.Learnt,
-  fail-reads.Asked,
-  fail-reads.Learnt,
-  read-literal-reads.Asked,
-  read-literal-reads.Learnt,
-  read-number-reads.Asked,
-  read-number-reads.Learnt,
-  read-string-reads.Asked,
-  read-string-reads.Learnt,
-  array-below t,
-  array.Post,
-  object-below t,
-  object.Post,
-) (value-at t) value.Post
+value-read-number-requires-2 : (t : ℕ) → value-lts.Need-read-number-requires-2 (value-calls t) (value-at t) value.Post
 value-read-number-requires-2 t c κs = let st = (started (c .before .before .before .start .ensures) (c .before .enum-told4 .given .1)) in omega (arith, st .room, c .before .before .before .before .before .before .before .pre)
 
--- src/tree.rt:48:43
-value-enum-told-5 : (t : ℕ) → value-lts.Need-enum-told-5 (
-  start-reads.Asked,
-  start-reads.Learnt,
-  fail-reads.Asked,
-  fail-reads.Learnt,
-  read-literal-reads.Asked,
-  read-literal-reads.Learnt,
-  read-number-reads.Asked,
-  read-number-reads.Learnt,
-  read-string-reads.Asked,
-  read-string-reads.Learnt,
-  array-below t,
-  array.Post,
-  object-below t,
-  object.Post,
-) (value-at t) value.Post
+value-enum-told-5 : (t : ℕ) → value-lts.Need-enum-told-5 (value-calls t) (value-at t) value.Post
 value-enum-told-5 t c = search needs
 
--- src/tree.rt:48:43
-value-add-read-string : (t : ℕ) → value-lts.Need-add-read-string (
-  start-reads.Asked,
-  start-reads.Learnt,
-  fail-reads.Asked,
-  fail-reads.Learnt,
-  read-literal-reads.Asked,
-  read-literal-reads.Learnt,
-  read-number-reads.Asked,
-  read-number-reads.Learnt,
-  read-string-reads.Asked,
-  read-string-reads.Learnt,
-  array-below t,
-  array.Post,
-  object-below t,
-  object.Post,
-) (value-at t) value.Post
+value-add-read-string : (t : ℕ) → value-lts.Need-add-read-string (value-calls t) (value-at t) value.Post
 value-add-read-string t c = search needs
 
--- src/tree.rt:48:25
-value-read-string-requires : (t : ℕ) → value-lts.Need-read-string-requires (
-  start-reads.Asked,
-  start-reads.Learnt,
-  fail-reads.Asked,
-  fail-reads.Learnt,
-  read-literal-reads.Asked,
-  read-literal-reads.Learnt,
-  read-number-reads.Asked,
-  read-number-reads.Learnt,
-  read-string-reads.Asked,
-  read-string-reads.Learnt,
-  array-below t,
-  array.Post,
-  object-below t,
-  object.Post,
-) (value-at t) value.Post
+value-read-string-requires : (t : ℕ) → value-lts.Need-read-string-requires (value-calls t) (value-at t) value.Post
 value-read-string-requires t c κs = let st = (started (c .before .before .before .before .start .ensures) (c .before .before .enum-told5 .given .1)) in omega (arith, st .room, c .before .before .before .before .before .before .before .before .pre)
 
--- src/tree.rt:49:39
-value-enum-told-6 : (t : ℕ) → value-lts.Need-enum-told-6 (
-  start-reads.Asked,
-  start-reads.Learnt,
-  fail-reads.Asked,
-  fail-reads.Learnt,
-  read-literal-reads.Asked,
-  read-literal-reads.Learnt,
-  read-number-reads.Asked,
-  read-number-reads.Learnt,
-  read-string-reads.Asked,
-  read-string-reads.Learnt,
-  array-below t,
-  array.Post,
-  object-below t,
-  object.Post,
-) (value-at t) value.Post
+value-enum-told-6 : (t : ℕ) → value-lts.Need-enum-told-6 (value-calls t) (value-at t) value.Post
 value-enum-told-6 t c = search needs
 
--- src/tree.rt:49:39
-value-add-array : (t : ℕ) → value-lts.Need-add-array (
-  start-reads.Asked,
-  start-reads.Learnt,
-  fail-reads.Asked,
-  fail-reads.Learnt,
-  read-literal-reads.Asked,
-  read-literal-reads.Learnt,
-  read-number-reads.Asked,
-  read-number-reads.Learnt,
-  read-string-reads.Asked,
-  read-string-reads.Learnt,
-  array-below t,
-  array.Post,
-  object-below t,
-  object.Post,
-) (value-at t) value.Post
+value-add-array : (t : ℕ) → value-lts.Need-add-array (value-calls t) (value-at t) value.Post
 value-add-array t c = search needs
 
--- src/tree.rt:49:27
-value-array-requires : (t : ℕ) → value-lts.Need-array-requires (
-  start-reads.Asked,
-  start-reads.Learnt,
-  fail-reads.Asked,
-  fail-reads.Learnt,
-  read-literal-reads.Asked,
-  read-literal-reads.Learnt,
-  read-number-reads.Asked,
-  read-number-reads.Learnt,
-  read-string-reads.Asked,
-  read-string-reads.Learnt,
-  array-below t,
-  array.Post,
-  object-below t,
-  object.Post,
-) (value-at t) value.Post
+value-array-requires : (t : ℕ) → value-lts.Need-array-requires (value-calls t) (value-at t) value.Post
 value-array-requires t c κs = let st = (started (c .before .before .before .before .start .ensures) (c .before .before .enum-told6 .given .1)) in omega (arith, st .room, c .before .before .before .before .before .before .before .before .pre)
 
--- src/tree.rt:50:38
-value-enum-told-7 : (t : ℕ) → value-lts.Need-enum-told-7 (
-  start-reads.Asked,
-  start-reads.Learnt,
-  fail-reads.Asked,
-  fail-reads.Learnt,
-  read-literal-reads.Asked,
-  read-literal-reads.Learnt,
-  read-number-reads.Asked,
-  read-number-reads.Learnt,
-  read-string-reads.Asked,
-  read-string-reads.Learnt,
-  array-below t,
-  array.Post,
-  object-below t,
-  object.Post,
-) (value-at t) value.Post
+value-enum-told-7 : (t : ℕ) → value-lts.Need-enum-told-7 (value-calls t) (value-at t) value.Post
 value-enum-told-7 t c = search needs
 
--- src/tree.rt:50:38
-value-add-object : (t : ℕ) → value-lts.Need-add-object (
-  start-reads.Asked,
-  start-reads.Learnt,
-  fail-reads.Asked,
-  fail-reads.Learnt,
-  read-literal-reads.Asked,
-  read-literal-reads.Learnt,
-  read-number-reads.Asked,
-  read-number-reads.Learnt,
-  read-string-reads.Asked,
-  read-string-reads.Learnt,
-  array-below t,
-  array.Post,
-  object-below t,
-  object.Post,
-) (value-at t) value.Post
+value-add-object : (t : ℕ) → value-lts.Need-add-object (value-calls t) (value-at t) value.Post
 value-add-object t c = search needs
 
--- src/tree.rt:50:25
-value-object-requires : (t : ℕ) → value-lts.Need-object-requires (
-  start-reads.Asked,
-  start-reads.Learnt,
-  fail-reads.Asked,
-  fail-reads.Learnt,
-  read-literal-reads.Asked,
-  read-literal-reads.Learnt,
-  read-number-reads.Asked,
-  read-number-reads.Learnt,
-  read-string-reads.Asked,
-  read-string-reads.Learnt,
-  array-below t,
-  array.Post,
-  object-below t,
-  object.Post,
-) (value-at t) value.Post
+value-object-requires : (t : ℕ) → value-lts.Need-object-requires (value-calls t) (value-at t) value.Post
 value-object-requires t c κs = let st = (started (c .before .before .before .before .start .ensures) (c .before .before .enum-told7 .given .1)) in omega (arith, st .room, c .before .before .before .before .before .before .before .before .pre)
 
--- src/tree.rt:28:1
-value-returns : (t : ℕ) → value-lts.Need-returns (
-  start-reads.Asked,
-  start-reads.Learnt,
-  fail-reads.Asked,
-  fail-reads.Learnt,
-  read-literal-reads.Asked,
-  read-literal-reads.Learnt,
-  read-number-reads.Asked,
-  read-number-reads.Learnt,
-  read-string-reads.Asked,
-  read-string-reads.Learnt,
-  array-below t,
-  array.Post,
-  object-below t,
-  object.Post,
-) (value-at t) value.Post
+value-returns : (t : ℕ) → value-lts.Need-returns (value-calls t) (value-at t) value.Post
 value-returns t c = law-none (started (c .before .before .before .start .ensures) (c .before .enum-told .given .1)) (c .fail .ensures)
 
--- src/tree.rt:28:1
-value-returns-2 : (t : ℕ) → value-lts.Need-returns-2 (
-  start-reads.Asked,
-  start-reads.Learnt,
-  fail-reads.Asked,
-  fail-reads.Learnt,
-  read-literal-reads.Asked,
-  read-literal-reads.Learnt,
-  read-number-reads.Asked,
-  read-number-reads.Learnt,
-  read-string-reads.Asked,
-  read-string-reads.Learnt,
-  array-below t,
-  array.Post,
-  object-below t,
-  object.Post,
-) (value-at t) value.Post
+value-returns-2 : (t : ℕ) → value-lts.Need-returns-2 (value-calls t) (value-at t) value.Post
 value-returns-2 t c = law-much (started (c .before .before .before .start .ensures) (c .before .enum-told2 .given .1)) (c .fail2 .ensures)
 
--- src/tree.rt:28:1
-value-same-length : (t : ℕ) → value-lts.Need-same-length (
-  start-reads.Asked,
-  start-reads.Learnt,
-  fail-reads.Asked,
-  fail-reads.Learnt,
-  read-literal-reads.Asked,
-  read-literal-reads.Learnt,
-  read-number-reads.Asked,
-  read-number-reads.Learnt,
-  read-string-reads.Asked,
-  read-string-reads.Learnt,
-  array-below t,
-  array.Post,
-  object-below t,
-  object.Post,
-) (value-at t) value.Post
+value-same-length : (t : ℕ) → value-lts.Need-same-length (value-calls t) (value-at t) value.Post
 value-same-length t c = search needs
 
--- src/tree.rt:28:1
-value-returns-3 : (t : ℕ) → value-lts.Need-returns-3 (
-  start-reads.Asked,
-  start-reads.Learnt,
-  fail-reads.Asked,
-  fail-reads.Learnt,
-  read-literal-reads.Asked,
-  read-literal-reads.Learnt,
-  read-number-reads.Asked,
-  read-number-reads.Learnt,
-  read-string-reads.Asked,
-  read-string-reads.Learnt,
-  array-below t,
-  array.Post,
-  object-below t,
-  object.Post,
-) (value-at t) value.Post
+value-returns-3 : (t : ℕ) → value-lts.Need-returns-3 (value-calls t) (value-at t) value.Post
 value-returns-3 t c = law-word (started (c .before .before .before .before .before .before .before .start .ensures) (c .before .before .before .before .before .kind .given .1)) (c .before .before .read-literal .ensures)
 
--- src/tree.rt:28:1
-value-same-length-2 : (t : ℕ) → value-lts.Need-same-length-2 (
-  start-reads.Asked,
-  start-reads.Learnt,
-  fail-reads.Asked,
-  fail-reads.Learnt,
-  read-literal-reads.Asked,
-  read-literal-reads.Learnt,
-  read-number-reads.Asked,
-  read-number-reads.Learnt,
-  read-string-reads.Asked,
-  read-string-reads.Learnt,
-  array-below t,
-  array.Post,
-  object-below t,
-  object.Post,
-) (value-at t) value.Post
+value-same-length-2 : (t : ℕ) → value-lts.Need-same-length-2 (value-calls t) (value-at t) value.Post
 value-same-length-2 t c = search needs
 
--- src/tree.rt:28:1
-value-returns-4 : (t : ℕ) → value-lts.Need-returns-4 (
-  start-reads.Asked,
-  start-reads.Learnt,
-  fail-reads.Asked,
-  fail-reads.Learnt,
-  read-literal-reads.Asked,
-  read-literal-reads.Learnt,
-  read-number-reads.Asked,
-  read-number-reads.Learnt,
-  read-string-reads.Asked,
-  read-string-reads.Learnt,
-  array-below t,
-  array.Post,
-  object-below t,
-  object.Post,
-) (value-at t) value.Post
+value-returns-4 : (t : ℕ) → value-lts.Need-returns-4 (value-calls t) (value-at t) value.Post
 value-returns-4 t c = law-minus (started (c .before .before .before .before .before .before .start .ensures) (c .before .before .before .before .enum-told3 .given .1)) (c .before .before .read-number .ensures)
 
--- src/tree.rt:28:1
-value-same-length-3 : (t : ℕ) → value-lts.Need-same-length-3 (
-  start-reads.Asked,
-  start-reads.Learnt,
-  fail-reads.Asked,
-  fail-reads.Learnt,
-  read-literal-reads.Asked,
-  read-literal-reads.Learnt,
-  read-number-reads.Asked,
-  read-number-reads.Learnt,
-  read-string-reads.Asked,
-  read-string-reads.Learnt,
-  array-below t,
-  array.Post,
-  object-below t,
-  object.Post,
-) (value-at t) value.Post
+value-same-length-3 : (t : ℕ) → value-lts.Need-same-length-3 (value-calls t) (value-at t) value.Post
 value-same-length-3 t c = search needs
 
--- src/tree.rt:28:1
-value-returns-5 : (t : ℕ) → value-lts.Need-returns-5 (
-  start-reads.Asked,
-  start-reads.Learnt,
-  fail-reads.Asked,
-  fail-reads.Learnt,
-  read-literal-reads.Asked,
-  read-literal-reads.Learnt,
-  read-number-reads.Asked,
-  read-number-reads.Learnt,
-  read-string-reads.Asked,
-  read-string-reads.Learnt,
-  array-below t,
-  array.Post,
-  object-below t,
-  object.Post,
-) (value-at t) value.Post
+value-returns-5 : (t : ℕ) → value-lts.Need-returns-5 (value-calls t) (value-at t) value.Post
 value-returns-5 t c = law-digit (started (c .before .before .before .before .before .before .start .ensures) (c .before .before .before .before .enum-told4 .given .1)) (c .before .before .read-number2 .ensures)
 
--- src/tree.rt:28:1
-value-same-length-4 : (t : ℕ) → value-lts.Need-same-length-4 (
-  start-reads.Asked,
-  start-reads.Learnt,
-  fail-reads.Asked,
-  fail-reads.Learnt,
-  read-literal-reads.Asked,
-  read-literal-reads.Learnt,
-  read-number-reads.Asked,
-  read-number-reads.Learnt,
-  read-string-reads.Asked,
-  read-string-reads.Learnt,
-  array-below t,
-  array.Post,
-  object-below t,
-  object.Post,
-) (value-at t) value.Post
+value-same-length-4 : (t : ℕ) → value-lts.Need-same-length-4 (value-calls t) (value-at t) value.Post
 value-same-length-4 t c = search needs
 
--- src/tree.rt:28:1
-value-same-length-5 : (t : ℕ) → value-lts.Need-same-length-5 (
-  start-reads.Asked,
-  start-reads.Learnt,
-  fail-reads.Asked,
-  fail-reads.Learnt,
-  read-literal-reads.Asked,
-  read-literal-reads.Learnt,
-  read-number-reads.Asked,
-  read-number-reads.Learnt,
-  read-string-reads.Asked,
-  read-string-reads.Learnt,
-  array-below t,
-  array.Post,
-  object-below t,
-  object.Post,
-) (value-at t) value.Post
+value-same-length-5 : (t : ℕ) → value-lts.Need-same-length-5 (value-calls t) (value-at t) value.Post
 value-same-length-5 t c = search needs
 
--- src/tree.rt:28:1
-value-returns-6 : (t : ℕ) → value-lts.Need-returns-6 (
-  start-reads.Asked,
-  start-reads.Learnt,
-  fail-reads.Asked,
-  fail-reads.Learnt,
-  read-literal-reads.Asked,
-  read-literal-reads.Learnt,
-  read-number-reads.Asked,
-  read-number-reads.Learnt,
-  read-string-reads.Asked,
-  read-string-reads.Learnt,
-  array-below t,
-  array.Post,
-  object-below t,
-  object.Post,
-) (value-at t) value.Post
+value-returns-6 : (t : ℕ) → value-lts.Need-returns-6 (value-calls t) (value-at t) value.Post
 value-returns-6 t c = law-quote (started (c .before .before .before .before .before .before .before .before .before .start .ensures) (c .before .before .before .before .before .before .before .enum-told5 .given .1)) (c .before .before .before .before .read-string .ensures)
 
--- src/tree.rt:28:1
-value-same-length-6 : (t : ℕ) → value-lts.Need-same-length-6 (
-  start-reads.Asked,
-  start-reads.Learnt,
-  fail-reads.Asked,
-  fail-reads.Learnt,
-  read-literal-reads.Asked,
-  read-literal-reads.Learnt,
-  read-number-reads.Asked,
-  read-number-reads.Learnt,
-  read-string-reads.Asked,
-  read-string-reads.Learnt,
-  array-below t,
-  array.Post,
-  object-below t,
-  object.Post,
-) (value-at t) value.Post
+value-same-length-6 : (t : ℕ) → value-lts.Need-same-length-6 (value-calls t) (value-at t) value.Post
 value-same-length-6 t c = search needs
 
--- src/tree.rt:28:1
-value-same-length-7 : (t : ℕ) → value-lts.Need-same-length-7 (
-  start-reads.Asked,
-  start-reads.Learnt,
-  fail-reads.Asked,
-  fail-reads.Learnt,
-  read-literal-reads.Asked,
-  read-literal-reads.Learnt,
-  read-number-reads.Asked,
-  read-number-reads.Learnt,
-  read-string-reads.Asked,
-  read-string-reads.Learnt,
-  array-below t,
-  array.Post,
-  object-below t,
-  object.Post,
-) (value-at t) value.Post
+value-same-length-7 : (t : ℕ) → value-lts.Need-same-length-7 (value-calls t) (value-at t) value.Post
 value-same-length-7 t c = search needs
 
--- src/tree.rt:28:1
-value-returns-7 : (t : ℕ) → value-lts.Need-returns-7 (
-  start-reads.Asked,
-  start-reads.Learnt,
-  fail-reads.Asked,
-  fail-reads.Learnt,
-  read-literal-reads.Asked,
-  read-literal-reads.Learnt,
-  read-number-reads.Asked,
-  read-number-reads.Learnt,
-  read-string-reads.Asked,
-  read-string-reads.Learnt,
-  array-below t,
-  array.Post,
-  object-below t,
-  object.Post,
-) (value-at t) value.Post
+value-returns-7 : (t : ℕ) → value-lts.Need-returns-7 (value-calls t) (value-at t) value.Post
 value-returns-7 t c = law-bracket (started (c .before .before .before .before .before .before .before .before .before .start .ensures) (c .before .before .before .before .before .before .before .enum-told6 .given .1)) (c .before .before .before .before .array .ensures)
 
--- src/tree.rt:28:1
-value-same-length-8 : (t : ℕ) → value-lts.Need-same-length-8 (
-  start-reads.Asked,
-  start-reads.Learnt,
-  fail-reads.Asked,
-  fail-reads.Learnt,
-  read-literal-reads.Asked,
-  read-literal-reads.Learnt,
-  read-number-reads.Asked,
-  read-number-reads.Learnt,
-  read-string-reads.Asked,
-  read-string-reads.Learnt,
-  array-below t,
-  array.Post,
-  object-below t,
-  object.Post,
-) (value-at t) value.Post
+value-same-length-8 : (t : ℕ) → value-lts.Need-same-length-8 (value-calls t) (value-at t) value.Post
 value-same-length-8 t c = search needs
 
--- src/tree.rt:28:1
-value-same-length-9 : (t : ℕ) → value-lts.Need-same-length-9 (
-  start-reads.Asked,
-  start-reads.Learnt,
-  fail-reads.Asked,
-  fail-reads.Learnt,
-  read-literal-reads.Asked,
-  read-literal-reads.Learnt,
-  read-number-reads.Asked,
-  read-number-reads.Learnt,
-  read-string-reads.Asked,
-  read-string-reads.Learnt,
-  array-below t,
-  array.Post,
-  object-below t,
-  object.Post,
-) (value-at t) value.Post
+value-same-length-9 : (t : ℕ) → value-lts.Need-same-length-9 (value-calls t) (value-at t) value.Post
 value-same-length-9 t c = search needs
 
--- src/tree.rt:28:1
-value-returns-8 : (t : ℕ) → value-lts.Need-returns-8 (
-  start-reads.Asked,
-  start-reads.Learnt,
-  fail-reads.Asked,
-  fail-reads.Learnt,
-  read-literal-reads.Asked,
-  read-literal-reads.Learnt,
-  read-number-reads.Asked,
-  read-number-reads.Learnt,
-  read-string-reads.Asked,
-  read-string-reads.Learnt,
-  array-below t,
-  array.Post,
-  object-below t,
-  object.Post,
-) (value-at t) value.Post
+value-returns-8 : (t : ℕ) → value-lts.Need-returns-8 (value-calls t) (value-at t) value.Post
 value-returns-8 t c = law-brace (started (c .before .before .before .before .before .before .before .before .before .start .ensures) (c .before .before .before .before .before .before .before .enum-told7 .given .1)) (c .before .before .before .before .object .ensures)
 
 pub +all-items+all-members+array+object+value-spec : {M : Type 1} → statement M
 +all-items+all-members+array+object+value-spec =
-    close μ-all-items μ-all-members μ-array μ-object μ-value (λ t. all-items-lts.spec (
-      place-reads.Asked,
-      place-reads.Learnt,
-      value-below t,
-      value.Post,
-      follow-reads.Asked,
-      follow-reads.Learnt,
-    )
+    close μ-all-items μ-all-members μ-array μ-object μ-value (λ t. all-items-lts.spec (all-items-calls t)
     (all-items-at t)
     all-items.Post
     all-items-Inv-loop
@@ -1671,16 +443,7 @@ pub +all-items+all-members+array+object+value-spec : {M : Type 1} → statement 
     (all-items-enum-known-after-3 t)
     (all-items-loop-less t)
     (all-items-loop-again t))
-    (λ t. all-members-lts.spec (
-      place-reads.Asked,
-      place-reads.Learnt,
-      member-name-reads.Asked,
-      member-name-reads.Learnt,
-      value-below t,
-      value.Post,
-      follow-reads.Asked,
-      follow-reads.Learnt,
-    )
+    (λ t. all-members-lts.spec (all-members-calls t)
     (all-members-at t)
     all-members.Post
     all-members-Inv-loop
@@ -1707,18 +470,7 @@ pub +all-items+all-members+array+object+value-spec : {M : Type 1} → statement 
     (all-members-enum-known-after-3 t)
     (all-members-loop-less t)
     (all-members-loop-again t))
-    (λ t. array-lts.spec (
-      skip-white-reads.Asked,
-      skip-white-reads.Learnt,
-      stands-reads.Asked,
-      stands-reads.Learnt,
-      empty-reads.Asked,
-      empty-reads.Learnt,
-      all-items-below t,
-      all-items.Post,
-      filled-reads.Asked,
-      filled-reads.Learnt,
-    )
+    (λ t. array-lts.spec (array-calls t)
     (array-at t)
     array.Post
     (array-skip-white-requires t)
@@ -1733,18 +485,7 @@ pub +all-items+all-members+array+object+value-spec : {M : Type 1} → statement 
     (array-same-length-2 t)
     (array-same-length-3 t)
     (array-returns-2 t))
-    (λ t. object-lts.spec (
-      skip-white-reads.Asked,
-      skip-white-reads.Learnt,
-      stands-reads.Asked,
-      stands-reads.Learnt,
-      empty-reads.Asked,
-      empty-reads.Learnt,
-      all-members-below t,
-      all-members.Post,
-      filled-reads.Asked,
-      filled-reads.Learnt,
-    )
+    (λ t. object-lts.spec (object-calls t)
     (object-at t)
     object.Post
     (object-skip-white-requires t)
@@ -1759,22 +500,7 @@ pub +all-items+all-members+array+object+value-spec : {M : Type 1} → statement 
     (object-same-length-2 t)
     (object-same-length-3 t)
     (object-returns-2 t))
-    λ t. value-lts.spec (
-      start-reads.Asked,
-      start-reads.Learnt,
-      fail-reads.Asked,
-      fail-reads.Learnt,
-      read-literal-reads.Asked,
-      read-literal-reads.Learnt,
-      read-number-reads.Asked,
-      read-number-reads.Learnt,
-      read-string-reads.Asked,
-      read-string-reads.Learnt,
-      array-below t,
-      array.Post,
-      object-below t,
-      object.Post,
-    )
+    λ t. value-lts.spec (value-calls t)
     (value-at t)
     value.Post
     (value-start-requires t)

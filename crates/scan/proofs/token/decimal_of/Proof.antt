@@ -3,20 +3,15 @@ use Rattle.syntax.specs.Tokens.{isDigit, within}
 use Rattle.scan.specs.Contract.{decimalOf}
 use Rattle.scan.proofs.token.decimal_of.Statement.{statement}
 use Rattle.scan.proofs.token.decimal_of.Tie as tie
-use Rattle.scan.proofs.token.decimal_of.Reads as reads
-use Rattle.scan.proofs.token.decimal_of.Lts as lts
 
--- src/token.rt:112:9
 returns : tie.Need-returns
 unfolding decimalOf isDigit within
 returns c = simp (decimalOf, isDigit, within, lt-leb _ _ (c .if1 .taken))
 
--- src/token.rt:115:9
 returns-2 : tie.Need-returns-2
 unfolding decimalOf isDigit within
 returns-2 c = simp (decimalOf, isDigit, within, le-leb _ _ (c .before .if1 .left), le-leb _ _ (c .if2 .taken))
 
--- src/token.rt:108:1
 returns-3 : tie.Need-returns-3
 unfolding decimalOf isDigit within
 returns-3 c = simp (decimalOf, isDigit, within, le-leb _ _ (c .before .if1 .left), lt-leb _ _ (c .if2 .left))
