@@ -5,7 +5,7 @@ use Prim.Native.Nat.{ℕ, _-_, _≤_}
 use native.Mathlib.Omega.{arith}
 use borrow.Author.Tests.{le-ltb}
 use lib.Dec.{ltb}
-use lib.ListN.{length, take, replicate, length-append, length-replicate}
+use lib.ListN.{length, take, replicate, length-append}
 use lib.Seq.{take-append-seam}
 use Rattle.model.specs.Bytes.{Bytes}
 use Rattle.model.specs.Judgement.{Judged, done, refuses, judgedNumber, Answer}
@@ -18,7 +18,7 @@ use Rattle.stages.specs.Texts.{TextsRead, evaluateStage}
 use Rattle.jehvrukam.specs.Contract.{entry, areasOf, numbersOf}
 use Rattle.jehvrukam.specs.Entry.{cellsBytes}
 use Rattle.jehvrukam.specs.Evaluate.{Areas, Numbers, Evaluated, isInvalid, zeros, answered, evaluateAnswer, evaluateEntry}
-use Rattle.admit.specs.Inner.{textOf, Lent, Answers}
+use Rattle.admit.specs.Inner.{textOf, Answers}
 use Rattle.admit.specs.Limits.{stepLimit, outputBytes, limit-valid}
 use Rattle.admit.specs.Printed.{answerAfter, answerTo}
 
@@ -43,21 +43,21 @@ shows-stage : (a : Areas) (limit : ℕ) (x : Stage TextsRead) → Shows (answerA
 shows-stage a limit (refused e which place) = shows-refusal a e which place 0
 shows-stage a limit (passed t) = shows-answer a t _ _
 
--- An array of zeros is as long as it says.
-pub zeros-long : (n : ℕ) → n ≤ length (replicate {A = ℕ} n 0)
-zeros-long n = omega (arith, length-replicate {A = ℕ} n 0)
+-- Work areas of their stated sizes, and an output of the program's.
+pub record Lent (T A R B C O : Bytes) : Type 0 where
+  pub rule-rows : length T ≡ tableBytes
+  pub rule-text : length A ≡ stringsBytes
+  pub record-rows : length R ≡ tableBytes
+  pub record-text : length B ≡ stringsBytes
+  pub heap : length C ≡ cellsBytes
+  pub room : length O ≡ outputBytes
+
+enough : {n m : ℕ} → n ≡ m → ltb n m ≡ false
+enough {n} {m} e = le-ltb n m (omega arith)
 
 -- Areas that are lent so are valid.
 valid : {T A R B C O : Bytes} → Lent T A R B C O → isInvalid stepLimit (areasOf T A R B C O) ≡ false
-valid {T} {A} {R} {B} {C} l =
-    rw (
-      le-ltb maxSteps stepLimit limit-valid,
-      le-ltb (length C) cellsBytes (l .heap),
-      le-ltb (length T) tableBytes (l .rule-rows),
-      le-ltb (length A) stringsBytes (l .rule-text),
-      le-ltb (length R) tableBytes (l .record-rows),
-      le-ltb (length B) stringsBytes (l .record-text),
-    )
+valid l = rw (le-ltb maxSteps stepLimit limit-valid, enough (l .heap), enough (l .rule-rows), enough (l .rule-text), enough (l .record-rows), enough (l .record-text))
 
 -- The entry under a limit that is valid with areas that are large enough.
 shows-entry : (rule record′ : Bytes) (limit : ℕ) (a : Areas) (n : Numbers) → isInvalid limit a ≡ false → Shows (answerTo rule record′ limit (length (a .work .output))) (evaluateEntry rule record′ limit a n)

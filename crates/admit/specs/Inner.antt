@@ -8,8 +8,6 @@ use lib.ListN.{length, take}
 use Rattle.model.specs.Bytes.{Bytes, ascii}
 use Rattle.model.specs.Judgement.{Judged, done, refuses, judgedNumber, Answer}
 use Rattle.model.specs.Writing.{decimal}
-use Rattle.syntax.specs.Layout.{tableBytes, stringsBytes}
-use Rattle.jehvrukam.specs.Entry.{cellsBytes}
 use Rattle.admit.specs.Limits.{outputBytes}
 use Rattle.admit.specs.Printed.{line}
 use Rattle.admit.specs.declared.Outcome.{Outcome}
@@ -18,15 +16,6 @@ use Rattle.admit.specs.declared.Outcome.{Outcome}
 abbrev pub textOf : Judged Bytes → Bytes
 textOf (done text) = text
 textOf (refuses e) = []
-
--- Work areas of at least their stated sizes, and an output of the program's.
-pub record Lent (rule-table rule-strings record-table record-strings cells output : Bytes) : Type 0 where
-  pub rule-rows : tableBytes ≤ length rule-table
-  pub rule-text : stringsBytes ≤ length rule-strings
-  pub record-rows : tableBytes ≤ length record-table
-  pub record-text : stringsBytes ≤ length record-strings
-  pub heap : cellsBytes ≤ length cells
-  pub room : length output ≡ outputBytes
 
 -- What the entry told, and the answer's text at the start of the output.
 pub record Answers (a : Answer) (o : Outcome) (output : Bytes) : Type 0 where

@@ -19,7 +19,7 @@ ghost use Rattle.model.specs.Writing.{decimal};
 ghost use Rattle.print.specs.Contract.{Put};
 ghost use Rattle.admit.specs.Limits.{stepLimit, outputBytes};
 ghost use Rattle.admit.specs.Printed.{answerTo, line, printedFor};
-ghost use Rattle.admit.specs.Inner.{Lent, Answers, resultBy, Near, Begins};
+ghost use Rattle.admit.specs.Inner.{Answers, resultBy, Near, Begins};
 
 // The program's own limits, as specs/Limits.antt has them: they stay where the model's are raised.
 const STEP_LIMIT: u64 = 1000;
@@ -43,18 +43,18 @@ struct Outcome {
 
 // ---- evaluation
 
-// Under the program's step limit, in areas that are long enough.
+// Under the program's step limit, in areas of the stated sizes.
 fn evaluate_in(
     rule: &[u8],
     record: &[u8],
-    rule_table: &mut [u8],
-    rule_strings: &mut [u8],
-    record_table: &mut [u8],
-    record_strings: &mut [u8],
-    cells: &mut [u8],
+    rule_table: &mut [u8; TABLE_BYTES],
+    rule_strings: &mut [u8; STRINGS_BYTES],
+    record_table: &mut [u8; TABLE_BYTES],
+    record_strings: &mut [u8; STRINGS_BYTES],
+    cells: &mut [u8; CELLS_BYTES],
     output: &mut [u8],
 ) -> Outcome
-    requires { ⌜ Lent (now «rule_table») (now «rule_strings») (now «record_table») (now «record_strings») (now cells) (now output) ⌝ }
+    requires { ⌜ length (now output) ≡ outputBytes ⌝ }
     ensures { λ r. ⌜ Answers (answerTo (now (rule .entry)) (now («record» .entry)) stepLimit outputBytes) r (now (output .exit)) ⌝ }
 {
     let mut which: u64 = 0;
@@ -83,7 +83,7 @@ fn evaluate_in(
     }
 }
 
-// The same in areas of its own. That only slices of them are passed on keeps the proofs from computing with their bytes.
+// The same in areas of its own: the proof of the function above does not know their bytes, and so computes with none.
 fn evaluate(rule: &[u8], record: &[u8], output: &mut [u8]) -> Outcome
     requires { ⌜ length (now output) ≡ outputBytes ⌝ }
     ensures { λ r. ⌜ Answers (answerTo (now (rule .entry)) (now («record» .entry)) stepLimit outputBytes) r (now (output .exit)) ⌝ }

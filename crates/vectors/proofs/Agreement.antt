@@ -1,5 +1,5 @@
 -- Agreement: whether the entry gives what a case expects, test by test.
-use mathlib.Core.Path.{_≡_, refl, sym, ap, _∙_}
+use mathlib.Core.Path.{_≡_, refl, sym, ap, _∙_, subst}
 use mathlib.Core.Bool.{Bool, true, false}
 use mathlib.Core.List.{_∷_}
 use Prim.Native.Nat.{ℕ, zero, suc, _+_, _-_, _≤_, _<_}
@@ -9,11 +9,16 @@ use lib.Dec.{leb}
 use lib.ListN.{length, take, replicate, length-replicate}
 use Rattle.model.specs.Bytes.{Bytes}
 use Rattle.model.specs.Limits.{maxTextBytes}
-use Rattle.jehvrukam.specs.Contract.{entry, numbersOf}
-use Rattle.jehvrukam.specs.Evaluate.{Areas, Evaluated}
+use Rattle.model.specs.Judgement.{Judged, done, refuses, answerOf}
+use Rattle.syntax.specs.Layout.{tableBytes, stringsBytes}
+use Rattle.stages.specs.Stage.{Stage, passed, refused}
+use Rattle.stages.specs.Texts.{TextsRead, evaluateStage}
+use Rattle.jehvrukam.specs.Contract.{entry, areasOf, numbersOf}
+use Rattle.jehvrukam.specs.Entry.{untouched, cellsBytes}
+use Rattle.jehvrukam.specs.Evaluate.{Areas, Evaluated, isInvalid, answered, evaluateAnswer, evaluateEntry}
 use Rattle.vectors.specs.declared.Header.{Header}
 use Rattle.vectors.specs.declared.Outcome.{Outcome}
-use Rattle.vectors.specs.Cases.{isWhole, isExpected, isText, agreesWith, agreesIn, agreesOn}
+use Rattle.vectors.specs.Cases.{lent, untold, isWhole, isExpected, isText, agreesWith, agreesIn, agreesOn}
 use Rattle.vectors.specs.Inner.{Gives}
 
 -- ---- whole texts
@@ -28,12 +33,69 @@ whole n h l = go (leb (h .answer) (n - h .end - h .rule - h .«record»)) refl
     go false e = e ∙ not-whole n h (omega (arith, leb-false (h .answer) (n - h .end - h .rule - h .«record») e))
 
 -- ---- what the entry gives
+-- Work areas of their stated sizes.
+pub record Sized (T A R B C : Bytes) : Type 0 where
+  pub rule-rows : length T ≡ tableBytes
+  pub rule-text : length A ≡ stringsBytes
+  pub record-rows : length R ≡ tableBytes
+  pub record-text : length B ≡ stringsBytes
+  pub heap : length C ≡ cellsBytes
+
+-- All but the work areas is the same.
+record Same (e f : Evaluated) : Type 0 where
+  refusal : e .refusal ≡ f .refusal
+  numbers : e .numbers ≡ f .numbers
+  output : e .areas .work .output ≡ f .areas .work .output
+
+-- What the entry gives depends on the work areas' sizes only.
+module _ {T A R B C : Bytes} (O : Bytes) (limit : ℕ) (sized : Sized T A R B C) where
+  abbrev some : Areas
+  some = areasOf T A R B C O
+
+  valid-same : isInvalid limit some ≡ isInvalid limit (lent O)
+  valid-same = rw (
+    sized .rule-rows,
+    sized .rule-text,
+    sized .record-rows,
+    sized .record-text,
+    sized .heap,
+    length-replicate {A = ℕ} tableBytes 0,
+    length-replicate {A = ℕ} stringsBytes 0,
+    length-replicate {A = ℕ} cellsBytes 0,
+  )
+
+  answered-same : (t : TextsRead) (j : Judged Bytes) (steps : ℕ) → Same (answered some t j steps) (answered (lent O) t j steps)
+  answered-same t (done x) steps = record { refusal = refl; numbers = refl; output = refl }
+  answered-same t (refuses k) steps = record { refusal = refl; numbers = refl; output = refl }
+
+  stage-same : (x : Stage TextsRead) → Same (evaluateAnswer some limit x) (evaluateAnswer (lent O) limit x)
+  stage-same (refused k which place) = record { refusal = refl; numbers = refl; output = refl }
+  stage-same (passed t) = let x = answerOf (t .rule .content) (t .«record») limit (length O) in answered-same t (x .result) (x .stepsBegun)
+
+  abbrev by : Bool → Areas → Stage TextsRead → Evaluated
+  by v a x = elim v [ true ↦ untouched untold a | false ↦ evaluateAnswer a limit x ]
+
+  by-same : (v : Bool) (x : Stage TextsRead) → Same (by v some x) (by v (lent O) x)
+  by-same true x = record { refusal = refl; numbers = refl; output = refl }
+  by-same false x = stage-same x
+
+  entry-same : (rule record′ : Bytes) → Same (evaluateEntry rule record′ limit some untold) (evaluateEntry rule record′ limit (lent O) untold)
+  entry-same rule record′ =
+      let x = evaluateStage rule record′ in
+      subst (λ (v : Bool). Same (by (isInvalid limit some) some x) (by v (lent O) x)) valid-same (by-same (isInvalid limit some) x)
+
 pub entry-gives :
-    {e : Evaluated} {k which place steps size : ℕ} {a : Areas}
-    → entry k (numbersOf which place steps size) a ≡ e
-    → Gives e (record { refusal = k; which = which; place = place; steps = steps; size = size }) (a .work .output)
-entry-gives e =
-    record { refusal = ap (λ (x : Evaluated). x .refusal) e; numbers = ap (λ (x : Evaluated). x .numbers) e; output = ap (λ (x : Evaluated). x .areas .work .output) e }
+    (rule record′ : Bytes) (limit : ℕ) (O : Bytes) {T A R B C : Bytes} {k which place steps size : ℕ} {a : Areas}
+    → Sized T A R B C
+    → entry k (numbersOf which place steps size) a ≡ evaluateEntry rule record′ limit (areasOf T A R B C O) untold
+    → Gives (evaluateEntry rule record′ limit (lent O) untold) (record { refusal = k; which = which; place = place; steps = steps; size = size }) (a .work .output)
+entry-gives rule record′ limit O sized e =
+    let same = entry-same O limit sized rule record′ in
+    record {
+      refusal = ap (λ (x : Evaluated). x .refusal) e ∙ same .refusal;
+      numbers = ap (λ (x : Evaluated). x .numbers) e ∙ same .numbers;
+      output = ap (λ (x : Evaluated). x .areas .work .output) e ∙ same .output;
+    }
 
 module _ (h : Header) (answer : Bytes) {e : Evaluated} {o : Outcome} {O : Bytes} (g : Gives e o O) where
   expected-same : isExpected h (o .refusal) (o .which) (o .place) (o .steps) ≡ isExpected h (e .refusal) (e .numbers .which) (e .numbers .place) (e .numbers .steps)

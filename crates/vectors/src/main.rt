@@ -171,14 +171,20 @@ fn is_whole(n: usize, h: Header) -> bool
 
 // ---- a case
 
-fn evaluate(rule: &[u8], record: &[u8], limit: u64, output: &mut [u8]) -> Outcome
+// In areas of the stated sizes, whatever they hold.
+fn evaluate_in(
+    rule: &[u8],
+    record: &[u8],
+    limit: u64,
+    rule_table: &mut [u8; TABLE_BYTES],
+    rule_strings: &mut [u8; STRINGS_BYTES],
+    record_table: &mut [u8; TABLE_BYTES],
+    record_strings: &mut [u8; STRINGS_BYTES],
+    cells: &mut [u8; CELLS_BYTES],
+    output: &mut [u8],
+) -> Outcome
     ensures { λ r. ⌜ Gives (evaluateEntry (now (rule .entry)) (now («record» .entry)) limit (lent (now (output .entry))) untold) r (now (output .exit)) ⌝ }
 {
-    let mut rule_table = [0u8; TABLE_BYTES];
-    let mut rule_strings = [0u8; STRINGS_BYTES];
-    let mut record_table = [0u8; TABLE_BYTES];
-    let mut record_strings = [0u8; STRINGS_BYTES];
-    let mut cells = [0u8; CELLS_BYTES];
     let mut which: u64 = 0;
     let mut place: u64 = 0;
     let mut steps: u64 = 0;
@@ -187,11 +193,11 @@ fn evaluate(rule: &[u8], record: &[u8], limit: u64, output: &mut [u8]) -> Outcom
         rule,
         record,
         limit,
-        &mut rule_table,
-        &mut rule_strings,
-        &mut record_table,
-        &mut record_strings,
-        &mut cells,
+        rule_table,
+        rule_strings,
+        record_table,
+        record_strings,
+        cells,
         output,
         &mut which,
         &mut place,
@@ -205,6 +211,28 @@ fn evaluate(rule: &[u8], record: &[u8], limit: u64, output: &mut [u8]) -> Outcom
         steps,
         size,
     }
+}
+
+// The same in areas of its own: the proof of the function above does not know their bytes, and so computes with none.
+fn evaluate(rule: &[u8], record: &[u8], limit: u64, output: &mut [u8]) -> Outcome
+    ensures { λ r. ⌜ Gives (evaluateEntry (now (rule .entry)) (now («record» .entry)) limit (lent (now (output .entry))) untold) r (now (output .exit)) ⌝ }
+{
+    let mut rule_table = [0u8; TABLE_BYTES];
+    let mut rule_strings = [0u8; STRINGS_BYTES];
+    let mut record_table = [0u8; TABLE_BYTES];
+    let mut record_strings = [0u8; STRINGS_BYTES];
+    let mut cells = [0u8; CELLS_BYTES];
+    evaluate_in(
+        rule,
+        record,
+        limit,
+        &mut rule_table,
+        &mut rule_strings,
+        &mut record_table,
+        &mut record_strings,
+        &mut cells,
+        output,
+    )
 }
 
 fn is_expected(h: Header, o: Outcome) -> bool
