@@ -1,12 +1,11 @@
 -- Arguments: the operands of an operation on all of them: the next one, or the operation.
 use mathlib.Core.List.{List, [], _∷_, _++_}
 use mathlib.Core.Path.{_≡_, refl, sym, ap, _∙_}
-use Prim.Native.Nat.{ℕ, suc, _+_, _*_, _-_, _/_, _≤_, _<_}
+use Prim.Native.Nat.{ℕ, suc, _+_, _-_, _/_, _≤_, _<_}
 use native.Mathlib.Omega.{arith}
 use lib.ListN.{length}
 use Rattle.model.specs.Bytes.{Bytes}
 use Rattle.model.specs.EvalPlain.{Plain, gives, denies, continue, lift, plainAll, evalPlain}
-use Rattle.model.specs.Limits.{heapCells}
 use Rattle.model.specs.Operations.{operate}
 use Rattle.model.specs.Rule.{Operation, Rule, Rules, no-rules, rule}
 use Rattle.model.specs.Value.{Value, Values, no-items, item}
@@ -18,7 +17,6 @@ use Rattle.heap.specs.Laws.Cells.{length-stored}
 use Rattle.heap.specs.Main as heap
 use Rattle.heap.specs.Means.{Means}
 use Rattle.heap.specs.Unfold.{Areas, areas}
-use Rattle.keywords.specs.declared.Op.{Op}
 use Rattle.operate.specs.declared.ended.Ended.{Ended}
 use Rattle.operate.specs.declared.ended.State.{State}
 use Rattle.operate.specs.Cells.{Same}
@@ -34,7 +32,7 @@ use Rattle.eval.specs.declared.task.Next.the-variants.{Ends, Asks}
 use Rattle.eval.specs.declared.task.Pending.{Pending}
 use Rattle.eval.specs.declared.task.Task.{Task}
 use Rattle.eval.proofs.Bounds.{same-wider}
-use Rattle.eval.specs.Inner.{Room, Charged, Bounded, RowsHold, row-rule, Then, append, applied, ArgumentMeans, Asked, Follows, ArgumentsLeft, Argues, Argued, Takes, task}
+use Rattle.eval.specs.Inner.{Room, RowsHold, row-rule, append, applied, Asked, ArgumentsLeft, Argues, Argued, Takes, task}
 
 -- ---- values, one more
 append-one : (vs : Values) (v : Value) (ws : Values) → append vs (item v ws) ≡ append (append vs (item v no-items)) ws

@@ -1,6 +1,6 @@
 -- Bounds: how a rule ends within its cells.
 use mathlib.Core.Path.{_≡_, refl, sym, ap}
-use Prim.Native.Nat.{ℕ, suc, _+_, _*_, _≤_, _<_}
+use Prim.Native.Nat.{ℕ, _+_, _*_, _≤_, _<_}
 use native.Mathlib.Omega.{arith}
 use Rattle.model.specs.Bytes.{Bytes}
 use Rattle.model.specs.EvalPlain.{Plain}

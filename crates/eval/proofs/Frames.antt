@@ -1,19 +1,15 @@
 -- Frames: what a frame means is kept while its operand is evaluated.
-use mathlib.Core.Path.{_≡_, refl, sym, ap, _∙_}
-use Prim.Native.Nat.{ℕ, _+_, _≤_}
+use mathlib.Core.Path.{_≡_}
+use Prim.Native.Nat.{_+_, _≤_}
 use native.Mathlib.Omega.{arith}
 use Rattle.model.specs.Bytes.{Bytes}
 use Rattle.model.specs.Rule.{Rules}
 use Rattle.model.specs.Value.{Value}
-use Rattle.heap.specs.declared.handle.Handle.{Handle}
-use Rattle.operate.specs.declared.ended.State.{State}
 use Rattle.operate.specs.Cells.{Same}
 use Rattle.operate.specs.Laws.Cells.{means-kept, each-kept}
 use Rattle.operate.specs.Laws.Stack.{stacked-same}
-use Rattle.operate.specs.Stack.{stacked}
 use Rattle.eval.specs.declared.task.Frame.{Frame}
 use Rattle.eval.specs.declared.task.Frame.the-variants.{Guard, Branch, Conjunct, Source, Initial, Item, Argument}
-use Rattle.eval.specs.declared.task.Pending.{Pending}
 use Rattle.eval.specs.declared.task.Task.{Task}
 use Rattle.eval.specs.Inner.{After, Then, FrameMeans}
 

@@ -1,15 +1,13 @@
 -- Steps: an operand's evaluation ended, and what the operation does with that.
-use mathlib.Core.Path.{_≡_, refl, sym, ap, _∙_}
-use Prim.Native.Nat.{ℕ, suc, _+_, _*_, _≤_, _<_}
+use mathlib.Core.Path.{_≡_, refl, ap, _∙_}
+use Prim.Native.Nat.{ℕ, _+_, _*_, _≤_, _<_}
 use native.Mathlib.Omega.{arith}
 use Rattle.model.specs.Bytes.{Bytes}
-use Rattle.model.specs.EvalPlain.{Plain, gives, continue, evalPlain}
-use Rattle.model.specs.Laws.Logic.{clash}
+use Rattle.model.specs.EvalPlain.{Plain, continue, evalPlain}
 use Rattle.model.specs.Limits.{heapCells}
 use Rattle.model.specs.Value.{Value}
 use Rattle.heap.specs.declared.handle.Handle.{Handle}
 use Rattle.heap.specs.declared.handle.Parts.{Parts}
-use Rattle.heap.specs.Cells.{cellBytes}
 use Rattle.heap.specs.Unfold.{areas}
 use Rattle.operate.specs.declared.ended.Ended.{Ended}
 use Rattle.operate.specs.declared.ended.Ended.the-variants.{Gives, Denies}
@@ -25,7 +23,7 @@ use Rattle.eval.specs.declared.task.Next.{Next}
 use Rattle.eval.specs.declared.task.Next.the-variants.{Ends, Asks}
 use Rattle.eval.specs.declared.task.Pending.{Pending}
 use Rattle.eval.specs.declared.task.Task.{Task}
-use Rattle.eval.specs.Inner.{Room, onStack, unused, Charged, Bounded, Within, Restored, resumedEnd, Then, FrameMeans, Asked, Follows, nextLeft, nextDeep, Evals, Starts, Takes, Taking, TakesEnd, Operating, Operates, task}
+use Rattle.eval.specs.Inner.{Room, onStack, unused, Charged, Within, resumedEnd, Then, FrameMeans, Asked, Follows, nextLeft, nextDeep, Evals, Starts, Takes, Taking, TakesEnd, Operating, Operates, task}
 use Rattle.eval.proofs.Bounds.{gives-at, stops-at, same-wider, resumed-bound, resumed-state, resumed-ends}
 use Rattle.eval.proofs.Frames.{Moved, frame-kept}
 

@@ -1,15 +1,13 @@
 -- Taken: what `if`, `and` and `reduce` do with the value of an operand.
 use mathlib.Core.Option.{none, some}
-use mathlib.Core.Path.{_≡_, refl, sym, ap, _∙_, subst}
-use Prim.Native.Nat.{ℕ, suc, _+_, _*_, _-_, _/_, _≤_, _<_}
+use mathlib.Core.Path.{_≡_, refl, sym, ap, subst, _∙_}
+use Prim.Native.Nat.{ℕ, suc, _+_, _-_, _≤_, _<_}
 use native.Mathlib.Numerals.{add-one}
 use native.Mathlib.Omega.{arith}
-use lib.ListN.{length}
 use Rattle.model.specs.Bytes.{Bytes}
 use Rattle.model.specs.Eval.{context}
 use Rattle.model.specs.EvalPlain.{Plain, gives, denies, continue, branch, fold, plainAnd, evalPlain}
 use Rattle.model.specs.Laws.Logic.{clash}
-use Rattle.model.specs.Limits.{heapCells}
 use Rattle.model.specs.Refusal.{fault, wrongKind}
 use Rattle.model.specs.Rule.{Rule, Rules, no-rules, rule}
 use Rattle.model.specs.Truth.{Truth, truthy, falsy, neither, truth}
@@ -19,19 +17,18 @@ use Rattle.heap.specs.declared.handle.Form.the-variants as forms
 use Rattle.heap.specs.declared.handle.Handle.{Handle}
 use Rattle.heap.specs.declared.handle.Handle.the-variants.{Compound}
 use Rattle.heap.specs.declared.handle.Parts.{Parts}
-use Rattle.heap.specs.Cells.{cellBytes, stored}
+use Rattle.heap.specs.Cells.{stored}
 use Rattle.heap.specs.Handles.{parts}
 use Rattle.table.specs.Node.{nextRow}
 use Rattle.heap.specs.Main as heap
 use Rattle.heap.specs.Means.{Means, means-null, means-false, means-true, means-integer, means-instant, means-string, means-items, means-members, means-list, means-context}
 use Rattle.heap.specs.Parts.{headOf, tailOf}
 use Rattle.heap.specs.Unfold.{Areas, areas}
-use Rattle.operate.specs.declared.ended.Ended.{Ended}
 use Rattle.operate.specs.declared.ended.Ended.the-variants.{Gives, Denies}
 use Rattle.operate.specs.declared.ended.Fault.the-variants.{WrongKind}
 use Rattle.operate.specs.declared.ended.State.{State}
 use Rattle.operate.specs.Cells.{Same}
-use Rattle.operate.specs.Ended.{state, EndsAs, ends-value, ends-fault}
+use Rattle.operate.specs.Ended.{state, ends-value, ends-fault}
 use Rattle.operate.specs.Laws.Cells.{same-all, same-then, same-put, means-kept}
 use Rattle.rule.specs.Holds.{ruleCount}
 use Rattle.scalars.specs.declared.truth.Truth as declared
@@ -42,7 +39,7 @@ use Rattle.eval.specs.declared.task.Frame.the-variants.{Guard, Branch, C
 use Rattle.eval.specs.declared.task.Next.{Next}
 use Rattle.eval.specs.declared.task.Next.the-variants.{Ends, Asks}
 use Rattle.eval.specs.declared.task.Task.{Task}
-use Rattle.eval.specs.Inner.{Room, Charged, RowsHold, row-rule, After, Then, GuardMeans, ConjunctMeans, SourceMeans, InitialMeans, ItemMeans, lambdaRun, reduced, Asked, Takes, TakesByRule, TakesByRecord, elementsOf, branchRow, Branches, task}
+use Rattle.eval.specs.Inner.{Room, RowsHold, row-rule, After, Then, GuardMeans, SourceMeans, ItemMeans, lambdaRun, reduced, Asked, Takes, TakesByRule, TakesByRecord, elementsOf, branchRow, Branches, task}
 use Rattle.eval.proofs.Bounds.{gives-at, stops-at, same-wider}
 
 -- A value that ends the rule.

@@ -1,18 +1,17 @@
 -- Whole: a whole evaluation, and its answer written.
-use mathlib.Core.Path.{_≡_, sym, ap, _∙_}
+use mathlib.Core.Path.{_≡_, ap, _∙_}
 use Prim.Native.Nat.{ℕ, _+_, _*_, _-_, _≤_}
 use native.Mathlib.Omega.{arith}
 use lib.ListN.{length}
 use Rattle.area.specs.Laws.{zeroFrom-all}
 use Rattle.area.specs.Words.{zeroFrom}
 use Rattle.model.specs.Bytes.{Bytes}
-use Rattle.model.specs.Eval as models
-use Rattle.model.specs.Eval.{outcome, run}
+use Rattle.model.specs.Eval.{run}
 use Rattle.model.specs.EvalPlain.{denies, evalPlain, plainOutcome, left}
 use Rattle.model.specs.Laws.Logic.{clash}
 use Rattle.model.specs.Laws.Plain.{plain-agrees}
 use Rattle.model.specs.Limits.{maxNesting, maxSteps, heapCells}
-use Rattle.model.specs.Refusal.{EvalFault, evalNumber}
+use Rattle.model.specs.Refusal.{evalNumber}
 use Rattle.model.specs.Rule.{Rule}
 use Rattle.model.specs.Run.{steps}
 use Rattle.model.specs.Value.{Value}
@@ -20,15 +19,13 @@ use Rattle.syntax.specs.Output.{writeInto, valueWritten}
 use Rattle.heap.specs.declared.handle.Handle.{Handle}
 use Rattle.heap.specs.Handles.{rowHandle}
 use Rattle.heap.specs.Main as heap
-use Rattle.heap.specs.Means.{Means}
 use Rattle.heap.specs.Unfold.{areas}
 use Rattle.operate.specs.declared.ended.Ended.{Ended}
 use Rattle.operate.specs.declared.ended.Ended.the-variants.{Gives, Denies}
 use Rattle.operate.specs.declared.ended.Fault.{Fault}
 use Rattle.operate.specs.declared.ended.State.{State}
-use Rattle.operate.specs.Ended.{faultOf, state, EndsAs}
+use Rattle.operate.specs.Ended.{faultOf, state}
 use Rattle.operate.specs.Laws.Ends.{got, failed}
-use Rattle.rule.specs.Holds.{Holds}
 use Rattle.writer.specs.declared.Answer as writing
 use Rattle.writer.specs.Contract.{answered, handleWritten}
 use Rattle.eval.specs.declared.Answer.{Answer}

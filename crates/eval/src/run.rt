@@ -1,4 +1,7 @@
 // Evaluation. It recurses by the nesting of the rule only: operands and items are gone through by one loop.
+//
+// The rule lies in `rule_table` and `rule_strings`, the record in `record_table` and `record_strings`. `cells` holds the heap, from cell 0 up,
+// and the stack of operands, from the last cell down.
 use crate::start::start;
 use crate::take::take;
 use crate::task::Next;
@@ -19,7 +22,7 @@ fn resumed(s: State, e: Ended) -> Ended
     }
 }
 
-// Operand after operand, until the rule ends.
+// Operand after operand, until the rule that was begun ends.
 fn operands<'a>(
     rule_table: &[u8],
     rule_strings: &'a [u8],
@@ -61,7 +64,7 @@ fn operands<'a>(
     }
 }
 
-// A rule in a context.
+// A rule in a context: its value, or its refusal.
 pub fn eval<'a>(
     rule_table: &[u8],
     rule_strings: &'a [u8],

@@ -15,7 +15,7 @@ pub struct Task {
     pub state: State,
 }
 
-// Operands on the stack, and those not yet begun, of an operation on all of them.
+// An operation on all its operands: how many stand on the stack, and how many are not begun.
 pub struct Pending {
     pub op: Op,
     pub done: usize,

@@ -134,8 +134,6 @@ pub fn apply<'a>(
         Op::PlusTime { amount, unit } => {
             operated(plus_time(rule_strings, record_strings, amount, unit, x), s)
         }
-        Op::ExtractFromUvci(index) => {
-            operated(extract(rule_strings, record_strings, index, x), s)
-        }
+        Op::ExtractFromUvci(index) => operated(extract(rule_strings, record_strings, index, x), s),
     }
 }

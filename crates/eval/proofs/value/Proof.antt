@@ -4,67 +4,47 @@ use Rattle.eval.proofs.Whole.{whole-task, whole-room, left-less, left-o
 use borrow.Author.Needs.{needs}
 use Rattle.eval.proofs.value.Statement.{statement}
 use Rattle.eval.proofs.value.Tie as tie
-use Rattle.eval.proofs.value.Reads as reads
-use Rattle.eval.proofs.value.Lts as lts
-use Rattle.eval.proofs.number.Reads as number-reads
-use Rattle.eval.proofs.run.eval.Reads as eval-reads
-use Rattle.eval.proofs.task.operand.Reads as operand-reads
-use Rattle.eval.proofs.task.state.Reads as state-reads
-use Rattle.heap.proofs.handle.load.Reads as load-reads
 
--- src/lib.rt:62:9
 state-requires : tie.Need-state-requires
 state-requires c κs = search needs
 
--- src/lib.rt:63:27
 load-requires : tie.Need-load-requires
 load-requires c κs = search needs
 
--- src/lib.rt:63:9
 operand-requires : tie.Need-operand-requires
 operand-requires c κs = search needs
 
--- src/lib.rt:64:11
 eval-requires : tie.Need-eval-requires
 unfolding heapCells maxNesting
 eval-requires c κs = whole-room (c .before .operand .result) (c .before .before .before .before .before .before .before .before .before .pre) (whole-task _ (c .before .before .before .before .before .before .before .before .before .args .limit) (c .before .operand .result) (c .before .before .load .result) (c .before .before .before .state .result) (c .before .operand .ensures) (c .before .before .load .ensures) (c .before .before .before .state .ensures))
 
--- src/lib.rt:72:23
 enum-known-fault : tie.Need-enum-known-fault
 enum-known-fault c = search needs
 
--- src/lib.rt:72:56
 number-requires : tie.Need-number-requires
 number-requires c κs = search needs
 
--- src/lib.rt:72:71
 sub-t19 : tie.Need-sub-t19
 unfolding heapCells maxNesting
 sub-t19 c = left-less (c .before .before .before .before .before .before .before .before .operand .result) (whole-task _ (c .before .before .before .before .before .before .before .before .before .before .before .before .before .before .before .before .args .limit) (c .before .before .before .before .before .before .before .before .operand .result) (c .before .before .before .before .before .before .before .before .before .load .result) (c .before .before .before .before .before .before .before .before .before .before .state .result) (c .before .before .before .before .before .before .before .before .operand .ensures) (c .before .before .before .before .before .before .before .before .before .load .ensures) (c .before .before .before .before .before .before .before .before .before .before .state .ensures)) (c .before .before .before .before .before .before .before .before .before .before .before .before .before .before .before .before .pre) (c .before .before .before .before .before .before .eval .ensures) (c .before .before .fault .given .0 .0) (c .before .before .fault .given .0 .1 .0) (c .before .before .fault .given .1)
 
--- src/lib.rt:73:22
 enum-known-h : tie.Need-enum-known-h
 enum-known-h c = search needs
 
--- src/lib.rt:73:49
 sub-t20 : tie.Need-sub-t20
 unfolding heapCells maxNesting
 sub-t20 c = left-over (c .before .before .before .before .before .before .before .before .operand .result) (whole-task _ (c .before .before .before .before .before .before .before .before .before .before .before .before .before .before .before .before .args .limit) (c .before .before .before .before .before .before .before .before .operand .result) (c .before .before .before .before .before .before .before .before .before .load .result) (c .before .before .before .before .before .before .before .before .before .before .state .result) (c .before .before .before .before .before .before .before .before .operand .ensures) (c .before .before .before .before .before .before .before .before .before .load .ensures) (c .before .before .before .before .before .before .before .before .before .before .state .ensures)) (c .before .before .before .before .before .before .before .before .before .before .before .before .before .before .before .before .pre) (c .before .before .before .before .before .before .eval .ensures) (c .before .before .h .given .0 .0) (c .before .before .h .given .0 .1 .0) (c .before .before .h .given .1)
 
--- src/lib.rt:51:1
 same-length : tie.Need-same-length
 same-length c = search needs
 
--- src/lib.rt:51:1
 returns : tie.Need-returns
 unfolding heapCells maxNesting
 returns c = whole-stops (c .before .before .before .before .before .before .before .before .operand .result) (whole-task _ (c .before .before .before .before .before .before .before .before .before .before .before .before .before .before .before .before .args .limit) (c .before .before .before .before .before .before .before .before .operand .result) (c .before .before .before .before .before .before .before .before .before .load .result) (c .before .before .before .before .before .before .before .before .before .before .state .result) (c .before .before .before .before .before .before .before .before .operand .ensures) (c .before .before .before .before .before .before .before .before .before .load .ensures) (c .before .before .before .before .before .before .before .before .before .before .state .ensures)) (c .before .before .before .before .before .before .before .before .before .before .before .before .before .before .before .before .pre) (c .before .before .before .before .before .before .eval .ensures) (c .before .before .fault .given .0 .0) (c .before .before .fault .given .0 .1 .0) (c .number .result) _ (c .before .before .fault .given .1) (c .number .ensures) refl
 
--- src/lib.rt:51:1
 same-length-2 : tie.Need-same-length-2
 same-length-2 c = search needs
 
--- src/lib.rt:51:1
 returns-2 : tie.Need-returns-2
 unfolding heapCells maxNesting
 returns-2 c = whole-gives (c .before .before .before .before .before .before .before .before .operand .result) (whole-task _ (c .before .before .before .before .before .before .before .before .before .before .before .before .before .before .before .before .args .limit) (c .before .before .before .before .before .before .before .before .operand .result) (c .before .before .before .before .before .before .before .before .before .load .result) (c .before .before .before .before .before .before .before .before .before .before .state .result) (c .before .before .before .before .before .before .before .before .operand .ensures) (c .before .before .before .before .before .before .before .before .before .load .ensures) (c .before .before .before .before .before .before .before .before .before .before .state .ensures)) (c .before .before .before .before .before .before .before .before .before .before .before .before .before .before .before .before .pre) (c .before .before .before .before .before .before .eval .ensures) (c .before .before .h .given .0 .0) (c .before .before .h .given .0 .1 .0) _ (c .before .before .h .given .1) refl

@@ -1,39 +1,28 @@
 use borrow.Author.Needs.{needs}
 use Rattle.eval.proofs.written.Statement.{statement}
 use Rattle.eval.proofs.written.Tie as tie
-use Rattle.eval.proofs.written.Reads as reads
-use Rattle.eval.proofs.written.Lts as lts
-use Rattle.eval.proofs.refused.Reads as refused-reads
 
--- src/lib.rt:125:26
 enum-known-w : tie.Need-enum-known-w
 enum-known-w c = search needs
 
--- src/lib.rt:130:30
 enum-told : tie.Need-enum-told
 enum-told c = search needs
 
--- src/lib.rt:130:30
 refused-requires : tie.Need-refused-requires
 refused-requires c κs = search needs
 
--- src/lib.rt:131:36
 enum-told-2 : tie.Need-enum-told-2
 enum-told-2 c = search needs
 
--- src/lib.rt:131:36
 refused-requires-2 : tie.Need-refused-requires-2
 refused-requires-2 c κs = search needs
 
--- src/lib.rt:121:1
 returns : tie.Need-returns
 returns c = rw (c .before .w .given .1)
 
--- src/lib.rt:121:1
 returns-2 : tie.Need-returns-2
 returns-2 c = rw (c .before .enum-told .given .1, c .refused .ensures)
 
--- src/lib.rt:121:1
 returns-3 : tie.Need-returns-3
 returns-3 c = rw (c .before .enum-told2 .given .1, c .refused2 .ensures)
 

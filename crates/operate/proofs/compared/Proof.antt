@@ -2,37 +2,25 @@ use Rattle.operate.proofs.Operations.{compares-two, compares-three}
 use borrow.Author.Needs.{needs}
 use Rattle.operate.proofs.compared.Statement.{statement}
 use Rattle.operate.proofs.compared.Tie as tie
-use Rattle.operate.proofs.compared.Reads as reads
-use Rattle.operate.proofs.compared.Lts as lts
-use Rattle.operate.proofs.operand.Reads as operand-reads
-use Rattle.scalars.proofs.compare.compare.Reads as compare-reads
-use Rattle.scalars.proofs.compare.compare_three.Reads as compare-three-reads
 
--- src/lib.rt:85:9
 operand-requires : tie.Need-operand-requires
 operand-requires c κs = search needs
 
--- src/lib.rt:86:9
 operand-requires-2 : tie.Need-operand-requires-2
 operand-requires-2 c κs = search needs
 
--- src/lib.rt:88:9
 compare-requires : tie.Need-compare-requires
 compare-requires c κs = search needs
 
--- src/lib.rt:88:9
 returns : tie.Need-returns
 returns c = compares-two (c .before .before .before .operand .ensures) (c .before .before .operand2 .ensures) (c .before .if1 .taken) (c .compare .ensures)
 
--- src/lib.rt:90:36
 operand-requires-3 : tie.Need-operand-requires-3
 operand-requires-3 c κs = search needs
 
--- src/lib.rt:90:5
 compare-three-requires : tie.Need-compare-three-requires
 compare-three-requires c κs = search needs
 
--- src/lib.rt:82:1
 returns-2 : tie.Need-returns-2
 returns-2 c = compares-three (c .before .before .before .before .operand .ensures) (c .before .before .before .operand2 .ensures) (c .before .operand3 .ensures) (c .before .before .if1 .left) (c .compare-three .ensures)
 

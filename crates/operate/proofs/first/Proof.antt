@@ -5,19 +5,13 @@ use Rattle.operate.specs.Laws.Stack.{first-cell}
 use borrow.Author.Needs.{needs}
 use Rattle.operate.proofs.first.Statement.{statement}
 use Rattle.operate.proofs.first.Tie as tie
-use Rattle.operate.proofs.first.Reads as reads
-use Rattle.operate.proofs.first.Lts as lts
-use Rattle.operate.proofs.operand.Reads as operand-reads
 
--- src/lib.rt:47:9
 returns : tie.Need-returns
 returns c = search needs
 
--- src/lib.rt:49:5
 operand-requires : tie.Need-operand-requires
 operand-requires c κs = search needs
 
--- src/lib.rt:43:1
 returns-2 : tie.Need-returns-2
 returns-2 c = let l : 1 ≤ c .before .before .before .args .count = omega (arith, c .before .if1 .left) in c .operand .ensures ∙ sym (first-cell _ _ _ l)
 

@@ -1,38 +1,28 @@
 use borrow.Author.Needs.{needs}
 use Rattle.operate.proofs.operated.Statement.{statement}
 use Rattle.operate.proofs.operated.Tie as tie
-use Rattle.operate.proofs.operated.Reads as reads
-use Rattle.operate.proofs.operated.Lts as lts
 
--- src/lib.rt:75:25
 enum-known-r : tie.Need-enum-known-r
 enum-known-r c = search needs
 
--- src/lib.rt:76:46
 enum-told : tie.Need-enum-told
 enum-told c = search needs
 
--- src/lib.rt:77:44
 enum-told-2 : tie.Need-enum-told-2
 enum-told-2 c = search needs
 
--- src/lib.rt:78:47
 enum-told-3 : tie.Need-enum-told-3
 enum-told-3 c = search needs
 
--- src/lib.rt:71:1
 returns : tie.Need-returns
 returns c = rw (c .before .r .given .1)
 
--- src/lib.rt:71:1
 returns-2 : tie.Need-returns-2
 returns-2 c = rw (c .enum-told .given .1)
 
--- src/lib.rt:71:1
 returns-3 : tie.Need-returns-3
 returns-3 c = rw (c .enum-told2 .given .1)
 
--- src/lib.rt:71:1
 returns-4 : tie.Need-returns-4
 returns-4 c = rw (c .enum-told3 .given .1)
 

@@ -38,59 +38,26 @@ abbrev operands-below : ℕ → In 4 operands-kinds.ps
 operands-below t =
     and 4 operands-kinds.ps (falls 4 operands-kinds.ps _<_ μ-operands t) operands.Pre
 
--- src/run.rt:76:9
-eval-start-requires : (t : ℕ) → eval-lts.Need-start-requires (
-  start-reads.Asked,
-  start-reads.Learnt,
-  operands-below t,
-  operands.Post,
-  resumed-reads.Asked,
-  resumed-reads.Learnt,
-) (eval-at t) eval.Post
+-- what the callees of each member ask and ensure, at a measure below t
+abbrev eval-calls : ℕ → eval-lts.Claims
+eval-calls t = (start-reads.Asked, start-reads.Learnt, operands-below t, operands.Post, resumed-reads.Asked, resumed-reads.Learnt)
+
+abbrev operands-calls : ℕ → operands-lts.Claims
+operands-calls t = (eval-below t, eval.Post, take-reads.Asked, take-reads.Learnt)
+
+eval-start-requires : (t : ℕ) → eval-lts.Need-start-requires (eval-calls t) (eval-at t) eval.Post
 eval-start-requires t c κs = c .before .before .before .before .before .before .pre .1
 
--- src/run.rt:84:9
-eval-operands-requires : (t : ℕ) → eval-lts.Need-operands-requires (
-  start-reads.Asked,
-  start-reads.Learnt,
-  operands-below t,
-  operands.Post,
-  resumed-reads.Asked,
-  resumed-reads.Learnt,
-) (eval-at t) eval.Post
+eval-operands-requires : (t : ℕ) → eval-lts.Need-operands-requires (eval-calls t) (eval-at t) eval.Post
 eval-operands-requires t c κs = (omega (arith, within-deep (c .before .before .before .before .before .before .before .before .before .before .args .task .state) (c .before .before .before .start .result) (c .before .before .before .start .ensures .within), c .before .before .before .before .before .before .before .before .before .before .pre .0), begun-operating (c .before .before .before .before .before .before .before .before .before .before .pre .1) (c .before .before .before .start .ensures))
 
--- src/run.rt:93:5
-eval-resumed-requires : (t : ℕ) → eval-lts.Need-resumed-requires (
-  start-reads.Asked,
-  start-reads.Learnt,
-  operands-below t,
-  operands.Post,
-  resumed-reads.Asked,
-  resumed-reads.Learnt,
-) (eval-at t) eval.Post
+eval-resumed-requires : (t : ℕ) → eval-lts.Need-resumed-requires (eval-calls t) (eval-at t) eval.Post
 eval-resumed-requires t c κs = search needs
 
--- src/run.rt:65:1
-eval-same-length : (t : ℕ) → eval-lts.Need-same-length (
-  start-reads.Asked,
-  start-reads.Learnt,
-  operands-below t,
-  operands.Post,
-  resumed-reads.Asked,
-  resumed-reads.Learnt,
-) (eval-at t) eval.Post
+eval-same-length : (t : ℕ) → eval-lts.Need-same-length (eval-calls t) (eval-at t) eval.Post
 eval-same-length t c = c .before .before .before .before .operands .ensures .same (c .before .before .before .before .before .before .before .before .before .before .before .before .before .before .before .args .task .state) (c .before .before .before .before .before .before .before .before .start .ensures .within) .size ∙ c .before .before .before .before .before .before .before .before .start .ensures .same .size
 
--- src/run.rt:65:1
-eval-returns : (t : ℕ) → eval-lts.Need-returns (
-  start-reads.Asked,
-  start-reads.Learnt,
-  operands-below t,
-  operands.Post,
-  resumed-reads.Asked,
-  resumed-reads.Learnt,
-) (eval-at t) eval.Post
+eval-returns : (t : ℕ) → eval-lts.Need-returns (eval-calls t) (eval-at t) eval.Post
 eval-returns t c = evaluated (c .before .before .before .before .before .before .before .before .start .ensures) (c .before .before .before .before .operands .ensures) (c .resumed .ensures)
 
 abbrev operands-Inv-loop : operands-lts.InvT-loop
@@ -99,96 +66,35 @@ operands-Inv-loop rule-table rule-strings record-table record-strings cells₀ a
 abbrev operands-μ-loop : operands-lts.MeasureT-loop
 operands-μ-loop rule-table rule-strings record-table record-strings cells₀ at₀ cells at = nextLeft at
 
--- src/run.rt:35:5
-operands-loop-holds : (t : ℕ) → operands-lts.Need-loop-holds (
-  eval-below t,
-  eval.Post,
-  take-reads.Asked,
-  take-reads.Learnt,
-) (operands-at t) operands.Post operands-Inv-loop operands-μ-loop
+operands-loop-holds : (t : ℕ) → operands-lts.Need-loop-holds (operands-calls t) (operands-at t) operands.Post operands-Inv-loop operands-μ-loop
 operands-loop-holds t c = inv-begins (c .before .before .before .before .before .pre .1)
 
--- src/run.rt:37:24
-operands-enum-known-at : (t : ℕ) → operands-lts.Need-enum-known-at (
-  eval-below t,
-  eval.Post,
-  take-reads.Asked,
-  take-reads.Learnt,
-) (operands-at t) operands.Post operands-Inv-loop operands-μ-loop
+operands-enum-known-at : (t : ℕ) → operands-lts.Need-enum-known-at (operands-calls t) (operands-at t) operands.Post operands-Inv-loop operands-μ-loop
 operands-enum-known-at t c = search needs
 
--- src/run.rt:38:17
-operands-same-length : (t : ℕ) → operands-lts.Need-same-length (
-  eval-below t,
-  eval.Post,
-  take-reads.Asked,
-  take-reads.Learnt,
-) (operands-at t) operands.Post operands-Inv-loop operands-μ-loop
+operands-same-length : (t : ℕ) → operands-lts.Need-same-length (operands-calls t) (operands-at t) operands.Post operands-Inv-loop operands-μ-loop
 operands-same-length t c = c .before .before .before .loop .inv .same (c .before .before .before .before .before .before .before .before .before .pre .1 .base) (c .before .before .before .before .before .before .before .before .before .pre .1 .within) .size
 
--- src/run.rt:38:17
-operands-returns : (t : ℕ) → operands-lts.Need-returns (
-  eval-below t,
-  eval.Post,
-  take-reads.Asked,
-  take-reads.Learnt,
-) (operands-at t) operands.Post operands-Inv-loop operands-μ-loop
+operands-returns : (t : ℕ) → operands-lts.Need-returns (operands-calls t) (operands-at t) operands.Post operands-Inv-loop operands-μ-loop
 operands-returns t c = inv-ends (c .before .before .before .loop .inv) (c .before .at .given .0 .0) (c .before .at .given .1)
 
--- src/run.rt:40:24
-operands-enum-known-at-2 : (t : ℕ) → operands-lts.Need-enum-known-at-2 (
-  eval-below t,
-  eval.Post,
-  take-reads.Asked,
-  take-reads.Learnt,
-) (operands-at t) operands.Post operands-Inv-loop operands-μ-loop
+operands-enum-known-at-2 : (t : ℕ) → operands-lts.Need-enum-known-at-2 (operands-calls t) (operands-at t) operands.Post operands-Inv-loop operands-μ-loop
 operands-enum-known-at-2 t c = search needs
 
--- src/run.rt:41:21
-operands-eval-requires : (t : ℕ) → operands-lts.Need-eval-requires (
-  eval-below t,
-  eval.Post,
-  take-reads.Asked,
-  take-reads.Learnt,
-) (operands-at t) operands.Post operands-Inv-loop operands-μ-loop
+operands-eval-requires : (t : ℕ) → operands-lts.Need-eval-requires (operands-calls t) (operands-at t) operands.Post operands-Inv-loop operands-μ-loop
 operands-eval-requires t c κs = (omega (arith, asked-falls (c .before .before .before .before .loop .inv) (c .before .before .at2 .given .0 .0) (c .before .before .at2 .given .0 .1 .0) (c .before .before .at2 .given .1), c .before .before .before .before .before .before .before .before .before .before .pre .0), asked-room (c .before .before .before .before .loop .inv) (c .before .before .at2 .given .0 .0) (c .before .before .at2 .given .0 .1 .0) (c .before .before .at2 .given .1))
 
--- src/run.rt:49:17
-operands-take-requires : (t : ℕ) → operands-lts.Need-take-requires (
-  eval-below t,
-  eval.Post,
-  take-reads.Asked,
-  take-reads.Learnt,
-) (operands-at t) operands.Post operands-Inv-loop operands-μ-loop
+operands-take-requires : (t : ℕ) → operands-lts.Need-take-requires (operands-calls t) (operands-at t) operands.Post operands-Inv-loop operands-μ-loop
 operands-take-requires t c κs = asked-taking (c .before .before .before .before .before .before .before .before .loop .inv) (c .before .before .before .before .before .before .at2 .given .0 .0) (c .before .before .before .before .before .before .at2 .given .0 .1 .0) (c .before .before .before .before .before .before .at2 .given .1) (c .before .before .before .eval .ensures)
 
--- src/run.rt:35:5
-operands-loop-less : (t : ℕ) → operands-lts.Need-loop-less (
-  eval-below t,
-  eval.Post,
-  take-reads.Asked,
-  take-reads.Learnt,
-) (operands-at t) operands.Post operands-Inv-loop operands-μ-loop
+operands-loop-less : (t : ℕ) → operands-lts.Need-loop-less (operands-calls t) (operands-at t) operands.Post operands-Inv-loop operands-μ-loop
 operands-loop-less t c = fewer-left (c .before .before .before .before .before .before .before .before .before .before .before .loop .inv) (c .before .before .before .before .before .before .before .before .before .at2 .given .0 .0) (c .before .before .before .before .before .before .before .before .before .at2 .given .0 .1 .0) (c .before .before .before .before .before .before .before .before .before .at2 .given .1) (c .before .before .before .before .before .before .eval .ensures) (c .before .before .take .ensures)
 
--- src/run.rt:35:5
-operands-loop-again : (t : ℕ) → operands-lts.Need-loop-again (
-  eval-below t,
-  eval.Post,
-  take-reads.Asked,
-  take-reads.Learnt,
-) (operands-at t) operands.Post operands-Inv-loop operands-μ-loop
+operands-loop-again : (t : ℕ) → operands-lts.Need-loop-again (operands-calls t) (operands-at t) operands.Post operands-Inv-loop operands-μ-loop
 operands-loop-again t c = inv-next (c .before .before .before .before .before .before .before .before .before .before .before .loop .inv) (c .before .before .before .before .before .before .before .before .before .at2 .given .0 .0) (c .before .before .before .before .before .before .before .before .before .at2 .given .0 .1 .0) (c .before .before .before .before .before .before .before .before .before .at2 .given .1) (c .before .before .before .before .before .before .eval .ensures) (c .before .before .take .ensures)
 
 pub +eval+operands-spec : {M : Type 1} → statement M
-+eval+operands-spec = close μ-eval μ-operands (λ t. eval-lts.spec (
-  start-reads.Asked,
-  start-reads.Learnt,
-  operands-below t,
-  operands.Post,
-  resumed-reads.Asked,
-  resumed-reads.Learnt,
-)
++eval+operands-spec = close μ-eval μ-operands (λ t. eval-lts.spec (eval-calls t)
     (eval-at t)
     eval.Post
     (eval-start-requires t)
@@ -197,7 +103,7 @@ pub +eval+operands-spec : {M : Type 1} → statement M
     (eval-same-length t)
     (eval-returns t))
     λ t. operands-lts.spec
-    (eval-below t, eval.Post, take-reads.Asked, take-reads.Learnt)
+    (operands-calls t)
     (operands-at t)
     operands.Post
     operands-Inv-loop

@@ -1,50 +1,33 @@
-use native.Mathlib.Omega.{arith}
 use mathlib.Core.Path.{refl}
 use Rattle.eval.proofs.Arguments.{pushed-room, takes-argument}
 use borrow.Author.Needs.{needs}
 use Rattle.eval.proofs.take.after_argument.Statement.{statement}
 use Rattle.eval.proofs.take.after_argument.Tie as tie
-use Rattle.eval.proofs.take.after_argument.Reads as reads
-use Rattle.eval.proofs.take.after_argument.Lts as lts
-use Rattle.eval.proofs.start.arguments.Reads as arguments-reads
-use Rattle.eval.proofs.task.operand.Reads as operand-reads
-use Rattle.eval.proofs.task.state.Reads as state-reads
-use Rattle.heap.proofs.cell.put.Reads as put-reads
-use Rattle.table.proofs.node.next_row.Reads as next-row-reads
 
--- src/take.rt:161:18
 sub-bottom : tie.Need-sub-bottom
 sub-bottom c = search needs
 
--- src/take.rt:162:5
 put-requires : tie.Need-put-requires
 put-requires c κs = search needs
 
--- src/take.rt:163:9
 state-requires : tie.Need-state-requires
 state-requires c κs = search needs
 
--- src/take.rt:164:24
 next-row-requires : tie.Need-next-row-requires
 next-row-requires c κs = search needs
 
--- src/take.rt:164:9
 operand-requires : tie.Need-operand-requires
 operand-requires c κs = search needs
 
--- src/take.rt:168:15
 add-t19 : tie.Need-add-t19
 add-t19 c = search needs
 
--- src/take.rt:171:5
 arguments-requires : tie.Need-arguments-requires
 arguments-requires c κs = pushed-room (c .before .before .before .before .before .before .before .before .before .before .before .before .before .before .before .before .args .t) (c .before .before .before .before .before .before .before .before .before .before .before .before .before .before .before .before .args .p) (c .before .before .before .before .before .before .before .before .before .before .before .before .before .before .before .before .args .value) _ (c .before .before .before .next-row .result) (c .before .before .operand .result) (c .before .before .before .before .state .result) _ (c .before .before .before .before .before .before .before .before .before .before .before .before .before .before .before .before .pre) (c .before .before .before .before .before .before .before .put .ensures) (c .before .before .before .before .state .ensures) (c .before .before .operand .ensures) refl
 
--- src/take.rt:146:1
 same-length : tie.Need-same-length
 same-length c = search needs
 
--- src/take.rt:146:1
 returns : tie.Need-returns
 returns c = takes-argument (c .before .before .before .before .before .before .next-row .result) (c .before .before .before .before .before .operand .result) (c .before .before .before .before .before .before .before .state .result) _ (c .before .before .before .before .before .before .before .before .before .before .before .before .before .before .before .before .before .before .before .pre) (c .before .before .before .before .before .before .before .before .before .before .put .ensures) (c .before .before .before .before .before .before .next-row .ensures) (c .before .before .before .before .before .before .before .state .ensures) (c .before .before .before .before .before .operand .ensures) refl (c .before .before .arguments .ensures)
 

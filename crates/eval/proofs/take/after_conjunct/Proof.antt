@@ -3,53 +3,37 @@ use Rattle.eval.proofs.Taken.{conjunct-falsy, conjunct-neither, conjunc
 use borrow.Author.Needs.{needs}
 use Rattle.eval.proofs.take.after_conjunct.Statement.{statement}
 use Rattle.eval.proofs.take.after_conjunct.Tie as tie
-use Rattle.eval.proofs.take.after_conjunct.Reads as reads
-use Rattle.eval.proofs.take.after_conjunct.Lts as lts
-use Rattle.eval.proofs.task.operand.Reads as operand-reads
-use Rattle.table.proofs.node.next_row.Reads as next-row-reads
-use Rattle.scalars.proofs.truth.truth_of.Reads as truth-of-reads
 
--- src/take.rt:84:11
 truth-of-requires : tie.Need-truth-of-requires
 truth-of-requires c κs = search needs
 
--- src/take.rt:85:36
 enum-told : tie.Need-enum-told
 enum-told c = search needs
 
--- src/take.rt:86:52
 enum-told-2 : tie.Need-enum-told-2
 enum-told-2 c = search needs
 
--- src/take.rt:88:16
 enum-told-3 : tie.Need-enum-told-3
 enum-told-3 c = search needs
 
--- src/take.rt:89:17
 returns : tie.Need-returns
 returns c = conjunct-last (c .before .before .before .truth-of .result) (c .before .before .before .truth-of .ensures) (c .before .enum-told3 .given .1) (c .if1 .taken)
 
--- src/take.rt:92:32
 next-row-requires : tie.Need-next-row-requires
 next-row-requires c κs = search needs
 
--- src/take.rt:92:17
 operand-requires : tie.Need-operand-requires
 operand-requires c κs = search needs
 
--- src/take.rt:93:46
 sub-t15 : tie.Need-sub-t15
 sub-t15 c = search needs
 
--- src/take.rt:80:1
 returns-2 : tie.Need-returns-2
 returns-2 c = conjunct-falsy (c .before .before .truth-of .result) (c .before .before .truth-of .ensures) (c .enum-told .given .1)
 
--- src/take.rt:80:1
 returns-3 : tie.Need-returns-3
 returns-3 c = conjunct-neither (c .before .before .truth-of .result) (c .before .before .truth-of .ensures) (c .enum-told2 .given .1)
 
--- src/take.rt:80:1
 returns-4 : tie.Need-returns-4
 returns-4 c = conjunct-next (c .before .before .before .before .before .truth-of .result) (c .before .before .before .before .before .truth-of .ensures) (c .before .next-row .result) (c .operand .result) (c .before .before .before .enum-told3 .given .1) (omega (arith, c .before .before .if1 .left)) (c .before .next-row .ensures) (c .operand .ensures)
 

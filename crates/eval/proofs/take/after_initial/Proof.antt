@@ -3,41 +3,28 @@ use Rattle.eval.proofs.Taken.{no-items-there, items-there}
 use borrow.Author.Needs.{needs}
 use Rattle.eval.proofs.take.after_initial.Statement.{statement}
 use Rattle.eval.proofs.take.after_initial.Tie as tie
-use Rattle.eval.proofs.take.after_initial.Reads as reads
-use Rattle.eval.proofs.take.after_initial.Lts as lts
-use Rattle.eval.proofs.take.elements_of.Reads as elements-of-reads
-use Rattle.eval.proofs.take.next_item.Reads as next-item-reads
-use Rattle.eval.proofs.task.operand.Reads as operand-reads
 
--- src/take.rt:122:27
 elements-of-requires : tie.Need-elements-of-requires
 elements-of-requires c κs = search needs
 
--- src/take.rt:122:22
 enum-known-p : tie.Need-enum-known-p
 enum-known-p c = search needs
 
--- src/take.rt:123:41
 enum-told : tie.Need-enum-told
 enum-told c = search needs
 
--- src/take.rt:123:9
 returns : tie.Need-returns
 returns c = no-items-there (sym (c .before .before .elements-of .ensures) ∙ c .enum-told .given .1)
 
--- src/take.rt:125:36
 operand-requires : tie.Need-operand-requires
 operand-requires c κs = search needs
 
--- src/take.rt:125:5
 next-item-requires : tie.Need-next-item-requires
 next-item-requires c κs = rw (c .operand .ensures) (c .before .before .before .before .before .before .before .before .before .pre)
 
--- src/take.rt:109:1
 same-length : tie.Need-same-length
 same-length c = search needs
 
--- src/take.rt:109:1
 returns-2 : tie.Need-returns-2
 returns-2 c = items-there (c .before .before .before .before .before .before .p .given .0 .0) (c .before .before .before .operand .result) (sym (c .before .before .before .before .before .before .before .before .elements-of .ensures) ∙ c .before .before .before .before .before .before .p .given .1) (c .before .before .before .operand .ensures) (c .before .before .next-item .ensures)
 

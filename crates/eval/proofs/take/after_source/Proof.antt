@@ -2,24 +2,16 @@ use Rattle.eval.proofs.Taken.{takes-source}
 use borrow.Author.Needs.{needs}
 use Rattle.eval.proofs.take.after_source.Statement.{statement}
 use Rattle.eval.proofs.take.after_source.Tie as tie
-use Rattle.eval.proofs.take.after_source.Reads as reads
-use Rattle.eval.proofs.take.after_source.Lts as lts
-use Rattle.eval.proofs.task.operand.Reads as operand-reads
-use Rattle.table.proofs.node.next_row.Reads as next-row-reads
 
--- src/take.rt:104:9
 next-row-requires : tie.Need-next-row-requires
 next-row-requires c κs = search needs
 
--- src/take.rt:105:27
 next-row-requires-2 : tie.Need-next-row-requires-2
 next-row-requires-2 c κs = search needs
 
--- src/take.rt:105:9
 operand-requires : tie.Need-operand-requires
 operand-requires c κs = search needs
 
--- src/take.rt:99:1
 returns : tie.Need-returns
 returns c = takes-source (c .before .before .next-row .result) (c .before .next-row2 .result) (c .operand .result) (c .before .before .next-row .ensures) (c .before .next-row2 .ensures) (c .operand .ensures)
 

@@ -2,48 +2,34 @@ use Rattle.eval.proofs.Taken.{chooses-second, chooses-third}
 use borrow.Author.Needs.{needs}
 use Rattle.eval.proofs.take.branch.Statement.{statement}
 use Rattle.eval.proofs.take.branch.Tie as tie
-use Rattle.eval.proofs.take.branch.Reads as reads
-use Rattle.eval.proofs.take.branch.Lts as lts
-use Rattle.table.proofs.node.next_row.Reads as next-row-reads
-use Rattle.scalars.proofs.truth.truth_of.Reads as truth-of-reads
 
--- src/take.rt:61:9
 next-row-requires : tie.Need-next-row-requires
 next-row-requires c κs = search needs
 
--- src/take.rt:62:11
 truth-of-requires : tie.Need-truth-of-requires
 truth-of-requires c κs = search needs
 
--- src/take.rt:63:26
 enum-told : tie.Need-enum-told
 enum-told c = search needs
 
--- src/take.rt:64:25
 enum-told-2 : tie.Need-enum-told-2
 enum-told-2 c = search needs
 
--- src/take.rt:64:25
 next-row-requires-2 : tie.Need-next-row-requires-2
 next-row-requires-2 c κs = search needs
 
--- src/take.rt:65:27
 enum-told-3 : tie.Need-enum-told-3
 enum-told-3 c = search needs
 
--- src/take.rt:65:27
 next-row-requires-3 : tie.Need-next-row-requires-3
 next-row-requires-3 c κs = search needs
 
--- src/take.rt:58:1
 returns : tie.Need-returns
 returns c = chooses-second (c .before .before .truth-of .result) (c .before .before .truth-of .ensures) (c .enum-told .given .1) (c .before .before .before .next-row .ensures)
 
--- src/take.rt:58:1
 returns-2 : tie.Need-returns-2
 returns-2 c = chooses-third (c .before .before .before .truth-of .result) (c .before .before .before .truth-of .ensures) (rw (c .before .enum-told2 .given .1)) (c .before .before .before .before .next-row .ensures) (c .next-row2 .ensures)
 
--- src/take.rt:58:1
 returns-3 : tie.Need-returns-3
 returns-3 c = chooses-third (c .before .before .before .truth-of .result) (c .before .before .before .truth-of .ensures) (rw (c .before .enum-told3 .given .1)) (c .before .before .before .before .next-row .ensures) (c .next-row3 .ensures)
 

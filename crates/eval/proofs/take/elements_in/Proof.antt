@@ -1,38 +1,28 @@
 use borrow.Author.Needs.{needs}
 use Rattle.eval.proofs.take.elements_in.Statement.{statement}
 use Rattle.eval.proofs.take.elements_in.Tie as tie
-use Rattle.eval.proofs.take.elements_in.Reads as reads
-use Rattle.eval.proofs.take.elements_in.Lts as lts
 
--- src/take.rt:50:24
 enum-told : tie.Need-enum-told
 enum-told c = search needs
 
--- src/take.rt:51:26
 enum-told-2 : tie.Need-enum-told-2
 enum-told-2 c = search needs
 
--- src/take.rt:52:23
 enum-told-3 : tie.Need-enum-told-3
 enum-told-3 c = search needs
 
--- src/take.rt:53:26
 enum-told-4 : tie.Need-enum-told-4
 enum-told-4 c = search needs
 
--- src/take.rt:45:1
 returns : tie.Need-returns
 returns c = rw (c .enum-told .given .1)
 
--- src/take.rt:45:1
 returns-2 : tie.Need-returns-2
 returns-2 c = search needs
 
--- src/take.rt:45:1
 returns-3 : tie.Need-returns-3
 returns-3 c = rw (c .enum-told3 .given .1)
 
--- src/take.rt:45:1
 returns-4 : tie.Need-returns-4
 returns-4 c = search needs
 

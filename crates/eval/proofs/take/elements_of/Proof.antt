@@ -3,67 +3,49 @@ use Rattle.eval.specs.Inner.{elementsOf}
 use borrow.Author.Needs.{needs}
 use Rattle.eval.proofs.take.elements_of.Statement.{statement}
 use Rattle.eval.proofs.take.elements_of.Tie as tie
-use Rattle.eval.proofs.take.elements_of.Reads as reads
-use Rattle.eval.proofs.take.elements_of.Lts as lts
-use Rattle.eval.proofs.take.elements_in.Reads as elements-in-reads
 
--- src/take.rt:35:25
 enum-told : tie.Need-enum-told
 enum-told c = search needs
 
--- src/take.rt:36:26
 enum-told-2 : tie.Need-enum-told-2
 enum-told-2 c = search needs
 
--- src/take.rt:37:25
 enum-told-3 : tie.Need-enum-told-3
 enum-told-3 c = search needs
 
--- src/take.rt:38:31
 enum-told-4 : tie.Need-enum-told-4
 enum-told-4 c = search needs
 
--- src/take.rt:39:31
 enum-told-5 : tie.Need-enum-told-5
 enum-told-5 c = search needs
 
--- src/take.rt:40:30
 enum-told-6 : tie.Need-enum-told-6
 enum-told-6 c = search needs
 
--- src/take.rt:41:26
 enum-known-h : tie.Need-enum-known-h
 enum-known-h c = search needs
 
--- src/take.rt:41:32
 elements-in-requires : tie.Need-elements-in-requires
 elements-in-requires c κs = search needs
 
--- src/take.rt:31:1
 returns : tie.Need-returns
 returns c = search needs
 
--- src/take.rt:31:1
 returns-2 : tie.Need-returns-2
 returns-2 c = search needs
 
--- src/take.rt:31:1
 returns-3 : tie.Need-returns-3
 returns-3 c = search needs
 
--- src/take.rt:31:1
 returns-4 : tie.Need-returns-4
 returns-4 c = search needs
 
--- src/take.rt:31:1
 returns-5 : tie.Need-returns-5
 returns-5 c = search needs
 
--- src/take.rt:31:1
 returns-6 : tie.Need-returns-6
 returns-6 c = search needs
 
--- src/take.rt:31:1
 returns-7 : tie.Need-returns-7
 returns-7 c = c .elements-in .ensures ∙ sym (ap elementsOf (c .before .before .h .given .1))
 

@@ -2,121 +2,85 @@ use Rattle.eval.proofs.Steps.{taken, branch-ends, initial-room, item-ro
 use borrow.Author.Needs.{needs}
 use Rattle.eval.proofs.take.take.Statement.{statement}
 use Rattle.eval.proofs.take.take.Tie as tie
-use Rattle.eval.proofs.take.take.Reads as reads
-use Rattle.eval.proofs.take.take.Lts as lts
-use Rattle.eval.proofs.take.after_argument.Reads as after-argument-reads
-use Rattle.eval.proofs.take.after_conjunct.Reads as after-conjunct-reads
-use Rattle.eval.proofs.take.after_guard.Reads as after-guard-reads
-use Rattle.eval.proofs.take.after_initial.Reads as after-initial-reads
-use Rattle.eval.proofs.take.after_source.Reads as after-source-reads
-use Rattle.eval.proofs.take.next_item.Reads as next-item-reads
-use Rattle.eval.proofs.task.operand.Reads as operand-reads
 
--- src/take.rt:195:22
 enum-known-e : tie.Need-enum-known-e
 enum-known-e c = search needs
 
--- src/take.rt:196:9
 enum-told : tie.Need-enum-told
 enum-told c = search needs
 
--- src/take.rt:196:9
 returns : tie.Need-returns
 returns c = take-stops (c .before .before .before .before .before .before .before .args .e) (c .enum-told .given .0 .0) (c .enum-told .given .0 .1 .0) (c .enum-told .given .1) (c .before .before .before .before .before .before .before .pre)
 
--- src/take.rt:199:9
 operand-requires : tie.Need-operand-requires
 operand-requires c κs = search needs
 
--- src/take.rt:201:25
 enum-told-2 : tie.Need-enum-told-2
 enum-told-2 c = search needs
 
--- src/take.rt:201:25
 after-guard-requires : tie.Need-after-guard-requires
 after-guard-requires c κs = search needs
 
--- src/take.rt:202:26
 enum-told-3 : tie.Need-enum-told-3
 enum-told-3 c = search needs
 
--- src/take.rt:203:25
 enum-known-frame : tie.Need-enum-known-frame
 enum-known-frame c = search needs
 
--- src/take.rt:203:35
 after-conjunct-requires : tie.Need-after-conjunct-requires
 after-conjunct-requires c κs = search needs
 
--- src/take.rt:204:26
 enum-told-4 : tie.Need-enum-told-4
 enum-told-4 c = search needs
 
--- src/take.rt:204:26
 after-source-requires : tie.Need-after-source-requires
 after-source-requires c κs = search needs
 
--- src/take.rt:205:26
 enum-known-frame-2 : tie.Need-enum-known-frame-2
 enum-known-frame-2 c = search needs
 
--- src/take.rt:206:13
 after-initial-requires : tie.Need-after-initial-requires
 after-initial-requires c κs = initial-room (c .before .before .before .before .before .before .e .given .0 .0) (c .before .before .before .before .before .before .e .given .0 .1 .0) (c .before .before .before .before .before .before .e .given .1) (c .before .before .before .before .before .before .before .before .before .before .before .before .before .pre) (c .before .before .frame2 .given .0 .0) (c .before .before .frame2 .given .0 .1 .0) (c .before .before .before .before .operand .result) (c .before .before .frame2 .given .1) (c .before .before .before .before .operand .ensures)
 
--- src/take.rt:208:21
 enum-known-frame-3 : tie.Need-enum-known-frame-3
 enum-known-frame-3 c = search needs
 
--- src/take.rt:208:31
 next-item-requires : tie.Need-next-item-requires
 next-item-requires c κs = item-room (c .before .before .before .before .before .before .e .given .0 .0) (c .before .before .before .before .before .before .e .given .0 .1 .0) (c .before .before .before .before .before .before .e .given .1) (c .before .before .before .before .before .before .before .before .before .before .before .before .before .pre) (c .before .before .frame3 .given .0 .0) (c .before .before .before .before .operand .result) (c .before .before .frame3 .given .1) (c .before .before .before .before .operand .ensures)
 
--- src/take.rt:209:25
 enum-known-frame-4 : tie.Need-enum-known-frame-4
 enum-known-frame-4 c = search needs
 
--- src/take.rt:209:31
 after-argument-requires : tie.Need-after-argument-requires
 after-argument-requires c κs = argument-room (c .before .before .before .before .before .before .e .given .0 .0) (c .before .before .before .before .before .before .e .given .0 .1 .0) (c .before .before .before .before .before .before .e .given .1) (c .before .before .before .before .before .before .before .before .before .before .before .before .before .pre) (c .before .before .frame4 .given .0 .0) (c .before .before .before .before .operand .result) (c .before .before .frame4 .given .1) (c .before .before .before .before .operand .ensures)
 
--- src/take.rt:182:1
 returns-2 : tie.Need-returns-2
 returns-2 c = taken (c .before .before .before .before .before .e .given .0 .0) (c .before .before .before .before .before .e .given .0 .1 .0) (c .before .before .before .before .before .e .given .1) (c .before .before .before .before .before .before .before .before .before .before .before .before .pre) (c .before .before .before .operand .result) (c .before .before .before .operand .ensures) (rw (c .before .enum-told2 .given .1) (c .after-guard .ensures .takes _ _ _ _))
 
--- src/take.rt:182:1
 returns-3 : tie.Need-returns-3
 returns-3 c = branch-ends (c .before .before .before .before .e .given .0 .0) (c .before .before .before .before .e .given .0 .1 .0) (c .before .before .before .before .e .given .1) (c .before .before .before .before .before .before .before .before .before .before .before .pre) (c .enum-told3 .given .1)
 
--- src/take.rt:182:1
 returns-4 : tie.Need-returns-4
 returns-4 c = taken (c .before .before .before .before .before .before .e .given .0 .0) (c .before .before .before .before .before .before .e .given .0 .1 .0) (c .before .before .before .before .before .before .e .given .1) (c .before .before .before .before .before .before .before .before .before .before .before .before .before .pre) (c .before .before .before .before .operand .result) (c .before .before .before .before .operand .ensures) (rw (c .before .before .frame .given .1) (c .after-conjunct .ensures .takes _ _ _ _))
 
--- src/take.rt:182:1
 returns-5 : tie.Need-returns-5
 returns-5 c = taken (c .before .before .before .before .before .e .given .0 .0) (c .before .before .before .before .before .e .given .0 .1 .0) (c .before .before .before .before .before .e .given .1) (c .before .before .before .before .before .before .before .before .before .before .before .before .pre) (c .before .before .before .operand .result) (c .before .before .before .operand .ensures) (rw (c .before .enum-told4 .given .1) (c .after-source .ensures .takes _ _ _ _))
 
--- src/take.rt:182:1
 same-length : tie.Need-same-length
 same-length c = search needs
 
--- src/take.rt:182:1
 returns-6 : tie.Need-returns-6
 returns-6 c = taken (c .before .before .before .before .before .before .before .before .before .e .given .0 .0) (c .before .before .before .before .before .before .before .before .before .e .given .0 .1 .0) (c .before .before .before .before .before .before .before .before .before .e .given .1) (c .before .before .before .before .before .before .before .before .before .before .before .before .before .before .before .before .pre) (c .before .before .before .before .before .before .before .operand .result) (c .before .before .before .before .before .before .before .operand .ensures) (rw (c .before .before .before .before .before .frame2 .given .1) (c .before .before .after-initial .ensures .takes _ _ _))
 
--- src/take.rt:182:1
 same-length-2 : tie.Need-same-length-2
 same-length-2 c = search needs
 
--- src/take.rt:182:1
 returns-7 : tie.Need-returns-7
 returns-7 c = taken (c .before .before .before .before .before .before .before .before .before .e .given .0 .0) (c .before .before .before .before .before .before .before .before .before .e .given .0 .1 .0) (c .before .before .before .before .before .before .before .before .before .e .given .1) (c .before .before .before .before .before .before .before .before .before .before .before .before .before .before .before .before .pre) (c .before .before .before .before .before .before .before .operand .result) (c .before .before .before .before .before .before .before .operand .ensures) (rw (c .before .before .before .before .before .frame3 .given .1) (c .before .before .next-item .ensures .takes _ _ _))
 
--- src/take.rt:182:1
 same-length-3 : tie.Need-same-length-3
 same-length-3 c = search needs
 
--- src/take.rt:182:1
 returns-8 : tie.Need-returns-8
 returns-8 c = taken (c .before .before .before .before .before .before .before .before .before .e .given .0 .0) (c .before .before .before .before .before .before .before .before .before .e .given .0 .1 .0) (c .before .before .before .before .before .before .before .before .before .e .given .1) (c .before .before .before .before .before .before .before .before .before .before .before .before .before .before .before .before .pre) (c .before .before .before .before .before .before .before .operand .result) (c .before .before .before .before .before .before .before .operand .ensures) (rw (c .before .before .before .before .before .frame4 .given .1) (c .before .before .after-argument .ensures))
 
