@@ -4,4 +4,5 @@ pub mod Stage
 pub mod Texts
 pub mod Contract
 pub mod Inner
+pub mod LongAreas
 pub mod Laws

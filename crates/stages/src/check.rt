@@ -8,7 +8,7 @@ use kinds::found::Found;
 use types::set::bits;
 ghost use mathlib.Core.Path.{_≡_};
 ghost use Rattle.stages.specs.Areas.{textAreas};
-ghost use Rattle.stages.specs.Contract.{Long, ChecksTexts};
+ghost use Rattle.stages.specs.Contract.{ChecksTexts};
 ghost use Rattle.stages.specs.Inner.{foundAs};
 
 // The types found, as bits; 0 with a refusal.
@@ -41,7 +41,6 @@ pub fn check_texts(
     sheet_table: &mut [u8],
     sheet_strings: &mut [u8],
 ) -> Checked
-    requires { ⌜ Long (textAreas (now «rule_table») (now «rule_strings»)) × Long (textAreas (now «sheet_table») (now «sheet_strings»)) ⌝ }
     ensures { λ r. ⌜ ChecksTexts (now (rule .entry)) (now (sheet .entry)) (textAreas (now («rule_table» .entry)) (now («rule_strings» .entry))) (textAreas (now («sheet_table» .entry)) (now («sheet_strings» .entry))) r (textAreas (now («rule_table» .exit)) (now («rule_strings» .exit))) (textAreas (now («sheet_table» .exit)) (now («sheet_strings» .exit))) ⌝ }
 {
     let a = read_rule(rule, rule_table, rule_strings);

@@ -4,7 +4,7 @@ use crate::text::Stop;
 use crate::text::read_text;
 use sheet::fit::fits;
 ghost use Rattle.stages.specs.Areas.{textAreas};
-ghost use Rattle.stages.specs.Contract.{Long, FitsTexts};
+ghost use Rattle.stages.specs.Contract.{FitsTexts};
 
 // Whether the record fits; no with a refusal.
 pub struct Fitted {
@@ -20,7 +20,6 @@ pub fn fit_texts(
     record_table: &mut [u8],
     record_strings: &mut [u8],
 ) -> Fitted
-    requires { ⌜ Long (textAreas (now «sheet_table») (now «sheet_strings»)) × Long (textAreas (now «record_table») (now «record_strings»)) ⌝ }
     ensures { λ r. ⌜ FitsTexts (now (sheet .entry)) (now («record» .entry)) (textAreas (now («sheet_table» .entry)) (now («sheet_strings» .entry))) (textAreas (now («record_table» .entry)) (now («record_strings» .entry))) r (textAreas (now («sheet_table» .exit)) (now («sheet_strings» .exit))) (textAreas (now («record_table» .exit)) (now («record_strings» .exit))) ⌝ }
 {
     let a = read_sheet(sheet, sheet_table, sheet_strings);

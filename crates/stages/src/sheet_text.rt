@@ -4,11 +4,10 @@ use crate::text::Stop;
 use crate::text::read_text;
 use sheet::check::is_sheet;
 ghost use Rattle.stages.specs.Areas.{textAreas};
-ghost use Rattle.stages.specs.Contract.{Long, ReadsSheet};
+ghost use Rattle.stages.specs.Contract.{ReadsSheet};
 
 // A sheet's text; 14 where it is not one.
 pub fn read_sheet(text: &[u8], table: &mut [u8], strings: &mut [u8]) -> Stop
-    requires { ⌜ Long (textAreas (now table) (now strings)) ⌝ }
     ensures { λ r. ⌜ ReadsSheet (now (text .entry)) (textAreas (now (table .entry)) (now (strings .entry))) r (textAreas (now (table .exit)) (now (strings .exit))) ⌝ }
 {
     let a = read_text(2, text, table, strings);

@@ -8,7 +8,7 @@ use syntax::TABLE_BYTES;
 ghost use mathlib.Core.Path.{_≡_};
 ghost use Rattle.syntax.specs.Entry.{tooShort};
 ghost use Rattle.stages.specs.Areas.{textAreas};
-ghost use Rattle.stages.specs.Contract.{Long, Reads, ReadsRule};
+ghost use Rattle.stages.specs.Contract.{Reads, ReadsRule};
 ghost use Rattle.stages.specs.Inner.{toldOf};
 
 // A refusal's number, or 0, and the text and place that are told with it.
@@ -44,7 +44,6 @@ fn told(which: usize, a: Reading) -> Stop
 
 // A text.
 pub fn read_text(which: usize, text: &[u8], table: &mut [u8], strings: &mut [u8]) -> Stop
-    requires { ⌜ Long (textAreas (now table) (now strings)) ⌝ }
     ensures { λ r. ⌜ Reads which (now (text .entry)) (textAreas (now (table .entry)) (now (strings .entry))) r (textAreas (now (table .exit)) (now (strings .exit))) ⌝ }
 {
     told(which, read(text, table, strings))
@@ -52,7 +51,6 @@ pub fn read_text(which: usize, text: &[u8], table: &mut [u8], strings: &mut [u8]
 
 // A rule's text; 6 where it is not one.
 pub fn read_rule(text: &[u8], table: &mut [u8], strings: &mut [u8]) -> Stop
-    requires { ⌜ Long (textAreas (now table) (now strings)) ⌝ }
     ensures { λ r. ⌜ ReadsRule (now (text .entry)) (textAreas (now (table .entry)) (now (strings .entry))) r (textAreas (now (table .exit)) (now (strings .exit))) ⌝ }
 {
     let a = read_text(1, text, table, strings);

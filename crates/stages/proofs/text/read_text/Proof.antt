@@ -21,7 +21,7 @@ same-length-2 c = search needs
 
 -- src/text.rt:56:1
 returns : tie.Need-returns
-returns c = text-read (c .before .before .before .before .before .before .before .before .before .before .before .args .which) (c .before .before .before .before .before .before .before .before .before .before .before .pre) (c .before .before .before .before .before .read .ensures) (c .told .ensures)
+returns c = text-read (c .before .before .before .before .before .before .before .before .before .before .before .args .which) (c .before .before .before .before .before .read .ensures) (c .told .ensures)
 
 pub read-text-spec : {M : Type 1} → statement M
 read-text-spec = tie.close (tie.spec read-requires told-requires same-length same-length-2 returns)
