@@ -1,7 +1,7 @@
 -- Integers: an integer from the number in a row, to which 2^53 was added.
 use mathlib.Core.Path.{_≡_, ap, _∙_}
-use mathlib.Core.Bool.{true}
-use Prim.Native.Nat.{ℕ, suc, _-_, _<_}
+use mathlib.Core.Bool.{true, false}
+use Prim.Native.Nat.{ℕ, suc, _-_, _<_, _≤_}
 use native.Mathlib.Decide.{decLt}
 use native.Mathlib.Omega.{arith}
 use borrow.Author.Tests.{lt-ltb, le-ltb, le-leb, lt-leb}
@@ -13,7 +13,9 @@ use mir.Val.{SFits, ofZ, toZ}
 use Rattle.model.specs.Limits.{maxInteger}
 use Rattle.model.specs.Laws.Logic.{and-r}
 use Rattle.syntax.specs.Layout.{unbiased}
-use Rattle.viewer.specs.Form.{isInteger}
+use Rattle.table.specs.declared.row.Row.{Row}
+use Rattle.table.specs.Row.{joined}
+use Rattle.viewer.specs.Form.{isInteger, integerIn}
 
 pub integer-small : (n : ℕ) → isInteger n ≡ true → n < 18014398509481984
 unfolding maxInteger
@@ -46,3 +48,15 @@ minus-fits n h = rw (minus-is n h) (unbiased-fits n h)
 
 pub integer-is : (n : ℕ) → n < 18014398509481984 → toZ w64 (ofZ w64 (toZ w64 n -ℤ pos 9007199254740992)) ≡ unbiased n
 integer-is n h = toZ-ofZ (minus-fits n h) ∙ minus-is n h
+
+-- ---- by a row's two numbers
+module _ (r : Row) where
+  pub an-integer-in : isInteger (joined r) ≡ true → unbiased (joined r) ≡ integerIn r
+  an-integer-in e = rw e
+
+  pub no-integer-in : isInteger (joined r) ≡ false → pos 0 ≡ integerIn r
+  no-integer-in e = rw e
+
+  pub too-large : 18014398509481984 ≤ joined r → pos 0 ≡ integerIn r
+  unfolding maxInteger
+  too-large h = no-integer-in (rw (le-leb 1 (joined r) (omega arith), lt-leb (joined r) 18014398509481983 (omega arith)))

@@ -2,8 +2,9 @@
 use mathlib.Core.Bool.{Bool, false, _&&_, cond}
 use Prim.Native.Nat.{ℕ, _+_, _*_, _-_}
 use lib.Dec.{eqb, ltb, leb}
+use lib.IntN.{ℤ, pos}
 use Rattle.model.specs.Limits.{maxInteger}
-use Rattle.syntax.specs.Layout.{stringsBytes}
+use Rattle.syntax.specs.Layout.{stringsBytes, unbiased}
 use Rattle.table.specs.declared.row.Row.{Row}
 use Rattle.table.specs.Row.{joined}
 
@@ -14,6 +15,10 @@ isWithin start size = leb (start + size) stringsBytes
 -- 2^53, one more than the largest integer, was added to an integer within the limits.
 abbrev pub isInteger : ℕ → Bool
 isInteger n = leb 1 n && leb n (2 * maxInteger + 1)
+
+-- The integer in a row's last two numbers; 0 where they are none's.
+abbrev pub integerIn : Row → ℤ
+integerIn r = cond (isInteger (joined r)) (unbiased (joined r)) (pos 0)
 
 -- A container ends behind its row and within the rows. It has no part exactly if the next row is its end, and never more than the rows between.
 abbrev pub isSpan : ℕ → ℕ → ℕ → ℕ → Bool

@@ -10,15 +10,14 @@ use syntax::STRINGS_BYTES;
 use table::row::Row;
 use table::row::join;
 use table::row::row_at;
-ghost use mathlib.Core.Bool.{true};
 ghost use mathlib.Core.Path.{_≡_};
-ghost use Prim.Native.Nat.{_/_, _<_};
-ghost use lib.ListN.{length};
-ghost use Rattle.syntax.specs.Layout.{rowBytes, unbiased};
-ghost use Rattle.viewer.specs.Form.{isWithin, isInteger, isSpan, hasContent, hasForm};
-ghost use Rattle.table.specs.Row.{numbersAt, Halves, joined};
+ghost use Rattle.viewer.specs.Form.{isWithin, isInteger, integerIn, isSpan, hasContent, hasForm};
+ghost use Rattle.table.specs.Row.{Halves};
 ghost use Rattle.viewer.specs.Row.{rowCount, countOf};
 ghost use Rattle.viewer.specs.View.{rowSeen};
+
+// No integer is as large, with 2^53 added.
+const TOO_LARGE: usize = 2 * BIAS as usize;
 
 // A row that is there and has the form; or refusal 1.
 pub enum RowAnswer {
@@ -135,10 +134,19 @@ pub fn count_of(r: Row) -> usize
     r.first
 }
 
-// The integer in a row of an integer.
+// The integer in a row of an integer; 0 where the row's numbers are none's.
 pub fn integer_of(r: Row) -> i64
-    requires { ⌜ isInteger (joined r) ≡ true ⌝ }
-    ensures { λ x. ⌜ x ≡ unbiased (joined r) ⌝ }
+    ensures { λ x. ⌜ x ≡ integerIn r ⌝ }
 {
-    join(r) as i64 - BIAS as i64
+    if r.first >= TOO_LARGE {
+        return 0;
+    }
+    if r.second >= TOO_LARGE / 4294967296 {
+        return 0;
+    }
+    let n = join(r);
+    if is_integer(n) {
+        return n as i64 - BIAS as i64;
+    }
+    0
 }
