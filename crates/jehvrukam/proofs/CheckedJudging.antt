@@ -15,9 +15,10 @@ use Rattle.eval.specs.Evaluate.{Ready, Evaluates}
 use Rattle.sheet.specs.Contract.{Fits}
 use Rattle.stages.specs.declared.check.Checked.{Checked}
 use Rattle.stages.specs.declared.text.Stop as stages
-use Rattle.stages.specs.Areas.{TextAreas, textAreas, holding}
-use Rattle.stages.specs.Contract.{stopOf, leftAfter, wordsOf, Reads, ChecksTexts}
+use Rattle.stages.specs.Areas.{TextAreas, textAreas, holding, leftBy}
+use Rattle.stages.specs.Contract.{stopOf, leftAfter, wordsOf}
 use Rattle.stages.specs.Laws.{number-some, Passed, Stopped, CheckHeld, check-held, TextHeld, text-held, record-held, left-holding, left-sheet, left-denotes}
+use Rattle.stages.specs.LongAreas.{ReadsLong, ChecksLong}
 use Rattle.stages.specs.Stage.{Stage, passed, refused, ruleText, sheetText, recordText, readAs}
 use Rattle.stages.specs.Texts.{TextsChecked, checkStage, CheckedTextsRead, evaluateCheckedStage}
 use Rattle.jehvrukam.specs.declared.evaluate_checked.CheckedOutcome.{CheckedOutcome}
@@ -41,7 +42,7 @@ all-read : (rule sheet d : Bytes) (t : TextsChecked) (v : Value) → checkStage 
 all-read rule sheet d t v e f = rw (e, f)
 
 module _ (rule sheet d : Bytes) (limit : ℕ) (T A S Z R B C O : Bytes) {T′ A′ S′ Z′ : Bytes} {c : Checked}
-    (h : ChecksTexts rule sheet (textAreas T A) (textAreas S Z) c (textAreas T′ A′) (textAreas S′ Z′)) (l : AsLong T A T′ A′) (m : AsLong S Z S′ Z′) where
+    (h : ChecksLong rule sheet (textAreas T A) (textAreas S Z) c (textAreas T′ A′) (textAreas S′ Z′)) (l : AsLong T A T′ A′) (m : AsLong S Z S′ Z′) where
   abbrev lent : CheckedAreas
   lent = checkedAreasOf T A S Z R B C O
 
@@ -55,7 +56,7 @@ module _ (rule sheet d : Bytes) (limit : ℕ) (T A S Z R B C O : Bytes) {T′ A�
   pub check-stops : {o : CheckedOutcome} → (c .stop .refusal ≡ 0 → ⊥) → o ≡ checkedUnrun (c .stop) → Judges checkedZeros Whole lent (o .refusal) (checkedTold o) (checkedAreasOf T′ A′ S′ Z′ R B C O)
   check-stops n e = rw e (stopping (checkStage rule sheet) (evaluateCheckedStage rule sheet d) (λ p. rw (p .is)) (h .stop) n (as-long l m (same-long R B) (same-long C O)))
 
-  module _ (zero : c .stop .refusal ≡ 0) {R′ B′ : Bytes} {q : stages.Stop} (g : Reads recordText d (textAreas R B) q (textAreas R′ B′)) (k : AsLong R B R′ B′) where
+  module _ (zero : c .stop .refusal ≡ 0) {R′ B′ : Bytes} {q : stages.Stop} (g : ReadsLong (readAs recordText d) d (textAreas R B) q (textAreas R′ B′)) (k : AsLong R B R′ B′) where
     pub check-passes : Passed (checkStage rule sheet)
     check-passes = passes-stage (checkStage rule sheet) (h .stop) zero
 
@@ -81,8 +82,8 @@ module _ (rule sheet d : Bytes) (limit : ℕ) (T A S Z R B C O : Bytes) {T′ A�
       sheet-text-held : TextHeld sheetIn sheet (checked .sheet)
       sheet-text-held = text-held sheetText sheetIn sheet (checked .sheet) (held .sheet-passes)
 
-      sheet-left : textAreas S′ Z′ ≡ leftAfter (passed (checked .rule)) sheet (textAreas S Z)
-      sheet-left = h .sheet-areas ∙ ap (λ y. leftAfter y sheet (textAreas S Z)) (held .rule-passes)
+      sheet-left : textAreas S′ Z′ ≡ leftBy sheet (textAreas S Z)
+      sheet-left = h .sheet-areas ∙ ap (λ y. leftAfter y (textAreas S Z) (leftBy sheet (textAreas S Z))) (held .rule-passes)
 
       pub texts : Texts rule d (checked .rule) value T A R B T′ A′ R′ B′
       texts = record { rule = rule-text-held; rule-left = h .rule-areas; reads = record-held d value (record-passes .is); record-left = g .areas }

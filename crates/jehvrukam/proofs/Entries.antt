@@ -8,7 +8,7 @@ use Rattle.model.specs.Bytes.{Bytes}
 use Rattle.model.specs.Judgement.{Judged, done, refuses, answerOf}
 use Rattle.syntax.specs.Entry.{tooShort}
 use Rattle.stages.specs.Areas.{TextAreas, textAreas, zeroed}
-use Rattle.stages.specs.Contract.{Long}
+use Rattle.stages.specs.LongAreas.{Long}
 use Rattle.stages.specs.Stage.{Stage, passed, refused}
 use Rattle.stages.specs.Texts.{TextsRead, evaluateStage, CheckedTextsRead, evaluateCheckedStage}
 use Rattle.jehvrukam.specs.declared.evaluate_checked.CheckedOutcome.{CheckedOutcome}

@@ -11,8 +11,9 @@ use Rattle.eval.specs.declared.Answer as evaluating
 use Rattle.eval.specs.Evaluate.{Ready, Evaluates}
 use Rattle.stages.specs.declared.text.Stop as stages
 use Rattle.stages.specs.Areas.{textAreas, holding}
-use Rattle.stages.specs.Contract.{stopOf, Reads, ReadsRule}
+use Rattle.stages.specs.Contract.{stopOf}
 use Rattle.stages.specs.Laws.{number-some, Passed, Stopped, text-held, record-held, left-holding}
+use Rattle.stages.specs.LongAreas.{ReadsLong}
 use Rattle.stages.specs.Stage.{Stage, passed, refused, ruleText, recordText, readAs}
 use Rattle.stages.specs.Texts.{TextRead, ruleStage, TextsRead, evaluateStage}
 use Rattle.jehvrukam.specs.declared.evaluate.Outcome.{Outcome}
@@ -31,7 +32,7 @@ as-long t r c = λ i. record { rule = long-text t i; «record» = long-text r i;
 both-read : (s d : Bytes) (x : TextRead Rule) (v : Value) → ruleStage s ≡ passed x → readAs recordText d ≡ passed v → evaluateStage s d ≡ passed (record { rule = x; «record» = v })
 both-read s d x v e f = rw (e, f)
 
-module _ (s d : Bytes) (limit : ℕ) (T A R B C O : Bytes) {T′ A′ : Bytes} {r : stages.Stop} (h : ReadsRule s (textAreas T A) r (textAreas T′ A′)) where
+module _ (s d : Bytes) (limit : ℕ) (T A R B C O : Bytes) {T′ A′ : Bytes} {r : stages.Stop} (h : ReadsLong (ruleStage s) s (textAreas T A) r (textAreas T′ A′)) where
   abbrev lent : Areas
   lent = areasOf T A R B C O
 
@@ -45,7 +46,7 @@ module _ (s d : Bytes) (limit : ℕ) (T A R B C O : Bytes) {T′ A′ : Bytes} {
   pub rule-stops : {o : Outcome} → (r .refusal ≡ 0 → ⊥) → o ≡ unrun r → AsLong T A T′ A′ → Judges zeros Whole lent (o .refusal) (told o) (areasOf T′ A′ R B C O)
   rule-stops n e l = rw e (stopping (ruleStage s) (evaluateStage s d) (λ p. rw (p .is)) (h .stop) n (as-long l (same-long R B) (same-long C O)))
 
-  module _ (zero : r .refusal ≡ 0) {R′ B′ : Bytes} {q : stages.Stop} (g : Reads recordText d (textAreas R B) q (textAreas R′ B′)) (l : AsLong T A T′ A′) (m : AsLong R B R′ B′) where
+  module _ (zero : r .refusal ≡ 0) {R′ B′ : Bytes} {q : stages.Stop} (g : ReadsLong (readAs recordText d) d (textAreas R B) q (textAreas R′ B′)) (l : AsLong T A T′ A′) (m : AsLong R B R′ B′) where
     pub rule-passes : Passed (ruleStage s)
     rule-passes = passes-stage (ruleStage s) (h .stop) zero
 

@@ -9,9 +9,10 @@ use Rattle.syntax.specs.Entry.{tooShort}
 use Rattle.stages.specs.declared.check.Checked.{Checked}
 use Rattle.stages.specs.declared.fit.Fitted.{Fitted}
 use Rattle.stages.specs.declared.text.Stop as stages
-use Rattle.stages.specs.Areas.{TextAreas, textAreas, zeroed, holding}
+use Rattle.stages.specs.Areas.{TextAreas, textAreas, zeroed, holding, leftBy}
 use Rattle.stages.specs.Contract.{stopOf, leftAfter, wordsOf, ChecksTexts, fitOf, FitsTexts}
 use Rattle.stages.specs.Laws.{number-some, text-held, record-held, left-holding, check-held, fits-held}
+use Rattle.stages.specs.LongAreas.{ChecksLong, check-long, FitsLong, fit-long}
 use Rattle.stages.specs.Stage.{Stage, passed, refused, ruleText, sheetText}
 use Rattle.stages.specs.Texts.{TextsChecked, checkStage, TextsFitted, fitsStage}
 use Rattle.jehvrukam.specs.Check.{CheckAreas, CheckNumbers, isCheckInvalid, checkZeros, checkAnswer, checkEntry}
@@ -39,10 +40,13 @@ module _ (rule sheet : Bytes) (T A S Z : Bytes) (n : CheckNumbers) where
     check-sheet-short e = check-invalid (second-true (tooShort T A) _ rule-long e)
 
     module _ (sheet-long : tooShort S Z ≡ false) {c : Checked} {T₁ A₁ S₁ Z₁ : Bytes} (h : ChecksTexts rule sheet (textAreas T A) (textAreas S Z) c (textAreas T₁ A₁) (textAreas S₁ Z₁)) (l : AsLong T A T₁ A₁) (m : AsLong S Z S₁ Z₁) where
+      check-told : ChecksLong rule sheet (textAreas T A) (textAreas S Z) c (textAreas T₁ A₁) (textAreas S₁ Z₁)
+      check-told = check-long rule sheet (record { long = rule-long }) (record { long = sheet-long }) h
+
       judges : (x : Stage TextsChecked) → checkStage rule sheet ≡ x → Judges checkZeros (checkAnswer check-lent x) check-lent (c .stop .refusal) (checkNumbersOf (c .stop .which) (c .stop .place) (c .words)) (checkAreasOf T₁ A₁ S₁ Z₁)
       judges x e =
-          let stop-is : c .stop ≡ stopOf x = h .stop ∙ ap stopOf e in
-          let words-are : c .words ≡ wordsOf x = h .words ∙ ap wordsOf e in
+          let stop-is : c .stop ≡ stopOf x = check-told .stop ∙ ap stopOf e in
+          let words-are : c .words ≡ wordsOf x = check-told .words ∙ ap wordsOf e in
           record { refusal = refusals x stop-is; numbers = (λ i. checkNumbersOf (stop-is i .which) (stop-is i .place) (words-are i)) ∙ numbers x; areas = λ f. areas x e (ap (λ (y : stages.Stop). y .refusal) (sym stop-is) ∙ f); sizes = λ i. checkParts (long-text l i) (long-text m i) }
         where
           refusals : (x : Stage TextsChecked) → c .stop ≡ stopOf x → c .stop .refusal ≡ checkAnswer check-lent x .refusal
@@ -59,8 +63,8 @@ module _ (rule sheet : Bytes) (T A S Z : Bytes) (n : CheckNumbers) where
               let k = check-held rule sheet t f in
               let r = text-held ruleText ruleIn rule (t .rule) (k .rule-passes) in
               let s = text-held sheetText sheetIn sheet (t .sheet) (k .sheet-passes) in
-              let rule-left : textAreas T₁ A₁ ≡ holding (t .rule .value) (textAreas T A) = h .rule-areas ∙ left-holding rule (t .rule .value) (textAreas T A) (r .reads) in
-              let sheet-left : textAreas S₁ Z₁ ≡ holding (t .sheet .value) (textAreas S Z) = h .sheet-areas ∙ ap (λ y. leftAfter y sheet (textAreas S Z)) (k .rule-passes) ∙ left-holding sheet (t .sheet .value) (textAreas S Z) (s .reads) in
+              let rule-left : textAreas T₁ A₁ ≡ holding (t .rule .value) (textAreas T A) = check-told .rule-areas ∙ left-holding rule (t .rule .value) (textAreas T A) (r .reads) in
+              let sheet-left : textAreas S₁ Z₁ ≡ holding (t .sheet .value) (textAreas S Z) = check-told .sheet-areas ∙ ap (λ y. leftAfter y (textAreas S Z) (leftBy sheet (textAreas S Z))) (k .rule-passes) ∙ left-holding sheet (t .sheet .value) (textAreas S Z) (s .reads) in
               λ i. checkParts (rule-left i) (sheet-left i)
 
       zeros : (x : Stage TextsChecked) → (checkAnswer check-lent x .refusal ≡ 0 → ⊥) → checkAnswer check-lent x .areas ≡ checkZeros check-lent
@@ -97,10 +101,13 @@ module _ (sheet record′ : Bytes) (S Z R B : Bytes) (n : FitsNumbers) where
     fits-record-short e = fits-invalid (second-true (tooShort S Z) _ sheet-long e)
 
     module _ (record-long : tooShort R B ≡ false) {c : Fitted} {S₁ Z₁ R₁ B₁ : Bytes} (h : FitsTexts sheet record′ (textAreas S Z) (textAreas R B) c (textAreas S₁ Z₁) (textAreas R₁ B₁)) (l : AsLong S Z S₁ Z₁) (m : AsLong R B R₁ B₁) where
+      fit-told : FitsLong sheet record′ (textAreas S Z) (textAreas R B) c (textAreas S₁ Z₁) (textAreas R₁ B₁)
+      fit-told = fit-long sheet record′ (record { long = sheet-long }) (record { long = record-long }) h
+
       fits-judges : (x : Stage TextsFitted) → fitsStage sheet record′ ≡ x → Judges fitsZeros (fitsAnswer fits-lent x) fits-lent (c .stop .refusal) (fitsNumbersOf (c .stop .which) (c .stop .place) (yesOrNo (c .fits))) (fitsAreasOf S₁ Z₁ R₁ B₁)
       fits-judges x e =
-          let stop-is : c .stop ≡ stopOf x = h .stop ∙ ap stopOf e in
-          let fit-is : c .fits ≡ fitOf x = h .fit ∙ ap fitOf e in
+          let stop-is : c .stop ≡ stopOf x = fit-told .stop ∙ ap stopOf e in
+          let fit-is : c .fits ≡ fitOf x = fit-told .fit ∙ ap fitOf e in
           record { refusal = refusals x stop-is; numbers = (λ i. fitsNumbersOf (stop-is i .which) (stop-is i .place) (yesOrNo (fit-is i))) ∙ numbers x; areas = λ f. areas x e (ap (λ (y : stages.Stop). y .refusal) (sym stop-is) ∙ f); sizes = λ i. fitsParts (long-text l i) (long-text m i) }
         where
           refusals : (x : Stage TextsFitted) → c .stop ≡ stopOf x → c .stop .refusal ≡ fitsAnswer fits-lent x .refusal
@@ -116,8 +123,8 @@ module _ (sheet record′ : Bytes) (S Z R B : Bytes) (n : FitsNumbers) where
           areas (passed t) f z =
               let k = fits-held sheet record′ t f in
               let s = text-held sheetText sheetIn sheet (t .sheet) (k .sheet-passes) in
-              let sheet-left : textAreas S₁ Z₁ ≡ holding (t .sheet .value) (textAreas S Z) = h .sheet-areas ∙ left-holding sheet (t .sheet .value) (textAreas S Z) (s .reads) in
-              let record-left : textAreas R₁ B₁ ≡ holding (t .«record») (textAreas R B) = h .record-areas ∙ ap (λ y. leftAfter y record′ (textAreas R B)) (k .sheet-passes) ∙ left-holding record′ (t .«record») (textAreas R B) (record-held record′ (t .«record») (k .record-passes)) in
+              let sheet-left : textAreas S₁ Z₁ ≡ holding (t .sheet .value) (textAreas S Z) = fit-told .sheet-areas ∙ left-holding sheet (t .sheet .value) (textAreas S Z) (s .reads) in
+              let record-left : textAreas R₁ B₁ ≡ holding (t .«record») (textAreas R B) = fit-told .record-areas ∙ ap (λ y. leftAfter y (textAreas R B) (leftBy record′ (textAreas R B))) (k .sheet-passes) ∙ left-holding record′ (t .«record») (textAreas R B) (record-held record′ (t .«record») (k .record-passes)) in
               λ i. fitsParts (sheet-left i) (record-left i)
 
       fits-zeros : (x : Stage TextsFitted) → (fitsAnswer fits-lent x .refusal ≡ 0 → ⊥) → fitsAnswer fits-lent x .areas ≡ fitsZeros fits-lent

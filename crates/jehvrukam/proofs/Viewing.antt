@@ -1,6 +1,5 @@
 -- Viewing: what an entry tells, from what the viewer answered; and a row of an integer that is told holds one.
 use mathlib.Core.Path.{_≡_, sym, ap, _∙_}
-use mathlib.Core.Bool.{true}
 use mathlib.Core.Option.{Option, none, some}
 use Prim.Native.Nat.{ℕ}
 use borrow.Author.Tests.{eq-eqb, ne-eqb}
@@ -8,7 +7,7 @@ use Rattle.model.specs.Bytes.{Bytes}
 use Rattle.model.specs.Laws.Logic.{T→true}
 use Rattle.syntax.specs.Layout.{unbiased}
 use Rattle.viewer.specs.Answer.{integerOf, stringOf}
-use Rattle.viewer.specs.Form.{isInteger}
+use Rattle.viewer.specs.Form.{isInteger, integerIn}
 use Rattle.table.specs.Row.{joined}
 use Rattle.viewer.specs.Row.{rowCount}
 use Rattle.viewer.specs.View.{rowSeen}
@@ -41,5 +40,5 @@ module _ (r : Row) where
   a-string h = rw (eq-eqb (r .kind) 5 h)
 
 -- ---- a row of kind 4 that is told holds an integer
-pub holds-integer : (table : Bytes) (place : ℕ) (r : Row) → rowSeen table place ≡ rows.Is r → r .kind ≡ 4 → isInteger (joined r) ≡ true
-holds-integer table place r e k = T→true (isInteger (joined r)) (form-integer (rowCount table) place r (seen-told table place r e .form) k)
+pub tells-integer : (table : Bytes) (place : ℕ) (r : Row) → rowSeen table place ≡ rows.Is r → r .kind ≡ 4 → integerIn r ≡ unbiased (joined r)
+tells-integer table place r e k = rw (T→true (isInteger (joined r)) (form-integer (rowCount table) place r (seen-told table place r e .form) k))

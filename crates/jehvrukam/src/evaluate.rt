@@ -8,7 +8,7 @@ use stages::text::read_rule;
 use stages::text::read_text;
 ghost use mathlib.Core.Path.{_≡_};
 ghost use Rattle.stages.specs.Areas.{textAreas};
-ghost use Rattle.stages.specs.Contract.{Long};
+ghost use Rattle.stages.specs.LongAreas.{Long};
 ghost use Rattle.stages.specs.Texts.{evaluateStage};
 ghost use Rattle.jehvrukam.specs.Contract.{areasOf};
 ghost use Rattle.jehvrukam.specs.Entry.{cannotRun};

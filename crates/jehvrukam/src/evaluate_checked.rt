@@ -6,7 +6,7 @@ use stages::text::Stop;
 use stages::text::read_text;
 ghost use mathlib.Core.Path.{_≡_};
 ghost use Rattle.stages.specs.Areas.{textAreas};
-ghost use Rattle.stages.specs.Contract.{Long};
+ghost use Rattle.stages.specs.LongAreas.{Long};
 ghost use Rattle.stages.specs.Texts.{evaluateCheckedStage};
 ghost use Rattle.jehvrukam.specs.Contract.{checkedAreasOf};
 ghost use Rattle.jehvrukam.specs.EvaluateChecked.{checkedZeros, evaluateCheckedAnswer};

@@ -46,7 +46,7 @@ returns-2 c = check-sheet-short _ _ _ _ _ _ _ (sym (c .before .before .before .b
 
 -- src/lib.rt:61:9
 check-texts-requires : tie.Need-check-texts-requires
-check-texts-requires c κs = (record { long = (sym (c .before .before .before .before .before .before .before .before .before .is-short .ensures) ∙ c .before .before .before .before .before .before .before .before .if1 .left) }, record { long = (sym (c .before .before .before .before .before .is-short2 .ensures) ∙ c .before .before .before .before .if2 .left) })
+check-texts-requires c κs = search needs
 
 -- src/lib.rt:70:5
 settle-requires : tie.Need-settle-requires

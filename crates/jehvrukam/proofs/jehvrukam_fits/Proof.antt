@@ -46,7 +46,7 @@ returns-2 c = fits-record-short _ _ _ _ _ _ _ (sym (c .before .before .before .b
 
 -- src/lib.rt:101:9
 fit-texts-requires : tie.Need-fit-texts-requires
-fit-texts-requires c κs = (record { long = (sym (c .before .before .before .before .before .before .before .before .before .is-short .ensures) ∙ c .before .before .before .before .before .before .before .before .if1 .left) }, record { long = (sym (c .before .before .before .before .before .is-short2 .ensures) ∙ c .before .before .before .before .if2 .left) })
+fit-texts-requires c κs = search needs
 
 -- src/lib.rt:110:5
 settle-requires : tie.Need-settle-requires

@@ -3,7 +3,7 @@ use mathlib.Core.Path.{refl, sym, ap, _∙_}
 use mathlib.Core.Option.{some}
 use mir.Facts.{toZ-ofZ}
 use Rattle.viewer.specs.Answer.{integerOf}
-use Rattle.jehvrukam.proofs.Viewing.{tells-none, tells-some, no-integer, an-integer, holds-integer}
+use Rattle.jehvrukam.proofs.Viewing.{tells-none, tells-some, no-integer, an-integer, tells-integer}
 use Rattle.jehvrukam.proofs.view.jehvrukam_view_integer.Statement.{statement}
 use Rattle.jehvrukam.proofs.view.jehvrukam_view_integer.Tie as tie
 
@@ -25,15 +25,13 @@ returns-2 c =
     tells-none integerOf (d .before .before .row-at .ensures) (d .r .given .1) (no-integer (d .r .given .0 .0) (c .if1 .taken))
 
 integer-of-requires : tie.Need-integer-of-requires
-integer-of-requires c κs =
-    let d = c .before .before .before in
-    let a = d .before .before .before .before .args in
-    holds-integer (a .table .now) (a .place) _ (sym (d .before .before .row-at .ensures) ∙ d .r .given .1) (c .if1 .left)
+integer-of-requires c κs = search needs
 
 returns-3 : tie.Need-returns-3
 returns-3 c =
     let d = c .before .before .before .before in
-    let e = toZ-ofZ (sfits-of (c .integer-of .ok)) ∙ c .integer-of .ensures in
+    let a = d .before .before .before .before .args in
+    let e = toZ-ofZ (sfits-of (c .integer-of .ok)) ∙ c .integer-of .ensures ∙ tells-integer (a .table .now) (a .place) _ (sym (d .before .before .row-at .ensures) ∙ d .r .given .1) (c .before .if1 .left) in
     tells-some integerOf (d .before .before .row-at .ensures) (d .r .given .1) _ (an-integer (d .r .given .0 .0) (c .before .if1 .left) ∙ ap some (sym e))
 
 pub jehvrukam-view-integer-spec : {M : Type 1} → statement M
