@@ -2,8 +2,9 @@
 use crate::month::month_days;
 use model::Date;
 ghost use mathlib.Core.Path.{_≡_};
-ghost use Prim.Native.Nat.{_+_, _-_, _<_, _≤_};
+ghost use Prim.Native.Nat.{_+_, _-_, _/_, _<_, _≤_};
 ghost use Rattle.model.specs.Calendar.{isValid, months, sumFirst, yearDays, yearStart, dayNumber, dateOfDay};
+ghost use Rattle.model.specs.Instant.{msPerDay};
 ghost use Rattle.days.specs.Contract.{WithinYears};
 
 pub const MS_PER_DAY: u64 = 86400000;
@@ -78,7 +79,7 @@ fn date_in_year(year: u64, n: u64) -> Date
 }
 
 // The date of a day. No year has more than 366 days, so that the year is n / 366 or a later one.
-pub fn date_of_day(n: u64) -> Date
+fn date_of_day(n: u64) -> Date
     requires { ⌜ n ≤ 1000000000000 ⌝ }
     ensures { λ r. ⌜ r ≡ dateOfDay n ⌝ }
 {
@@ -87,4 +88,11 @@ pub fn date_of_day(n: u64) -> Date
         year += 1;
     }
     date_in_year(year, n - year_start(year))
+}
+
+// The date of the day on which lies the instant so many milliseconds from 0000-01-01.
+pub fn date_at(since: u64) -> Date
+    ensures { λ r. ⌜ r ≡ dateOfDay (since / msPerDay) ⌝ }
+{
+    date_of_day(since / MS_PER_DAY)
 }

@@ -2,7 +2,7 @@
 use calendar::instant::Instant;
 use calendar::instant::InstantAnswer;
 use days::day::MS_PER_DAY;
-use days::day::date_of_day;
+use days::day::date_at;
 use days::day::day_number;
 use model::Date;
 use model::TimeUnit;
@@ -110,7 +110,7 @@ fn shift_months(since: u64, amount: i64, unit: u64) -> InstantAnswer
     requires { ⌜ (since ≤ latestSinceYear0) × (1 ≤ unit) × (unit ≤ 12) ⌝ }
     ensures { λ r. ⌜ instantResult r ≡ movedByMonths since (amount *ℤ pos unit) ⌝ }
 {
-    let date = date_of_day(since / MS_PER_DAY);
+    let date = date_at(since);
     let month = date.year * 12 + (date.month - 1);
     in_month(
         shift_month(month, amount, unit),

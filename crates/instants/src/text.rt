@@ -1,7 +1,7 @@
 // An instant's text, as 2020-03-02T00:00:00.000Z.
 use calendar::instant::Instant;
 use days::day::MS_PER_DAY;
-use days::day::date_of_day;
+use days::day::date_at;
 use model::Date;
 ghost use mathlib.Core.Path.{_≡_};
 ghost use Rattle.model.specs.Bytes.{digitByte};
@@ -66,6 +66,6 @@ impl InstantText {
         ensures { λ r. ⌜ r .bytes ≡ instantText (t .ms) ⌝ }
     {
         let since = t.since_year_0();
-        text_of(date_of_day(since / MS_PER_DAY), since % MS_PER_DAY)
+        text_of(date_at(since), since % MS_PER_DAY)
     }
 }

@@ -9,11 +9,11 @@ use borrow.Author.Needs.{needs}
 use Rattle.instants.proofs.shift.shift_months.Statement.{statement}
 use Rattle.instants.proofs.shift.shift_months.Tie as tie
 
-the-date : (c : tie.After-date-of-day) → Dated (c .before .args .since / 86400000) (c .date-of-day .result)
-the-date c = dated (c .before .args .since / 86400000) (c .date-of-day .result) (omega arith) (c .date-of-day .ensures)
+the-date : (c : tie.After-date-at) → Dated (c .before .args .since / 86400000) (c .date-at .result)
+the-date c = dated (c .before .args .since / 86400000) (c .date-at .result) (omega arith) (c .date-at .ensures)
 
-date-of-day-requires : tie.Need-date-of-day-requires
-date-of-day-requires c κs = search needs
+date-at-requires : tie.Need-date-at-requires
+date-at-requires c κs = search needs
 
 mul-month : tie.Need-mul-month
 mul-month c = let d = the-date (c .before) in omega arith
@@ -39,13 +39,13 @@ returns c =
     let a = d .before .args in
     c .in-month .ensures
     ∙ rw (c .before .before .shift-month .ensures, toZ-ofZ (d .before .fits .amount))
-    (months-moved (a .since) (d .date-of-day .result) (a .amount *ℤ pos (a .unit)) (the-date d))
+    (months-moved (a .since) (d .date-at .result) (a .amount *ℤ pos (a .unit)) (the-date d))
 
 pub shift-months-spec : {M : Type 1} → statement M
 shift-months-spec =
     tie.close
     (tie.spec
-    date-of-day-requires
+    date-at-requires
     mul-month
     sub-month
     add-month
