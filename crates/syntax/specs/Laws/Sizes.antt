@@ -14,7 +14,7 @@ use Rattle.model.specs.Refusal.{notJson, tooLarge}
 use Rattle.model.specs.Size.{valueCount}
 use Rattle.model.specs.Value.{Value, scalar, array, integer, Values, no-items, item}
 use Rattle.syntax.specs.declared.Start.the-variants.{TooMuch, Digit, Bracket}
-use Rattle.syntax.specs.Read.{Parsed, ok, bad, then, _>>=_, give, fail, if, peek, eat, white, signed, isPart, endNumber, afterZero, firstDigit, int, onStart, onSeparator, value, items, ended, text, Read, done, refuse, answer, read}
+use Rattle.syntax.specs.Read.{ok, bad, then, _>>=_, give, fail, if, peek, eat, white, signed, isPart, endNumber, afterZero, firstDigit, int, onStart, onSeparator, value, items, ended, text, Read, done, refuse, answer, read}
 use Rattle.syntax.specs.Laws.Exact.{over-long}
 use Rattle.syntax.specs.Tokens.{within, isWhite, isDigit, isPoint, isE, counted, nested, startOf, separatorOf}
 

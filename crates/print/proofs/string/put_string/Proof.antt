@@ -11,7 +11,7 @@ add-result c = search needs
 
 returns : tie.Need-returns
 unfolding maxTextBytes
-returns c = record { meets = rw (lt-ltb _ _ (c .if1 .taken)) (refl, refl) }
+returns c = record { meets = rw (lt-ltb maxTextBytes (length (c .before .before .before .args .s .now)) (c .if1 .taken)) (refl, refl) }
 
 put-quoted-requires : tie.Need-put-quoted-requires
 unfolding maxTextBytes
@@ -22,7 +22,7 @@ same-length c = search needs
 
 returns-2 : tie.Need-returns-2
 unfolding maxTextBytes
-returns-2 c = record { meets = rw (le-ltb _ _ (c .before .before .before .before .if1 .left)) (c .before .before .put-quoted .ensures) }
+returns-2 c = record { meets = rw (le-ltb maxTextBytes (length (c .before .before .before .before .before .before .before .args .s .now)) (c .before .before .before .before .if1 .left)) (c .before .before .put-quoted .ensures) }
 
 pub put-string-spec : {M : Type 1} → statement M
 put-string-spec = tie.close (tie.spec add-result returns put-quoted-requires same-length returns-2)
