@@ -10,6 +10,7 @@ use Rattle.model.specs.Eval.{run}
 use Rattle.model.specs.EvalPlain.{denies, evalPlain, plainOutcome, left}
 use Rattle.model.specs.Laws.Logic.{clash}
 use Rattle.model.specs.Laws.Plain.{plain-agrees}
+use Rattle.model.specs.Laws.Widths.{steps-have-cells}
 use Rattle.model.specs.Limits.{maxNesting, maxSteps, heapCells}
 use Rattle.model.specs.Refusal.{evalNumber}
 use Rattle.model.specs.Rule.{Rule}
@@ -46,12 +47,10 @@ whole-task R limit t h s e f g = e ∙ (λ i. task 0 (f i) (g i))
 
 -- Cells for every step that a limit allows.
 pub whole-room : {T A R B C : Bytes} {limit : ℕ} (t : Task) → Ready T A R B C limit → t ≡ whole R limit → Room C 0 0 (t .state)
-unfolding maxSteps heapCells
-whole-room t r e = rw e (record { fits = omega (arith, r .limited); within = omega arith; enough = r .enough })
+whole-room t r e = rw e (record { fits = omega (arith, r .limited, steps-have-cells); within = omega arith; enough = r .enough })
 
 top-fits : (top left limit : ℕ) → limit ≤ maxSteps → top + 2 * left + 2 ≤ 0 + 2 * limit → top ≤ heapCells
-unfolding maxSteps heapCells
-top-fits top left limit l b = omega arith
+top-fits top left limit l b = omega (arith, steps-have-cells)
 
 -- The steps that are left tell those begun.
 begun-of : (ρ : Rule) (κ : Value) (limit l : ℕ) → left (evalPlain ρ κ limit) ≡ l → steps (run ρ κ limit) ≡ limit - l
