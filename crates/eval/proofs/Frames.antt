@@ -9,7 +9,7 @@ use Rattle.operate.specs.Cells.{Same}
 use Rattle.operate.specs.Laws.Cells.{means-kept, each-kept}
 use Rattle.operate.specs.Laws.Stack.{stacked-same}
 use Rattle.eval.specs.declared.task.Frame.{Frame}
-use Rattle.eval.specs.declared.task.Frame.the-variants.{Guard, Branch, Conjunct, Source, Initial, Item, Argument}
+use Rattle.eval.specs.declared.task.Frame.the-variants.{Guard, Branch, Conjunct, Source, Item, Argument}
 use Rattle.eval.specs.declared.task.Task.{Task}
 use Rattle.eval.specs.Inner.{After, Then, FrameMeans}
 
@@ -31,17 +31,10 @@ module _ {C C′ : Bytes} {t t′ : Task} (i : Moved C C′ t t′) where
   frame-kept T A R B Branch K m = m
   frame-kept T A R B (Conjunct n) K m = record { others = m .others; given = m .given; after = after-kept (m .after); counted = m .counted; run = m .run }
   frame-kept T A R B Source K m = record { lambda = m .lambda; initial = m .initial; given = m .given; after = after-kept (m .after); run = m .run }
-  frame-kept T A R B (Initial row h) K m = record {
+  frame-kept T A R B (Item row h) K m = record {
     lambda = m .lambda;
     value = m .value;
     holds = rw (i .deep) (m .holds);
-    means = means-kept (i .same) (i .grows) (m .means);
-    run = m .run;
-  }
-  frame-kept T A R B (Item p) K m = record {
-    lambda = m .lambda;
-    values = m .values;
-    holds = rw (i .deep, i .row) (m .holds);
     means = means-kept (i .same) (i .grows) (m .means);
     run = m .run;
   }

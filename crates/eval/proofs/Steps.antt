@@ -7,7 +7,6 @@ use Rattle.model.specs.EvalPlain.{Plain, continue, evalPlain}
 use Rattle.model.specs.Limits.{heapCells}
 use Rattle.model.specs.Value.{Value}
 use Rattle.heap.specs.declared.handle.Handle.{Handle}
-use Rattle.heap.specs.declared.handle.Parts.{Parts}
 use Rattle.heap.specs.Unfold.{areas}
 use Rattle.operate.specs.declared.ended.Ended.{Ended}
 use Rattle.operate.specs.declared.ended.Ended.the-variants.{Gives, Denies}
@@ -18,7 +17,7 @@ use Rattle.operate.specs.Ended.{EndsAs, ends-value, ends-fault}
 use Rattle.operate.specs.Laws.Cells.{same-all, same-then}
 use Rattle.operate.specs.Laws.Ends.{got, failed}
 use Rattle.eval.specs.declared.task.Frame.{Frame}
-use Rattle.eval.specs.declared.task.Frame.the-variants.{Guard, Branch, Conjunct, Source, Initial, Item, Argument}
+use Rattle.eval.specs.declared.task.Frame.the-variants.{Guard, Branch, Conjunct, Source, Item, Argument}
 use Rattle.eval.specs.declared.task.Next.{Next}
 use Rattle.eval.specs.declared.task.Next.the-variants.{Ends, Asks}
 use Rattle.eval.specs.declared.task.Pending.{Pending}
@@ -82,11 +81,8 @@ module _ {C : Bytes} {t : Task} {f : Frame} {e : Ended} (h : Handle) (u : State)
       go : (K : Then) (m : Plain Value) → FrameMeans T A R B C t Branch K → EndsAs (areas A B R C) m e → EndsAs (areas A B R C) (continue m K) (Gives h u)
       go K m k x = let g = got x is-value in ends-value {v = g .value} {h = h} {s = u} (ap (λ (p : Plain Value). continue p K) (g .is) ∙ k .run (g .value) (u .left)) refl (g .means)
 
-  pub initial-room : (l : ℕ) (i : Handle) (t′ : Task) → f ≡ Initial l i → t′ ≡ task (t .row) (t .context) u → Room C 2 0 (t′ .state)
-  initial-room l i t′ q is-task = rw is-task (record { fits = omega (arith, rw q at fits); within = omega (arith, rw q at within); enough = r .room .enough })
-
-  pub item-room : (i : Parts) (t′ : Task) → f ≡ Item i → t′ ≡ task (t .row) (t .context) u → Room C 2 0 (t′ .state)
-  item-room i t′ q is-task = rw is-task (record { fits = omega (arith, rw q at fits); within = omega (arith, rw q at within); enough = r .room .enough })
+  pub item-room : (l : ℕ) (i : Handle) (t′ : Task) → f ≡ Item l i → t′ ≡ task (t .row) (t .context) u → Room C 2 0 (t′ .state)
+  item-room l i t′ q is-task = rw is-task (record { fits = omega (arith, rw q at fits); within = omega (arith, rw q at within); enough = r .room .enough })
 
   pub argument-room : (p : Pending) (t′ : Task) → f ≡ Argument p → t′ ≡ task (t .row) (t .context) u → Room C (4 + p .done) (p .done) (t′ .state)
   argument-room p t′ q is-task = rw is-task (record { fits = omega (arith, rw q at fits); within = omega (arith, rw q at within); enough = r .room .enough })
@@ -146,8 +142,7 @@ module _ {T A R B C₀ : Bytes} {n₀ : Next} {C : Bytes} {n : Next} (i : Operan
         spare Branch = omega arith
         spare (Conjunct k) = omega arith
         spare Source = omega arith
-        spare (Initial l h) = omega arith
-        spare (Item p) = omega arith
+        spare (Item l h) = omega arith
         spare (Argument p) = omega arith
 
     pub asked-falls : 2 * t .state .deep + 1 < nextDeep n₀

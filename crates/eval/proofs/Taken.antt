@@ -35,11 +35,10 @@ use Rattle.scalars.specs.declared.truth.Truth as declared
 use Rattle.scalars.specs.declared.truth.Truth.the-variants.{Truthy, Falsy, Neither}
 use Rattle.scalars.specs.Contract.{truthOf, TruthIs}
 use Rattle.eval.specs.declared.take.Elements.the-variants.{NotArray, Of}
-use Rattle.eval.specs.declared.task.Frame.the-variants.{Guard, Branch, Conjunct, Source, Initial, Item}
-use Rattle.eval.specs.declared.task.Next.{Next}
+use Rattle.eval.specs.declared.task.Frame.the-variants.{Guard, Branch, Conjunct, Source, Item}
 use Rattle.eval.specs.declared.task.Next.the-variants.{Ends, Asks}
 use Rattle.eval.specs.declared.task.Task.{Task}
-use Rattle.eval.specs.Inner.{Room, RowsHold, row-rule, After, Then, GuardMeans, SourceMeans, ItemMeans, lambdaRun, reduced, Asked, Takes, TakesByRule, TakesByRecord, elementsOf, branchRow, Branches, task}
+use Rattle.eval.specs.Inner.{Room, RowsHold, row-rule, After, Then, GuardMeans, SourceMeans, ItemMeans, lambdaRun, reduced, Asked, TakesByRule, TakesByRecord, elementsOf, branchRow, Branches, task}
 use Rattle.eval.proofs.Bounds.{gives-at, stops-at, same-wider}
 
 -- A value that ends the rule.
@@ -176,7 +175,7 @@ module _ {T : Bytes} {t : Task} {count : ℕ} {h : Handle} (x : declared.Truth) 
           }
 
 -- ---- `reduce`: its operand
-pub takes-source : {T : Bytes} {t : Task} {h : Handle} (lambda row : ℕ) (t′ : Task) → lambda ≡ nextRow T (t .row) → row ≡ nextRow T lambda → t′ ≡ task row (t .context) (t .state) → TakesByRule T t Source h (Asks t′ (Initial lambda h))
+pub takes-source : {T : Bytes} {t : Task} {h : Handle} (lambda row : ℕ) (t′ : Task) → lambda ≡ nextRow T (t .row) → row ≡ nextRow T lambda → t′ ≡ task row (t .context) (t .state) → TakesByRule T t Source h (Asks t′ (Item lambda h))
 takes-source {T} {t} {h} lambda row t′ is-lambda is-row is-task = rw (is-task, is-row, is-lambda) (record {
   takes = λ A R B C. record {
     same = same-all C _ _;
@@ -188,7 +187,7 @@ takes-source {T} {t} {h} lambda row t′ is-lambda is-row is-task = rw (is-task,
   where
     go : (A R B C : Bytes) (K : Then) (v : Value) (m : SourceMeans T A R B C t K) → Means (areas A B R C) (t .state .top) v h
         → RowsHold T A (t .state .deep) (nextRow T (t .row)) (rule (m .lambda) (rule (m .initial) no-rules))
-        → Asked T A R B C (K v (t .state .left)) (task (nextRow T (nextRow T (t .row))) (t .context) (t .state)) (Initial (nextRow T (t .row)) h)
+        → Asked T A R B C (K v (t .state .left)) (task (nextRow T (nextRow T (t .row))) (t .context) (t .state)) (Item (nextRow T (t .row)) h)
     go A R B C K v m w (row-rule k₁ (row-rule k₂ ks)) = record {
       asked = m .initial;
       given = m .given;
@@ -198,74 +197,6 @@ takes-source {T} {t} {h} lambda row t′ is-lambda is-row is-task = rw (is-task,
       frame = record { lambda = m .lambda; value = v; holds = k₁; means = w; run = λ u n. refl };
       run = m .run v (t .state .left);
     }
-
--- ---- the items
--- The two cells of a context.
-pub two-puts : (C : Bytes) (t : ℕ) (x y : Handle) {C₁ C₂ : Bytes} → C₁ ≡ stored C t x → C₂ ≡ stored C₁ (t + 1) y → C₂ ≡ stored (stored C t x) (suc t) y
-two-puts C t x y e f = f ∙ rw (e, add-one t)
-
--- The lambda's next task.
-abbrev itemTask : Task → Task
-itemTask t = task (t .row) (Compound (parts forms.Context (t .state .top) 2)) (state (t .state .left) (t .state .top + 2) (t .state .bottom) (t .state .deep))
-
-module _ {R C : Bytes} {t : Task} {items : Parts} {h : Handle} where
-  pub items-done : items .count ≡ 0 → TakesByRecord R C t (Item items) h (Ends (Gives h (t .state))) C
-  unfolding itemCount
-  items-done e = record {
-    takes = λ T A B. record {
-      same = same-all C _ _;
-      steps = omega arith;
-      within = λ s c. gives-at s h (t .state) (c .grows) (omega (arith, c .spends));
-      follows = λ K v m w. ends-value {v = v} {h = h} {s = t .state} (m .run v (t .state .left) ∙ go (m .lambda) (m .values) v (heap.array-count _ (t .state .top) (m .values) items (m .means))) refl w;
-    };
-  }
-    where
-      go : (ρ : Rule) (vs : Values) (v : Value) → items .count ≡ itemCount vs → fold (lambdaRun ρ) vs v (t .state .left) ≡ gives v (t .state .left)
-      go ρ no-items v f = refl
-      go ρ (item w vs) v f = absurd (omega arith)
-
-  pub item-next :
-      (x ctx : Handle) (C₂ : Bytes) (s′ : State) (t′ : Task) (rest : Parts)
-      → Room C 2 0 (t .state)
-      → 1 ≤ items .count
-      → x ≡ headOf R C items
-      → C₂ ≡ stored (stored C (t .state .top) x) (suc (t .state .top)) h
-      → ctx ≡ Compound (parts forms.Context (t .state .top) 2)
-      → s′ ≡ state (t .state .left) (t .state .top + 2) (t .state .bottom) (t .state .deep)
-      → t′ ≡ task (t .row) ctx s′
-      → rest ≡ tailOf R C₂ items
-      → TakesByRecord R C t (Item items) h (Asks t′ (Item rest)) C₂
-  unfolding itemCount
-  item-next x ctx C₂ s′ t′ rest room l is-head puts is-context is-state is-task is-rest = rw (is-task, is-state, is-context, is-rest) (record {
-    takes = λ T A B. record {
-      same = same-wider (t .state .top) (t .state .bottom + 0) same-made (omega arith) (omega arith);
-      steps = omega arith;
-      within = λ s c. record { grows = omega (arith, c .grows); spends = omega (arith, c .spends); stack = c .stack; deep = c .deep };
-      follows = λ K v m w. go T A B K v m w (m .values) (m .means) (m .run v (t .state .left));
-    };
-  })
-    where
-      same-made : Same C C₂ (t .state .top) (t .state .bottom)
-      same-made = rw puts (same-then {top₁ = (t .state .top)} {bottom₁ = t .state .bottom} (same-put C (t .state .top) x (omega arith) (omega (arith, room .fits))) (same-put (stored C (t .state .top) x) (suc (t .state .top)) h (omega arith) (omega (arith, room .fits))) (omega arith) (omega arith))
-
-      go : (T A B : Bytes) (K : Then) (v : Value) (m : ItemMeans T A R B C t items K) → Means (areas A B R C) (t .state .top) v h → (vs : Values) → Means (areas A B R C) (t .state .top) (array vs) (Compound items) → K v (t .state .left) ≡ fold (lambdaRun (m .lambda)) vs v (t .state .left)
-          → Asked T A R B C₂ (K v (t .state .left)) (itemTask t) (Item (tailOf R C₂ items))
-      go T A B K v m w no-items is e = absurd (omega (arith, heap.array-count _ (t .state .top) no-items items is))
-      go T A B K v m w (item u vs) is e = record {
-        asked = m .lambda;
-        given = context u v;
-        next = λ a. fold (lambdaRun (m .lambda)) vs a;
-        holds = m .holds;
-        means = rw puts (heap.context-made (areas A B R C) (t .state .top) u v x h (rw is-head (heap.array-parts _ (t .state .top) u vs items is .0)) w (omega (arith, room .fits, room .within, room .enough)) (omega (arith, room .fits, room .within)));
-        frame = record {
-          lambda = m .lambda;
-          values = vs;
-          holds = m .holds;
-          means = heap.array-parts (areas A B R C₂) (t .state .top + 2) u vs items (means-kept same-made (omega arith) is) .1;
-          run = λ a n. refl;
-        };
-        run = e;
-      }
 
 -- ---- arrays among values
 not-array : {a : Areas} {t : ℕ} {v : Value} {h : Handle} → Means a t v h → elementsOf h ≡ NotArray → asArray v ≡ none
@@ -300,9 +231,17 @@ of-array p (means-members f g i) e = clash cc
 of-array {a} {t} {v} {h} p (means-list {vs = vs} {cell = cell} {count = count} f g i) e = record { values = vs; is = refl; means = rw (of-same e) at (means-list {top = t} {vs = vs} {cell = cell} {count = count} f g i) }
 of-array p (means-context f g m n) e = clash cc
 
--- ---- the initial
+-- ---- the items
+-- The two cells of a context.
+pub two-puts : (C : Bytes) (t : ℕ) (x y : Handle) {C₁ C₂ : Bytes} → C₁ ≡ stored C t x → C₂ ≡ stored C₁ (t + 1) y → C₂ ≡ stored (stored C t x) (suc t) y
+two-puts C t x y e f = f ∙ rw (e, add-one t)
+
+-- The lambda's next task.
+abbrev itemTask : ℕ → State → Task
+itemTask row s = task row (Compound (parts forms.Context (s .top) 2)) (state (s .left) (s .top + 2) (s .bottom) (s .deep))
+
 module _ {R C : Bytes} {t : Task} {lambda : ℕ} {items h : Handle} where
-  pub no-items-there : elementsOf items ≡ NotArray → TakesByRecord R C t (Initial lambda items) h (Ends (Denies WrongKind (t .state .left))) C
+  pub no-items-there : elementsOf items ≡ NotArray → TakesByRecord R C t (Item lambda items) h (Ends (Denies WrongKind (t .state .left))) C
   no-items-there e = record {
     takes = λ T A B. record {
       same = same-all C _ _;
@@ -312,13 +251,61 @@ module _ {R C : Bytes} {t : Task} {lambda : ℕ} {items h : Handle} where
     };
   }
 
-  pub items-there : {n : Next} {C′ : Bytes} (p : Parts) (t′ : Task) → elementsOf items ≡ Of p → t′ ≡ task lambda (t .context) (t .state) → TakesByRecord R C t′ (Item p) h n C′ → TakesByRecord R C t (Initial lambda items) h n C′
-  items-there {n} {C′} p t′ e is-task d = record { takes = λ T A B. go T A B (rw is-task at (d .takes T A B)) }
-    where
-      go : (T A B : Bytes) → Takes T A R B C (task lambda (t .context) (t .state)) (Item p) h n C′ → Takes T A R B C t (Initial lambda items) h n C′
-      go T A B x = record {
-        same = x .same;
-        steps = x .steps;
-        within = λ s c. x .within s (record { grows = c .grows; spends = omega (arith, c .spends); stack = c .stack; deep = c .deep });
-        follows = λ K v m w. let i = of-array p (m .means) e in x .follows K v (record { lambda = m .lambda; values = i .values; holds = m .holds; means = i .means; run = λ u k. m .run u k ∙ rw (i .is) }) w;
-      }
+  module _ (p : Parts) (is-array : elementsOf items ≡ Of p) where
+    pub items-done : p .count ≡ 0 → TakesByRecord R C t (Item lambda items) h (Ends (Gives h (t .state))) C
+    unfolding itemCount
+    items-done e = record {
+      takes = λ T A B. record {
+        same = same-all C _ _;
+        steps = omega arith;
+        within = λ s c. gives-at s h (t .state) (c .grows) (omega (arith, c .spends));
+        follows = λ K v m w. let i = of-array p (m .means) is-array in ends-value {v = v} {h = h} {s = t .state} (m .run v (t .state .left) ∙ rw (i .is) (go (m .lambda) (i .values) v (heap.array-count _ (t .state .top) (i .values) p (i .means)))) refl w;
+      };
+    }
+      where
+        go : (ρ : Rule) (vs : Values) (v : Value) → p .count ≡ itemCount vs → fold (lambdaRun ρ) vs v (t .state .left) ≡ gives v (t .state .left)
+        go ρ no-items v f = refl
+        go ρ (item w vs) v f = absurd (omega arith)
+
+    pub item-next :
+        (x ctx : Handle) (C₂ : Bytes) (s′ : State) (t′ : Task) (rest : Parts)
+        → Room C 2 0 (t .state)
+        → 1 ≤ p .count
+        → x ≡ headOf R C p
+        → C₂ ≡ stored (stored C (t .state .top) x) (suc (t .state .top)) h
+        → ctx ≡ Compound (parts forms.Context (t .state .top) 2)
+        → s′ ≡ state (t .state .left) (t .state .top + 2) (t .state .bottom) (t .state .deep)
+        → t′ ≡ task lambda ctx s′
+        → rest ≡ tailOf R C₂ p
+        → TakesByRecord R C t (Item lambda items) h (Asks t′ (Item lambda (Compound rest))) C₂
+    unfolding itemCount
+    item-next x ctx C₂ s′ t′ rest room l is-head puts is-context is-state is-task is-rest = rw (is-task, is-state, is-context, is-rest) (record {
+      takes = λ T A B. record {
+        same = same-wider (t .state .top) (t .state .bottom + 0) same-made (omega arith) (omega arith);
+        steps = omega arith;
+        within = λ s c. record { grows = omega (arith, c .grows); spends = omega (arith, c .spends); stack = c .stack; deep = c .deep };
+        follows = λ K v m w. let i = of-array p (m .means) is-array in go T A B K v m w (i .values) (i .means) (m .run v (t .state .left) ∙ rw (i .is));
+      };
+    })
+      where
+        same-made : Same C C₂ (t .state .top) (t .state .bottom)
+        same-made = rw puts (same-then {top₁ = t .state .top} {bottom₁ = t .state .bottom} (same-put C (t .state .top) x (omega arith) (omega (arith, room .fits))) (same-put (stored C (t .state .top) x) (suc (t .state .top)) h (omega arith) (omega (arith, room .fits))) (omega arith) (omega arith))
+
+        go : (T A B : Bytes) (K : Then) (v : Value) (m : ItemMeans T A R B C t lambda items K) → Means (areas A B R C) (t .state .top) v h → (vs : Values) → Means (areas A B R C) (t .state .top) (array vs) (Compound p) → K v (t .state .left) ≡ fold (lambdaRun (m .lambda)) vs v (t .state .left)
+            → Asked T A R B C₂ (K v (t .state .left)) (itemTask lambda (t .state)) (Item lambda (Compound (tailOf R C₂ p)))
+        go T A B K v m w no-items is e = absurd (omega (arith, heap.array-count _ (t .state .top) no-items p is))
+        go T A B K v m w (item u vs) is e = record {
+          asked = m .lambda;
+          given = context u v;
+          next = λ a. fold (lambdaRun (m .lambda)) vs a;
+          holds = m .holds;
+          means = rw puts (heap.context-made (areas A B R C) (t .state .top) u v x h (rw is-head (heap.array-parts _ (t .state .top) u vs p is .0)) w (omega (arith, room .fits, room .within, room .enough)) (omega (arith, room .fits, room .within)));
+          frame = record {
+            lambda = m .lambda;
+            value = array vs;
+            holds = m .holds;
+            means = heap.array-parts (areas A B R C₂) (t .state .top + 2) u vs p (means-kept same-made (omega arith) is) .1;
+            run = λ a n. refl;
+          };
+          run = e;
+        }

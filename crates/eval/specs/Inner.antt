@@ -5,14 +5,14 @@ use Prim.Native.Nat.{ℕ, suc, _+_, _*_, _-_, _/_, _≤_}
 use lib.ListN.{length}
 use Rattle.model.specs.Bytes.{Bytes}
 use Rattle.model.specs.Eval.{context}
-use Rattle.model.specs.EvalPlain.{Plain, PlainRun, gives, lift, branch, continue, fold, step, plainBody, plainAll, plainAnd, evalPlain, _>>=_}
+use Rattle.model.specs.EvalPlain.{Plain, PlainRun, gives, lift, branch, continue, fold, plainBody, plainAll, plainAnd, evalPlain, _>>=_}
 use Rattle.model.specs.Limits.{heapCells}
 use Rattle.model.specs.Operations.{operate}
 use Rattle.model.specs.Refusal.{wrongKind}
 use Rattle.model.specs.Result.{required}
 use Rattle.model.specs.Rule.{Operation, Rule, Rules, no-rules, rule}
 use Rattle.model.specs.Truth.{Truth, truthy, falsy, neither, truth}
-use Rattle.model.specs.Value.{Value, array, Values, no-items, item, asArray}
+use Rattle.model.specs.Value.{Value, Values, no-items, item, asArray}
 use Rattle.heap.specs.declared.handle.Area.the-variants as Areas
 use Rattle.heap.specs.declared.handle.Form.{Form}
 use Rattle.heap.specs.declared.handle.Form.the-variants as Forms
@@ -41,7 +41,7 @@ use Rattle.table.specs.Node.{nextRow}
 use Rattle.eval.specs.declared.take.Elements.{Elements}
 use Rattle.eval.specs.declared.take.Elements.the-variants.{NotArray, Of}
 use Rattle.eval.specs.declared.task.Frame.{Frame}
-use Rattle.eval.specs.declared.task.Frame.the-variants.{Guard, Branch, Conjunct, Source, Initial, Item, Argument}
+use Rattle.eval.specs.declared.task.Frame.the-variants.{Guard, Branch, Conjunct, Source, Item, Argument}
 use Rattle.eval.specs.declared.task.Next.{Next}
 use Rattle.eval.specs.declared.task.Next.the-variants.{Ends, Asks}
 use Rattle.eval.specs.declared.task.Pending.{Pending}
@@ -60,8 +60,7 @@ onStack Guard = 0
 onStack Branch = 0
 onStack (Conjunct n) = 0
 onStack Source = 0
-onStack (Initial l h) = 0
-onStack (Item p) = 0
+onStack (Item l h) = 0
 onStack (Argument p) = p .done
 
 -- The cells that the rule's own step and the steps of the operands on the stack have brought and nothing has used: a context uses two.
@@ -70,8 +69,7 @@ unused Guard = 2
 unused Branch = 2
 unused (Conjunct n) = 2
 unused Source = 2
-unused (Initial l h) = 2
-unused (Item p) = 0
+unused (Item l h) = 0
 unused (Argument p) = 2 + 2 * p .done
 
 -- A rule began in the state s and now has an operand in the state t, for this frame; k more cells are unused.
@@ -166,19 +164,13 @@ pub record SourceMeans (T A R B C : Bytes) (t : Task) (K : Then) : Type 0 where
   pub after : After T A R B C t (rule lambda (rule initial no-rules)) given
   pub run : (v : Value) (n : ℕ) → K v n ≡ continue (evalPlain initial given n) (reduced lambda v)
 
-pub record InitialMeans (T A R B C : Bytes) (t : Task) (row : ℕ) (items : Handle) (K : Then) : Type 0 where
+-- The value of the items' handle is that of the operand, or the array of the items that are left.
+pub record ItemMeans (T A R B C : Bytes) (t : Task) (row : ℕ) (items : Handle) (K : Then) : Type 0 where
   pub lambda : Rule
   pub value : Value
   pub holds : RuleAt T A (t .state .deep) row lambda
   pub means : Means (areas A B R C) (t .state .top) value items
   pub run : (v : Value) (n : ℕ) → K v n ≡ reduced lambda value v n
-
-pub record ItemMeans (T A R B C : Bytes) (t : Task) (items : Parts) (K : Then) : Type 0 where
-  pub lambda : Rule
-  pub values : Values
-  pub holds : RuleAt T A (t .state .deep) (t .row) lambda
-  pub means : Means (areas A B R C) (t .state .top) (array values) (Handles.Compound items)
-  pub run : (v : Value) (n : ℕ) → K v n ≡ fold (lambdaRun lambda) values v n
 
 abbrev pub append : Values → Values → Values
 append no-items ws = ws
@@ -204,8 +196,7 @@ FrameMeans T A R B C t Guard K = GuardMeans T A R B C t K
 FrameMeans T A R B C t Branch K = BranchMeans K
 FrameMeans T A R B C t (Conjunct n) K = ConjunctMeans T A R B C t n K
 FrameMeans T A R B C t Source K = SourceMeans T A R B C t K
-FrameMeans T A R B C t (Initial row h) K = InitialMeans T A R B C t row h K
-FrameMeans T A R B C t (Item p) K = ItemMeans T A R B C t p K
+FrameMeans T A R B C t (Item row h) K = ItemMeans T A R B C t row h K
 FrameMeans T A R B C t (Argument p) K = ArgumentMeans T A R B C t p K
 
 -- ---- what comes next is what the run m does

@@ -103,16 +103,9 @@ pub fn start<'a>(
         View::And(q) => Next::Asks(first(q, context, begun), Frame::Conjunct(q.count)),
         View::Reduce(q) => Next::Asks(first(q, context, begun), Frame::Source),
         View::Apply(op, q) => {
-            let operands = first(q, context, begun);
+            let t = first(q, context, begun);
             let p = arguments_of(op, 0, q.count);
-            arguments(
-                rule_strings,
-                record_table,
-                record_strings,
-                cells,
-                operands,
-                p,
-            )
+            arguments(rule_strings, record_table, record_strings, cells, t, p)
         }
     }
 }

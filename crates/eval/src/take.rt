@@ -103,10 +103,12 @@ fn after_source(rule_table: &[u8], t: Task, items: Handle) -> Next
     let s = t.state;
     let lambda = next_row(rule_table, t.row);
     let initial = operand(next_row(rule_table, lambda), context, s);
-    Next::Asks(initial, Frame::Initial { lambda, items })
+    Next::Asks(initial, Frame::Item { lambda, items })
 }
 
-fn after_initial(
+// With the initial's value, or the lambda's on the item before: the lambda for the next item, over `current` and `accumulator`, which take two
+// cells. Where no item is left the value is the rule's.
+fn next_item(
     record_table: &[u8],
     cells: &mut [u8],
     t: Task,
@@ -115,31 +117,28 @@ fn after_initial(
     value: Handle,
 ) -> Next
     requires { ⌜ Room (now cells) 2 0 (t .state) ⌝ }
-    ensures { λ r. ⌜ TakesByRecord (now («record_table» .entry)) (now (cells .entry)) t (Frame.Initial lambda items) value r (now (cells .exit)) ⌝ }
+    ensures { λ r. ⌜ TakesByRecord (now («record_table» .entry)) (now (cells .entry)) t (Frame.Item lambda items) value r (now (cells .exit)) ⌝ }
 {
-    let context = t.context;
     let s = t.state;
     let Elements::Of(p) = elements_of(items) else {
         return Next::Ends(Ended::Denies(Fault::WrongKind, s.left));
     };
-    next_item(record_table, cells, operand(lambda, context, s), p, value)
-}
-
-// The lambda for the next item, over `current` and `accumulator`: two cells. Where no item is left the accumulator is the value.
-fn next_item(record_table: &[u8], cells: &mut [u8], t: Task, items: Parts, value: Handle) -> Next
-    requires { ⌜ Room (now cells) 2 0 (t .state) ⌝ }
-    ensures { λ r. ⌜ TakesByRecord (now («record_table» .entry)) (now (cells .entry)) t (Frame.Item items) value r (now (cells .exit)) ⌝ }
-{
-    let s = t.state;
-    if items.count == 0 {
+    if p.count == 0 {
         return Next::Ends(Ended::Gives(value, s));
     }
     let top = s.top;
-    put(cells, top, head(record_table, cells, items));
+    put(cells, top, head(record_table, cells, p));
     put(cells, top + 1, value);
     let over = compound(Form::Context, top, 2);
-    let next = operand(t.row, over, state(s.left, top + 2, s.bottom, s.deep));
-    Next::Asks(next, Frame::Item(tail(record_table, cells, items)))
+    let next = operand(lambda, over, state(s.left, top + 2, s.bottom, s.deep));
+    let rest = Handle::Compound(tail(record_table, cells, p));
+    Next::Asks(
+        next,
+        Frame::Item {
+            lambda,
+            items: rest,
+        },
+    )
 }
 
 // The value onto the stack; then the next operand, or the operation.
@@ -202,10 +201,7 @@ pub fn take<'a>(
         Frame::Branch => Next::Ends(e),
         Frame::Conjunct(count) => after_conjunct(rule_table, t, count, value),
         Frame::Source => after_source(rule_table, t, value),
-        Frame::Initial { lambda, items } => {
-            after_initial(record_table, cells, t, lambda, items, value)
-        }
-        Frame::Item(items) => next_item(record_table, cells, t, items, value),
+        Frame::Item { lambda, items } => { next_item(record_table, cells, t, lambda, items, value) }
         Frame::Argument(p) => after_argument(
             rule_table,
             rule_strings,

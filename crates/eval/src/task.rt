@@ -1,6 +1,5 @@
 // What an evaluation does next, by value.
 use heap::handle::Handle;
-use heap::handle::Parts;
 use keywords::Op;
 use operate::ended::Ended;
 use operate::ended::State;
@@ -32,10 +31,8 @@ pub enum Frame {
     Conjunct(usize),
     // `reduce`: its operand; the lambda and the initial stand after it.
     Source,
-    // Then the initial; the lambda's row, and the value of the operand.
-    Initial { lambda: usize, items: Handle },
-    // Then the lambda for each item; the items that are left.
-    Item(Parts),
+    // Then the initial, and then the lambda on an item: the lambda's row, and the items that are left, by the handle of an array.
+    Item { lambda: usize, items: Handle },
     // Any other operation: the value goes on the stack.
     Argument(Pending),
 }

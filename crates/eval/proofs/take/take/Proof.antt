@@ -1,4 +1,4 @@
-use Rattle.eval.proofs.Steps.{taken, branch-ends, initial-room, item-room, argument-room, take-stops}
+use Rattle.eval.proofs.Steps.{taken, branch-ends, item-room, argument-room, take-stops}
 use borrow.Author.Needs.{needs}
 use Rattle.eval.proofs.take.take.Statement.{statement}
 use Rattle.eval.proofs.take.take.Tie as tie
@@ -39,20 +39,14 @@ after-source-requires c κs = search needs
 enum-known-frame-2 : tie.Need-enum-known-frame-2
 enum-known-frame-2 c = search needs
 
-after-initial-requires : tie.Need-after-initial-requires
-after-initial-requires c κs = initial-room (c .before .before .before .before .before .before .e .given .0 .0) (c .before .before .before .before .before .before .e .given .0 .1 .0) (c .before .before .before .before .before .before .e .given .1) (c .before .before .before .before .before .before .before .before .before .before .before .before .before .pre) (c .before .before .frame2 .given .0 .0) (c .before .before .frame2 .given .0 .1 .0) (c .before .before .before .before .operand .result) (c .before .before .frame2 .given .1) (c .before .before .before .before .operand .ensures)
+next-item-requires : tie.Need-next-item-requires
+next-item-requires c κs = item-room (c .before .before .before .before .before .before .e .given .0 .0) (c .before .before .before .before .before .before .e .given .0 .1 .0) (c .before .before .before .before .before .before .e .given .1) (c .before .before .before .before .before .before .before .before .before .before .before .before .before .pre) (c .before .before .frame2 .given .0 .0) (c .before .before .frame2 .given .0 .1 .0) (c .before .before .before .before .operand .result) (c .before .before .frame2 .given .1) (c .before .before .before .before .operand .ensures)
 
 enum-known-frame-3 : tie.Need-enum-known-frame-3
 enum-known-frame-3 c = search needs
 
-next-item-requires : tie.Need-next-item-requires
-next-item-requires c κs = item-room (c .before .before .before .before .before .before .e .given .0 .0) (c .before .before .before .before .before .before .e .given .0 .1 .0) (c .before .before .before .before .before .before .e .given .1) (c .before .before .before .before .before .before .before .before .before .before .before .before .before .pre) (c .before .before .frame3 .given .0 .0) (c .before .before .before .before .operand .result) (c .before .before .frame3 .given .1) (c .before .before .before .before .operand .ensures)
-
-enum-known-frame-4 : tie.Need-enum-known-frame-4
-enum-known-frame-4 c = search needs
-
 after-argument-requires : tie.Need-after-argument-requires
-after-argument-requires c κs = argument-room (c .before .before .before .before .before .before .e .given .0 .0) (c .before .before .before .before .before .before .e .given .0 .1 .0) (c .before .before .before .before .before .before .e .given .1) (c .before .before .before .before .before .before .before .before .before .before .before .before .before .pre) (c .before .before .frame4 .given .0 .0) (c .before .before .before .before .operand .result) (c .before .before .frame4 .given .1) (c .before .before .before .before .operand .ensures)
+after-argument-requires c κs = argument-room (c .before .before .before .before .before .before .e .given .0 .0) (c .before .before .before .before .before .before .e .given .0 .1 .0) (c .before .before .before .before .before .before .e .given .1) (c .before .before .before .before .before .before .before .before .before .before .before .before .before .pre) (c .before .before .frame3 .given .0 .0) (c .before .before .before .before .operand .result) (c .before .before .frame3 .given .1) (c .before .before .before .before .operand .ensures)
 
 returns-2 : tie.Need-returns-2
 returns-2 c = taken (c .before .before .before .before .before .e .given .0 .0) (c .before .before .before .before .before .e .given .0 .1 .0) (c .before .before .before .before .before .e .given .1) (c .before .before .before .before .before .before .before .before .before .before .before .before .pre) (c .before .before .before .operand .result) (c .before .before .before .operand .ensures) (rw (c .before .enum-told2 .given .1) (c .after-guard .ensures .takes _ _ _ _))
@@ -70,19 +64,13 @@ same-length : tie.Need-same-length
 same-length c = search needs
 
 returns-6 : tie.Need-returns-6
-returns-6 c = taken (c .before .before .before .before .before .before .before .before .before .e .given .0 .0) (c .before .before .before .before .before .before .before .before .before .e .given .0 .1 .0) (c .before .before .before .before .before .before .before .before .before .e .given .1) (c .before .before .before .before .before .before .before .before .before .before .before .before .before .before .before .before .pre) (c .before .before .before .before .before .before .before .operand .result) (c .before .before .before .before .before .before .before .operand .ensures) (rw (c .before .before .before .before .before .frame2 .given .1) (c .before .before .after-initial .ensures .takes _ _ _))
+returns-6 c = taken (c .before .before .before .before .before .before .before .before .before .e .given .0 .0) (c .before .before .before .before .before .before .before .before .before .e .given .0 .1 .0) (c .before .before .before .before .before .before .before .before .before .e .given .1) (c .before .before .before .before .before .before .before .before .before .before .before .before .before .before .before .before .pre) (c .before .before .before .before .before .before .before .operand .result) (c .before .before .before .before .before .before .before .operand .ensures) (rw (c .before .before .before .before .before .frame2 .given .1) (c .before .before .next-item .ensures .takes _ _ _))
 
 same-length-2 : tie.Need-same-length-2
 same-length-2 c = search needs
 
 returns-7 : tie.Need-returns-7
-returns-7 c = taken (c .before .before .before .before .before .before .before .before .before .e .given .0 .0) (c .before .before .before .before .before .before .before .before .before .e .given .0 .1 .0) (c .before .before .before .before .before .before .before .before .before .e .given .1) (c .before .before .before .before .before .before .before .before .before .before .before .before .before .before .before .before .pre) (c .before .before .before .before .before .before .before .operand .result) (c .before .before .before .before .before .before .before .operand .ensures) (rw (c .before .before .before .before .before .frame3 .given .1) (c .before .before .next-item .ensures .takes _ _ _))
-
-same-length-3 : tie.Need-same-length-3
-same-length-3 c = search needs
-
-returns-8 : tie.Need-returns-8
-returns-8 c = taken (c .before .before .before .before .before .before .before .before .before .e .given .0 .0) (c .before .before .before .before .before .before .before .before .before .e .given .0 .1 .0) (c .before .before .before .before .before .before .before .before .before .e .given .1) (c .before .before .before .before .before .before .before .before .before .before .before .before .before .before .before .before .pre) (c .before .before .before .before .before .before .before .operand .result) (c .before .before .before .before .before .before .before .operand .ensures) (rw (c .before .before .before .before .before .frame4 .given .1) (c .before .before .after-argument .ensures))
+returns-7 c = taken (c .before .before .before .before .before .before .before .before .before .e .given .0 .0) (c .before .before .before .before .before .before .before .before .before .e .given .0 .1 .0) (c .before .before .before .before .before .before .before .before .before .e .given .1) (c .before .before .before .before .before .before .before .before .before .before .before .before .before .before .before .before .pre) (c .before .before .before .before .before .before .before .operand .result) (c .before .before .before .before .before .before .before .operand .ensures) (rw (c .before .before .before .before .before .frame3 .given .1) (c .before .before .after-argument .ensures))
 
 pub take-spec : {M : Type 1} → statement M
 take-spec =
@@ -100,10 +88,8 @@ take-spec =
     enum-told-4
     after-source-requires
     enum-known-frame-2
-    after-initial-requires
-    enum-known-frame-3
     next-item-requires
-    enum-known-frame-4
+    enum-known-frame-3
     after-argument-requires
     returns-2
     returns-3
@@ -112,6 +98,4 @@ take-spec =
     same-length
     returns-6
     same-length-2
-    returns-7
-    same-length-3
-    returns-8)
+    returns-7)
