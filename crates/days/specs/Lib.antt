@@ -1,2 +1,3 @@
--- The dates that a day number is asked of.
+-- The day of a date, and that on which a month begins; then what an answer tells.
 pub mod Contract
+pub mod Laws

@@ -5,9 +5,25 @@ ghost use mathlib.Core.Path.{_≡_};
 ghost use Prim.Native.Nat.{_+_, _-_, _/_, _<_, _≤_};
 ghost use Rattle.model.specs.Calendar.{isValid, months, sumFirst, yearDays, yearStart, dayNumber, dateOfDay};
 ghost use Rattle.model.specs.Instant.{msPerDay};
-ghost use Rattle.days.specs.Contract.{WithinYears};
+ghost use Rattle.days.specs.Contract.{dayAnswer, monthAnswer, WithinYears};
 
 pub const MS_PER_DAY: u64 = 86400000;
+
+// The months of the years 0000 to 9999.
+const RANGE_MONTHS: u64 = 12 * 10000;
+
+// The day of a date; or that there is no such date, or that its year is past 9999.
+pub enum DayAnswer {
+    Is(u64),
+    NoDate,
+    Late,
+}
+
+// The day on which a month begins; or that its year is past 9999.
+pub enum MonthAnswer {
+    Begins(u64),
+    Late,
+}
 
 // Whether there is such a date.
 pub fn is_valid(date: Date) -> bool
@@ -49,12 +65,39 @@ fn months_before(year: u64, month: u64) -> u64
     sum
 }
 
-// The day of a date.
-pub fn day_number(date: Date) -> u64
+// The day of a valid date.
+fn day_number(date: Date) -> u64
     requires { ⌜ WithinYears date ⌝ }
-    ensures { λ r. ⌜ (r ≡ dayNumber date) × (r ≤ 3652424) ⌝ }
+    ensures { λ r. ⌜ r ≡ dayNumber date ⌝ }
 {
     year_start(date.year) + months_before(date.year, date.month) + (date.day - 1)
+}
+
+// The day of any date.
+pub fn day_of(date: Date) -> DayAnswer
+    ensures { λ r. ⌜ r ≡ dayAnswer date ⌝ }
+{
+    if !is_valid(date) {
+        return DayAnswer::NoDate;
+    }
+    if date.year > 9999 {
+        return DayAnswer::Late;
+    }
+    DayAnswer::Is(day_number(date))
+}
+
+// The first day of any month, counted from 0000-01.
+pub fn month_start(month: u64) -> MonthAnswer
+    ensures { λ r. ⌜ r ≡ monthAnswer month ⌝ }
+{
+    if month >= RANGE_MONTHS {
+        return MonthAnswer::Late;
+    }
+    MonthAnswer::Begins(day_number(Date {
+        year: month / 12,
+        month: month % 12 + 1,
+        day: 1,
+    }))
 }
 
 // The date of day n of a year, from 0: months are taken off.
