@@ -1,7 +1,7 @@
 // Instants: milliseconds from 1970-01-01, within the years 0000 to 9999.
+use days::day::DayAnswer;
 use days::day::MS_PER_DAY;
-use days::day::day_number;
-use days::day::is_valid;
+use days::day::day_of;
 use model::Date;
 ghost use mathlib.Core.Path.{_≡_};
 ghost use Rattle.model.specs.Instant.{earliest, latest, ranged, fromYear0, sinceYear0};
@@ -113,11 +113,9 @@ pub fn dated(answer: InstantAnswer) -> DateAnswer
 pub fn midnight(date: Date) -> DateAnswer
     ensures { λ r. ⌜ dateResult r ≡ reading.midnight date ⌝ }
 {
-    if !is_valid(date) {
-        return DateAnswer::BadDate;
+    match day_of(date) {
+        DayAnswer::NoDate => DateAnswer::BadDate,
+        DayAnswer::Late => DateAnswer::OutOfRange,
+        DayAnswer::Is(n) => dated(Instant::from_year_0(n * MS_PER_DAY)),
     }
-    if date.year > 9999 {
-        return DateAnswer::OutOfRange;
-    }
-    dated(Instant::from_year_0(day_number(date) * MS_PER_DAY))
 }
