@@ -6,25 +6,23 @@ use native.Mathlib.Numerals.{add-one}
 use native.Mathlib.Nat.{mul-le-mul}
 use native.Mathlib.Omega.{arith}
 use borrow.Author.Tests.{ltb-true, ltb-false, le-ltb, lt-ltb}
-use lib.Dec.{T, lit≤, ltb}
+use lib.Dec.{T, ltb}
 use lib.IntN.{ℤ, pos, negsuc, _+ℤ_, _-ℤ_, _*ℤ_, negℤ, natAbs}
 use lib.Signed.{ltZ, nonNeg}
 use mir.Facts.{toZ-ofZ}
 use mir.Syntax.{w64}
 use mir.Val.{Fits, SFits, ofZ, toZ}
-use Rattle.model.specs.Calendar.{date, dayNumber}
 use Rattle.model.specs.Instant.{fromYear0, inRange, msPerDay, msPerHour, ranged, sinceYear0}
 use Rattle.model.specs.Refusal.{outOfRange}
 use Rattle.model.specs.Result.{Result, ok, refuse, provided, _>>=_}
-use Rattle.model.specs.Shift.{after, monthFirst, monthNumber, movedByMonths, shift, shiftMonths}
-use Rattle.model.specs.Laws.Calendar.{Dated, month-day, parts-valid}
+use Rattle.model.specs.Shift.{after, monthFirst, monthNumber, monthStart, movedByMonths, shift, shiftMonths}
+use Rattle.model.specs.Laws.Calendar.{Dated}
 use Rattle.model.specs.Laws.DateText.{ranged-ok, since-back, since-bound}
 use Rattle.model.specs.Laws.Logic.{true→T, clash}
 use Rattle.model.specs.declared.Date.{Date}
 use Rattle.model.specs.declared.TimeUnit.{TimeUnit}
 use Rattle.model.specs.declared.TimeUnit.the-variants.{Year, Month, Day, Hour}
 use Rattle.calendar.specs.Answer.{shifted}
-use Rattle.days.specs.Contract.{WithinYears}
 use Rattle.instants.specs.Inner.{amountOf, inMonth, monthOf}
 use Rattle.calendar.specs.Laws.Instant.{from-late, minus, minus-below, moved-back, moved-on, moved-out}
 use Rattle.instants.specs.Laws.Shift.{in-month}
@@ -112,23 +110,13 @@ module _ (k n unit : ℕ) where
   month-far-back f g h = month-early (omega (arith, mul-le-mul g h))
 
 -- ---- an instant of a month
--- The first of the month.
-pub first-near : (k : ℕ) → k < 120000 → WithinYears (date (k / 12) (k % 12 + 1) 1)
-first-near k h =
-    let w = date (k / 12) (k % 12 + 1) 1 in
-    let a : k % 12 + 1 ≤ 12 = omega arith in
-    record {
-      valid = parts-valid w (record { month-low = omega arith; month-high = a; day-low = lit≤ tt; day-high = month-day (k / 12) (k % 12 + 1) (omega arith) a });
-      year-high = omega arith;
-    }
-
--- The days and the time of day from there.
+-- The days and the time of day from its first day.
 module _ (days time : ℕ) where
   pub month-none : (k : ℕ) → 120000 ≤ k → refuse outOfRange ≡ inMonth k days time
   month-none k h = rw (le-ltb k 120000 h)
 
-  pub month-some : (k first : ℕ) → k < 120000 → first ≡ dayNumber (date (k / 12) (k % 12 + 1) 1) → ranged (fromYear0 ((first + days) * msPerDay + time)) ≡ inMonth k days time
-  month-some k first h e = rw (e, add-one, lt-ltb k 120000 h)
+  pub month-some : (k first : ℕ) → k < 120000 → first ≡ monthStart k → ranged (fromYear0 ((first + days) * msPerDay + time)) ≡ inMonth k days time
+  month-some k first h e = rw (e, lt-ltb k 120000 h)
 
 pub months-moved : (since : ℕ) (w : Date) (amount : ℤ) → Dated (since / msPerDay) w
     → inMonth (monthOf (pos (monthNumber w) +ℤ amount)) (w .day - 1) (since % msPerDay) ≡ movedByMonths since amount

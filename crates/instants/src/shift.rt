@@ -2,9 +2,9 @@
 use calendar::instant::Instant;
 use calendar::instant::InstantAnswer;
 use days::day::MS_PER_DAY;
+use days::day::MonthAnswer;
 use days::day::date_at;
-use days::day::day_number;
-use model::Date;
+use days::day::month_start;
 use model::TimeUnit;
 ghost use mathlib.Core.Path.{_≡_};
 ghost use Prim.Native.Nat.{_<_, _≤_};
@@ -94,14 +94,9 @@ fn in_month(month: u64, days: u64, time: u64) -> InstantAnswer
     requires { ⌜ (days ≤ 30) × (time < msPerDay) ⌝ }
     ensures { λ r. ⌜ instantResult r ≡ inMonth month days time ⌝ }
 {
-    if month >= RANGE_MONTHS {
+    let MonthAnswer::Begins(first) = month_start(month) else {
         return InstantAnswer::OutOfRange;
-    }
-    let first = day_number(Date {
-        year: month / 12,
-        month: month % 12 + 1,
-        day: 1,
-    });
+    };
     Instant::from_year_0((first + days) * MS_PER_DAY + time)
 }
 
