@@ -3,6 +3,7 @@ use crate::row::Row;
 use crate::row::Span;
 use crate::row::join;
 use crate::row::row_at;
+use area::get_word;
 use syntax::ARRAY_ROW;
 use syntax::FALSE_ROW;
 use syntax::INTEGER_ROW;
@@ -81,11 +82,12 @@ pub fn next_row(table: &[u8], row: usize) -> usize
     if row >= table.len() / ROW_BYTES {
         return row;
     }
-    let r = row_at(table, row);
-    if r.kind < ARRAY_ROW {
+    let at = row * ROW_BYTES;
+    let kind = get_word(table, at) % 256;
+    if kind < ARRAY_ROW {
         return row + 1;
     }
-    r.second
+    get_word(table, at + 12)
 }
 
 // Where the name of the member in a row lies.
