@@ -6,7 +6,7 @@
 // the measured time: ours is written from the read form and one cell, a peer's from its tree. Ours is written into an
 // output of 16,384 bytes, and what is left of it is cleared in each call. All must give the same text.
 #include "jehvrukam.h"
-#include "../tests/writer_c.h"
+#include "../tests/test_writer.h"
 #include "measure.h"
 #include "texts.h"
 

@@ -3,5 +3,5 @@
 include!("../link.rs");
 
 fn main() {
-    find_library("CALENDAR_LIB", "calendar_c");
+    find_library("CALENDAR_LIB", "test_calendar");
 }

@@ -1,5 +1,5 @@
 #!/usr/bin/env python3
-"""Compares the definitions of crates/model and crates/stages with the reference on random cases.
+"""Compares the definitions of crates/model and crates/pipeline with the reference on random cases.
 
 The reference judges each case, and antt is to accept `refl` for what it gives, as in try_definitions.py: from the bytes
 of the texts. The cases depend on the seed and their number alone. README.md, beside this file, says more.

@@ -1,5 +1,5 @@
 #!/usr/bin/env python3
-"""Evaluates a rule on a record, as the definitions of crates/stages and crates/model say; prints what the program will print.
+"""Evaluates a rule on a record, as the definitions of crates/pipeline and crates/model say; prints what the program will print.
 
 The reference computes the answer. The prover then checks, as a theorem, that the definitions give exactly that, and
 only then is it printed. A limit above 1,000 is refused with 1 at once, without the prover. A missing file counts as

@@ -1,8 +1,8 @@
 #!/usr/bin/env python3
-"""Runs the definitions of crates/syntax, crates/model and crates/stages on the cases of vectors/, by computation.
+"""Runs the definitions of crates/syntax, crates/model and crates/pipeline on the cases of vectors/, by computation.
 
 antt accepts `refl` for a case exactly if the definitions give what the case expects: `read` of
-crates/syntax/specs/Read.antt, or a stage of crates/stages/specs/Texts.antt and then `answerOf` of
+crates/syntax/specs/Read.antt, or a stage of crates/pipeline/specs/Texts.antt and then `answerOf` of
 crates/model/specs/Judgement.antt. All go from the bytes of the texts. README.md, beside this file, says more.
 """
 import argparse
@@ -197,7 +197,7 @@ class Check:
 
 # The texts, in the order of their numbers.
 TEXTS = ["rule", "sheet", "record"]
-# Of each entry: what is seen of it (SEEN, below), its stage in crates/stages/specs/Texts.antt, and the texts that this takes.
+# Of each entry: what is seen of it (SEEN, below), its stage in crates/pipeline/specs/Texts.antt, and the texts that this takes.
 STAGES = {
     "check": ("seenTypes", "checkStage", ["rule", "sheet"]),
     "fits": ("seenFit", "fitsStage", ["sheet", "record"]),
@@ -317,8 +317,8 @@ use Rattle.model.specs.Types.{typeBits}
 use Rattle.model.specs.Writing.{valueText}
 use Rattle.syntax.specs.Read.{Read, read}
 use Rattle.syntax.specs.Read as reading
-use Rattle.stages.specs.Stage.{Stage, passed, refused}
-use Rattle.stages.specs.Texts.{TextsChecked, checkStage, TextsFitted, fitsStage, TextsRead, evaluateStage, CheckedTextsRead, evaluateCheckedStage}
+use Rattle.pipeline.specs.Stage.{Stage, passed, refused}
+use Rattle.pipeline.specs.Texts.{TextsChecked, checkStage, TextsFitted, fitsStage, TextsRead, evaluateStage, CheckedTextsRead, evaluateCheckedStage}
 """
 
 SEEN = """
@@ -366,7 +366,7 @@ definitions = 0
 """
 
 # The crates of the definitions, each with those that it needs.
-DEFINING = {"model": [], "syntax": ["model"], "stages": ["model", "syntax"]}
+DEFINING = {"model": [], "syntax": ["model"], "pipeline": ["model", "syntax"]}
 # Those whose code declares types of the definitions; another crate has this for code.
 DECLARING = ["model", "syntax"]
 NO_CODE = "pub enum Unused {\n    Only,\n}\n"

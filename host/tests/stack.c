@@ -6,7 +6,7 @@
  * 'N passed, M failed': one for each text, rule, sheet, value and question, that it stayed below its limit.
  */
 #include "jehvrukam.h"
-#include "writer_c.h"
+#include "test_writer.h"
 
 #include <pthread.h>
 #include <stdio.h>

@@ -1,10 +1,10 @@
 /*
- * Tests writer_write from C, the entry of the crate writer_c, which is no part of the product's library. Every area
+ * Tests writer_write from C, the entry of the crate test_writer, which is no part of the product's library. Every area
  * stands between two pages that cannot be touched, with guard bytes in what is left of its own pages. The last line is
  * 'N passed, M failed'.
  */
 #include "areas.h"
-#include "writer_c.h"
+#include "test_writer.h"
 
 #include <inttypes.h>
 

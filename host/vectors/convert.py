@@ -1,5 +1,5 @@
 #!/usr/bin/env python3
-"""Makes crates/vectors/data/cases, which the program crates/vectors runs, from the cases of vectors/ and document 01.
+"""Makes crates/test_vectors/data/cases, which the program crates/test_vectors runs, from the cases of vectors/ and document 01.
 
 It takes the cases of the entry `evaluate` but those with a work area too short, the rows that document 01 marks with a
 star, and its reduce row at the limits 15 and 14. README.md, beside this file, has the format. With `--check` it writes
@@ -11,7 +11,7 @@ import sys
 from pathlib import Path
 
 ROOT = Path(__file__).resolve().parents[2]
-KEPT = ROOT / "crates" / "vectors" / "data" / "cases"
+KEPT = ROOT / "crates" / "test_vectors" / "data" / "cases"
 
 # The texts of a call by their numbers, as the entry tells which one is refused.
 TEXTS = {None: 0, "rule": 1, "record": 3}

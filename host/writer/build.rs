@@ -3,5 +3,5 @@
 include!("../link.rs");
 
 fn main() {
-    find_library("WRITER_LIB", "writer_c");
+    find_library("WRITER_LIB", "test_writer");
 }

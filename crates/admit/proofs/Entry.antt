@@ -13,8 +13,8 @@ use Rattle.model.specs.Limits.{maxSteps}
 use Rattle.model.specs.Main.{steps-within-limit}
 use Rattle.model.specs.Refusal.{Refusal, number}
 use Rattle.syntax.specs.Layout.{padded, tableBytes, stringsBytes}
-use Rattle.stages.specs.Stage.{Stage, passed, refused}
-use Rattle.stages.specs.Texts.{TextsRead, evaluateStage}
+use Rattle.pipeline.specs.Stage.{Stage, passed, refused}
+use Rattle.pipeline.specs.Texts.{TextsRead, evaluateStage}
 use Rattle.jehvrukam.specs.Contract.{entry, areasOf, numbersOf}
 use Rattle.jehvrukam.specs.Entry.{cellsBytes}
 use Rattle.jehvrukam.specs.Evaluate.{Areas, Numbers, Evaluated, isInvalid, zeros, answered, evaluateAnswer, evaluateEntry}

@@ -6,11 +6,11 @@ use Rattle.model.specs.Bytes.{Bytes, ascii}
 use Rattle.model.specs.Judgement.{Judged, done, refuses, Answer, answerOf}
 use Rattle.model.specs.Refusal.{number}
 use Rattle.model.specs.Writing.{decimal}
-use Rattle.stages.specs.Stage.{Stage, passed, refused}
-use Rattle.stages.specs.Texts.{TextsRead, evaluateStage}
+use Rattle.pipeline.specs.Stage.{Stage, passed, refused}
+use Rattle.pipeline.specs.Texts.{TextsRead, evaluateStage}
 use Rattle.admit.specs.Limits.{stepLimit, outputBytes}
 
--- ---- the answer to two texts: "rule read; 6; .. record read" (stages/Texts.antt: evaluateStage), then "evaluation; 11; 12". "Before evaluation steps are 0."
+-- ---- the answer to two texts: "rule read; 6; .. record read" (pipeline/Texts.antt: evaluateStage), then "evaluation; 11; 12". "Before evaluation steps are 0."
 abbrev pub answerAfter : Stage TextsRead → ℕ → ℕ → Answer
 answerAfter (refused e which place) limit room = record { result = refuses e; stepsBegun = 0 }
 answerAfter (passed t) limit room = answerOf (t .rule .content) (t .«record») limit room

@@ -22,7 +22,7 @@ use Rattle.model.specs.Laws.Calendar as CalendarLaws
 use Rattle.model.specs.Laws.DayCount as DayCountLaws
 use Rattle.model.specs.Laws.DayCount.{daysAfter, earlier}
 use Rattle.model.specs.Laws.InstantText as InstantTextLaws
-use Rattle.calendar.specs.Answer.{dateNumber, dateResult, instantNumber, instantResult, shifted}
+use Rattle.calendar.specs.Contract.{dateNumber, dateResult, instantNumber, instantResult, shifted}
 use Rattle.calendar.specs.Laws.Answer as AnswerLaws
 use Rattle.calendar.specs.declared.instant.DateAnswer.{DateAnswer}
 use Rattle.calendar.specs.declared.instant.Instant.{Instant}

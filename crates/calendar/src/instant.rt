@@ -6,7 +6,7 @@ use model::Date;
 ghost use mathlib.Core.Path.{_≡_};
 ghost use Rattle.model.specs.Instant.{earliest, latest, ranged, fromYear0, sinceYear0};
 ghost use Rattle.model.specs.DateText as reading;
-ghost use Rattle.calendar.specs.Answer.{instantResult, dateResult};
+ghost use Rattle.calendar.specs.Contract.{instantResult, dateResult};
 
 // The milliseconds from 0000-01-01 to 1970-01-01, and to the latest instant.
 const BEFORE_1970: u64 = (0 - Instant::EARLIEST) as u64;

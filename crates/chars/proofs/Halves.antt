@@ -17,7 +17,7 @@ use Rattle.syntax.specs.Read.{Parsed, ok, bad, then, give, Piece, closing, byte
 use Rattle.syntax.specs.Tokens.{escapeOf}
 use Rattle.syntax.specs.Utf8.{leadOf, unitOf, utf8, pairOf}
 use Rattle.scan.specs.Contract.{standsAt, Stands}
-use Rattle.chars.specs.Pieces.{Leads, Unicodes, Escaped}
+use Rattle.chars.specs.Inner.{Leads, Unicodes, Escaped}
 use Rattle.chars.proofs.Tables.{lead-as, escape-as}
 use Rattle.chars.proofs.Read.{char-end, char-closing, char-never, char-escape, char-lead, escape-end, escape-letter, escape-not}
 use Rattle.chars.proofs.Pieces.{letter-u}

@@ -15,7 +15,7 @@ use Rattle.syntax.specs.declared.Hex.the-variants.{HexDigit}
 use Rattle.syntax.specs.Read.{ok, bad, then, give, bytes, tails, hexes, char, grow}
 use Rattle.syntax.specs.Tokens.{hexOf}
 use Rattle.syntax.specs.Utf8.{leadOf}
-use Rattle.chars.specs.Pieces.{Taken, Tailed, UnitRead}
+use Rattle.chars.specs.Inner.{Taken, Tailed, UnitRead}
 use Rattle.chars.proofs.Tables.{inside, hex-as}
 use Rattle.chars.proofs.Steps.{grow-none, grow-grow, chars-bytes, reads-one, taken-none, taken-then}
 use Rattle.chars.proofs.Read.{char-lead, tails-in, hexes-in}

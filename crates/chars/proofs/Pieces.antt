@@ -20,7 +20,7 @@ use Rattle.scan.specs.declared.Fault.{Fault}
 use Rattle.scan.specs.Contract.{faultOf}
 use Rattle.chars.specs.declared.Decoded.{Decoded}
 use Rattle.chars.specs.declared.Decoded.the-variants.{Chars, NoChars}
-use Rattle.chars.specs.Pieces.{Taken, Stopped, PieceMeets, Pieced, Leads, Tailed, UnitRead, Unicodes, Escaped, Put}
+use Rattle.chars.specs.Inner.{Taken, Stopped, PieceMeets, Pieced, Leads, Tailed, UnitRead, Unicodes, Escaped, Put}
 use Rattle.chars.proofs.Steps.{chars-bytes, chars-bad, chars-plain, chars-high, chars-low, chars-pair, reads-one}
 use Rattle.chars.proofs.Read.{char-escape, char-lead, escape-end, escape-letter, escape-not, escape-unicode}
 

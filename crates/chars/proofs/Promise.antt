@@ -16,7 +16,7 @@ use Rattle.scan.specs.Contract.{faultOf, Stands}
 use Rattle.chars.specs.declared.Decoded.{Decoded}
 use Rattle.chars.specs.declared.Decoded.the-variants.{Chars, NoChars}
 use Rattle.chars.specs.Contract.{CharsMeets, CharsPromise}
-use Rattle.chars.specs.Pieces.{Room, Taken, Stopped, Advanced, PieceMeets, Pieced}
+use Rattle.chars.specs.Inner.{Room, Taken, Stopped, Advanced, PieceMeets, Pieced}
 use Rattle.chars.proofs.Steps.{chars-closing, chars-bad}
 use Rattle.chars.proofs.Read.{char-closing, char-end}
 use Rattle.chars.proofs.Loops.{taken-length}

@@ -12,7 +12,7 @@ use Rattle.area.specs.Laws.{sets-append}
 use Rattle.syntax.specs.declared.Unit.the-variants.{Plain, High, Low}
 use Rattle.syntax.specs.Read.{Parsed, ok, bad, then, give, closing, bytes, unit, onPiece, onUnit, orLone, lone, char, chars, clear, high, grow}
 use Rattle.syntax.specs.Utf8.{unitOf, utf8, pairOf}
-use Rattle.chars.specs.Pieces.{Reads, Taken}
+use Rattle.chars.specs.Inner.{Reads, Taken}
 
 -- ---- one step
 module _ (f : ℕ) (t : Bytes) (at : ℕ) where

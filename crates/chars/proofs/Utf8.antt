@@ -8,7 +8,7 @@ use borrow.Author.Tests.{lt-ltb, le-ltb}
 use lib.ListN.{length, set}
 use Rattle.model.specs.Bytes.{Bytes}
 use Rattle.syntax.specs.Utf8.{utf8}
-use Rattle.chars.specs.Pieces.{Put}
+use Rattle.chars.specs.Inner.{Put}
 
 module _ (u : ℕ) where
   utf8-one : u < 128 → utf8 u ≡ u ∷ []

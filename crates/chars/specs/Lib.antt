@@ -1,3 +1,3 @@
 -- The contract of `chars`, and what the private functions promise.
 pub mod Contract
-pub mod Pieces
+pub mod Inner

@@ -18,7 +18,7 @@ ghost use Rattle.syntax.specs.Tokens.{escapeOf, hexOf};
 ghost use Rattle.syntax.specs.Utf8.{leadOf, unitOf};
 ghost use Rattle.scan.specs.Contract.{faultAt, Stands};
 ghost use Rattle.chars.specs.Contract.{CharsPromise};
-ghost use Rattle.chars.specs.Pieces.{Room, Taken, Pieced, Leads, Tailed, Coded, Unicodes, Escaped, Halved, Put};
+ghost use Rattle.chars.specs.Inner.{Room, Taken, Pieced, Leads, Tailed, Coded, Unicodes, Escaped, Halved, Put};
 
 // Characters read up to the offset `at` and decoded up to `used`; or a fault.
 pub enum Decoded {

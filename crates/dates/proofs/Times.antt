@@ -20,7 +20,7 @@ use Rattle.model.specs.Laws.Logic.{true→T, clash}
 use Rattle.model.specs.Refusal.{badDate, outOfRange, Fault}
 use Rattle.model.specs.Result.{Result, ok, refuse, provided}
 use Rattle.model.specs.declared.Date.{Date}
-use Rattle.calendar.specs.Answer.{dateResult}
+use Rattle.calendar.specs.Contract.{dateResult}
 use Rattle.calendar.specs.Laws.Instant.{since-from}
 use Rattle.calendar.specs.declared.instant.DateAnswer.{DateAnswer}
 use Rattle.calendar.specs.declared.instant.Instant.{Instant}

@@ -1,5 +1,5 @@
 // The dates in the first three forms.
-use crate::shape::two_digits;
+use crate::pattern::two_digits;
 use calendar::instant::DateAnswer;
 use calendar::instant::midnight;
 use days::month::month_days;
@@ -8,7 +8,7 @@ ghost use mathlib.Core.Path.{_≡_};
 ghost use Prim.Native.Nat.{_≤_};
 ghost use Rattle.model.specs.DateText.{yearIn, dateIn, lastOfMonth};
 ghost use Rattle.model.specs.DateText as reading;
-ghost use Rattle.calendar.specs.Answer.{dateResult};
+ghost use Rattle.calendar.specs.Contract.{dateResult};
 
 pub fn year_in(text: &[u8]) -> u64
     ensures { λ r. ⌜ (r ≡ yearIn (now (text .entry))) × (r ≤ 300000) ⌝ }

@@ -1,22 +1,22 @@
 // Date texts: the instant that a text of one of the nineteen forms stands for.
 mod day;
 mod offset;
-mod shape;
+mod pattern;
 mod time;
 
 use crate::day::date_in;
 use crate::day::month_end;
 use crate::day::year_in;
-use crate::shape::like;
-use crate::shape::starts_like;
-use crate::shape::two_digits;
+use crate::pattern::like;
+use crate::pattern::starts_like;
+use crate::pattern::two_digits;
 use crate::time::read_time;
 use calendar::instant::DateAnswer;
 use calendar::instant::midnight;
 use model::Date;
 ghost use mathlib.Core.Path.{_≡_};
 ghost use Rattle.model.specs.DateText.{dayText, dateText};
-ghost use Rattle.calendar.specs.Answer.{dateResult};
+ghost use Rattle.calendar.specs.Contract.{dateResult};
 
 // A text of one of the first three forms: YYYY, YYYY-MM, YYYY-MM-DD.
 pub fn read_day(text: &[u8]) -> DateAnswer

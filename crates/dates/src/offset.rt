@@ -1,8 +1,8 @@
 // Offsets from UTC.
-use crate::shape::digit_at;
-use crate::shape::like;
-use crate::shape::starts_like;
-use crate::shape::two_digits;
+use crate::pattern::digit_at;
+use crate::pattern::like;
+use crate::pattern::starts_like;
+use crate::pattern::two_digits;
 ghost use mathlib.Core.Path.{_≡_};
 ghost use mathlib.Core.Option.{Option·map};
 ghost use Prim.Native.Nat.{_≤_};

@@ -2,10 +2,10 @@
 use crate::day::date_in;
 use crate::offset::Offset;
 use crate::offset::to_utc;
-use crate::shape::digit_at;
-use crate::shape::digit_run;
-use crate::shape::starts_like;
-use crate::shape::two_digits;
+use crate::pattern::digit_at;
+use crate::pattern::digit_run;
+use crate::pattern::starts_like;
+use crate::pattern::two_digits;
 use calendar::instant::DateAnswer;
 use calendar::instant::Instant;
 use calendar::instant::dated;
@@ -17,7 +17,7 @@ ghost use lib.ListN.{take};
 ghost use Rattle.model.specs.Bytes.{ascii};
 ghost use Rattle.model.specs.DateText.{startsLike, fractionDigit, afterSeconds, isTime, timeText};
 ghost use Rattle.model.specs.DateText as reading;
-ghost use Rattle.calendar.specs.Answer.{dateResult};
+ghost use Rattle.calendar.specs.Contract.{dateResult};
 
 const MAX_FRACTION_DIGITS: usize = 9;
 

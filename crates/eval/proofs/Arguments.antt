@@ -17,14 +17,14 @@ use Rattle.heap.specs.Laws.Cells.{length-stored}
 use Rattle.heap.specs.Main as heap
 use Rattle.heap.specs.Means.{Means}
 use Rattle.heap.specs.Unfold.{Areas, areas}
-use Rattle.operate.specs.declared.ended.Ended.{Ended}
-use Rattle.operate.specs.declared.ended.State.{State}
-use Rattle.operate.specs.Cells.{Same}
-use Rattle.operate.specs.Contract.{StackRoom, Applies}
-use Rattle.operate.specs.Ended.{state, EndsAs}
-use Rattle.operate.specs.Laws.Cells.{same-all, same-then, same-put, means-kept, each-kept}
-use Rattle.operate.specs.Laws.Stack.{stack-cell, stacked-same, stacked-more}
-use Rattle.operate.specs.Stack.{stackCell, stacked}
+use Rattle.operations.specs.declared.ended.Ended.{Ended}
+use Rattle.operations.specs.declared.ended.State.{State}
+use Rattle.operations.specs.Cells.{Same}
+use Rattle.operations.specs.Contract.{StackRoom, Applies}
+use Rattle.operations.specs.Ended.{state, EndsAs}
+use Rattle.operations.specs.Laws.Cells.{same-all, same-then, same-put, means-kept, each-kept}
+use Rattle.operations.specs.Laws.Stack.{stack-cell, stacked-same, stacked-more}
+use Rattle.operations.specs.Stack.{stackCell, stacked}
 use Rattle.rule.specs.Holds.{ruleCount}
 use Rattle.eval.specs.declared.task.Frame.the-variants.{Argument}
 use Rattle.eval.specs.declared.task.Next.{Next}

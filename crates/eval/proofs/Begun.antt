@@ -13,20 +13,20 @@ use Rattle.heap.specs.Blocks.{no-handles}
 use Rattle.heap.specs.Means.{Means, means-false, means-true, means-integer, means-string}
 use Rattle.heap.specs.Unfold.{areas}
 use Rattle.keywords.specs.declared.Op.{Op}
-use Rattle.keywords.specs.Keyword.{Stands}
-use Rattle.lookup.specs.Contract.{Leads}
-use Rattle.operate.specs.declared.ended.Ended.the-variants.{Gives, Denies}
-use Rattle.operate.specs.declared.ended.Fault.the-variants.{OutOfSteps}
-use Rattle.operate.specs.declared.ended.State.{State}
-use Rattle.operate.specs.Ended.{state, EndsAs, ends-value, ends-fault}
-use Rattle.operate.specs.Laws.Cells.{same-all}
-use Rattle.operate.specs.Stack.{stackedFrom}
+use Rattle.keywords.specs.Contract.{Stands}
+use Rattle.op_lookup.specs.Contract.{Leads}
+use Rattle.operations.specs.declared.ended.Ended.the-variants.{Gives, Denies}
+use Rattle.operations.specs.declared.ended.Fault.the-variants.{OutOfSteps}
+use Rattle.operations.specs.declared.ended.State.{State}
+use Rattle.operations.specs.Ended.{state, EndsAs, ends-value, ends-fault}
+use Rattle.operations.specs.Laws.Cells.{same-all}
+use Rattle.operations.specs.Stack.{stackedFrom}
 use Rattle.rule.specs.declared.view.Literal.{Literal}
 use Rattle.rule.specs.declared.view.View.{View}
 use Rattle.rule.specs.declared.view.View.the-variants as Views
 use Rattle.rule.specs.Holds.{ruleCount}
 use Rattle.rule.specs.Laws.Holds.{holds-count}
-use Rattle.rule.specs.View.{Spells, spells-false, spells-true, spells-integer, spells-string, nested, Viewed, viewed-literal, viewed-var, viewed-if, viewed-and, viewed-reduce, viewed-apply, ViewsAs}
+use Rattle.rule.specs.Contract.{Spells, spells-false, spells-true, spells-integer, spells-string, nested, Viewed, viewed-literal, viewed-var, viewed-if, viewed-and, viewed-reduce, viewed-apply, ViewsAs}
 use Rattle.table.specs.declared.node.Rows.{Rows}
 use Rattle.table.specs.declared.row.Span.{Span}
 use Rattle.table.specs.Strings.{bytesOf}

@@ -8,13 +8,13 @@ use Rattle.model.specs.Laws.Logic.{clash}
 use Rattle.model.specs.Value.{Value}
 use Rattle.heap.specs.declared.handle.Handle.{Handle}
 use Rattle.heap.specs.Unfold.{Areas}
-use Rattle.operate.specs.declared.ended.Ended.{Ended}
-use Rattle.operate.specs.declared.ended.Ended.the-variants.{Gives, Denies}
-use Rattle.operate.specs.declared.ended.Fault.{Fault}
-use Rattle.operate.specs.declared.ended.State.{State}
-use Rattle.operate.specs.Cells.{Same}
-use Rattle.operate.specs.Ended.{state, EndsAs, ends-value, ends-fault}
-use Rattle.operate.specs.Laws.Ends.{got, failed}
+use Rattle.operations.specs.declared.ended.Ended.{Ended}
+use Rattle.operations.specs.declared.ended.Ended.the-variants.{Gives, Denies}
+use Rattle.operations.specs.declared.ended.Fault.{Fault}
+use Rattle.operations.specs.declared.ended.State.{State}
+use Rattle.operations.specs.Cells.{Same}
+use Rattle.operations.specs.Ended.{state, EndsAs, ends-value, ends-fault}
+use Rattle.operations.specs.Laws.Ends.{got, failed}
 use Rattle.eval.specs.declared.task.Next.{Next}
 use Rattle.eval.specs.declared.task.Next.the-variants.{Ends, Asks}
 use Rattle.eval.specs.Inner.{Bounded, Within, Restored, resumedEnd, nextDeep}

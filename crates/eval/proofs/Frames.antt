@@ -5,9 +5,9 @@ use native.Mathlib.Omega.{arith}
 use Rattle.model.specs.Bytes.{Bytes}
 use Rattle.model.specs.Rule.{Rules}
 use Rattle.model.specs.Value.{Value}
-use Rattle.operate.specs.Cells.{Same}
-use Rattle.operate.specs.Laws.Cells.{means-kept, each-kept}
-use Rattle.operate.specs.Laws.Stack.{stacked-same}
+use Rattle.operations.specs.Cells.{Same}
+use Rattle.operations.specs.Laws.Cells.{means-kept, each-kept}
+use Rattle.operations.specs.Laws.Stack.{stacked-same}
 use Rattle.eval.specs.declared.task.Frame.{Frame}
 use Rattle.eval.specs.declared.task.Frame.the-variants.{Guard, Branch, Conjunct, Source, Item, Argument}
 use Rattle.eval.specs.declared.task.Task.{Task}

@@ -8,14 +8,14 @@ use Rattle.model.specs.Limits.{heapCells}
 use Rattle.model.specs.Value.{Value}
 use Rattle.heap.specs.declared.handle.Handle.{Handle}
 use Rattle.heap.specs.Unfold.{areas}
-use Rattle.operate.specs.declared.ended.Ended.{Ended}
-use Rattle.operate.specs.declared.ended.Ended.the-variants.{Gives, Denies}
-use Rattle.operate.specs.declared.ended.Fault.{Fault}
-use Rattle.operate.specs.declared.ended.State.{State}
-use Rattle.operate.specs.Cells.{Same}
-use Rattle.operate.specs.Ended.{EndsAs, ends-value, ends-fault}
-use Rattle.operate.specs.Laws.Cells.{same-all, same-then}
-use Rattle.operate.specs.Laws.Ends.{got, failed}
+use Rattle.operations.specs.declared.ended.Ended.{Ended}
+use Rattle.operations.specs.declared.ended.Ended.the-variants.{Gives, Denies}
+use Rattle.operations.specs.declared.ended.Fault.{Fault}
+use Rattle.operations.specs.declared.ended.State.{State}
+use Rattle.operations.specs.Cells.{Same}
+use Rattle.operations.specs.Ended.{EndsAs, ends-value, ends-fault}
+use Rattle.operations.specs.Laws.Cells.{same-all, same-then}
+use Rattle.operations.specs.Laws.Ends.{got, failed}
 use Rattle.eval.specs.declared.task.Frame.{Frame}
 use Rattle.eval.specs.declared.task.Frame.the-variants.{Guard, Branch, Conjunct, Source, Item, Argument}
 use Rattle.eval.specs.declared.task.Next.{Next}

@@ -24,16 +24,16 @@ use Rattle.heap.specs.Main as heap
 use Rattle.heap.specs.Means.{Means, means-null, means-false, means-true, means-integer, means-instant, means-string, means-items, means-members, means-list, means-context}
 use Rattle.heap.specs.Parts.{headOf, tailOf}
 use Rattle.heap.specs.Unfold.{Areas, areas}
-use Rattle.operate.specs.declared.ended.Ended.the-variants.{Gives, Denies}
-use Rattle.operate.specs.declared.ended.Fault.the-variants.{WrongKind}
-use Rattle.operate.specs.declared.ended.State.{State}
-use Rattle.operate.specs.Cells.{Same}
-use Rattle.operate.specs.Ended.{state, ends-value, ends-fault}
-use Rattle.operate.specs.Laws.Cells.{same-all, same-then, same-put, means-kept}
+use Rattle.operations.specs.declared.ended.Ended.the-variants.{Gives, Denies}
+use Rattle.operations.specs.declared.ended.Fault.the-variants.{WrongKind}
+use Rattle.operations.specs.declared.ended.State.{State}
+use Rattle.operations.specs.Cells.{Same}
+use Rattle.operations.specs.Ended.{state, ends-value, ends-fault}
+use Rattle.operations.specs.Laws.Cells.{same-all, same-then, same-put, means-kept}
 use Rattle.rule.specs.Holds.{ruleCount}
-use Rattle.scalars.specs.declared.truth.Truth as declared
-use Rattle.scalars.specs.declared.truth.Truth.the-variants.{Truthy, Falsy, Neither}
-use Rattle.scalars.specs.Contract.{truthOf, TruthIs}
+use Rattle.op_scalars.specs.declared.truth.Truth as declared
+use Rattle.op_scalars.specs.declared.truth.Truth.the-variants.{Truthy, Falsy, Neither}
+use Rattle.op_scalars.specs.Contract.{truthOf, TruthIs}
 use Rattle.eval.specs.declared.take.Elements.the-variants.{NotArray, Of}
 use Rattle.eval.specs.declared.task.Frame.the-variants.{Guard, Branch, Conjunct, Source, Item}
 use Rattle.eval.specs.declared.task.Next.the-variants.{Ends, Asks}

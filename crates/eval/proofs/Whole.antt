@@ -21,12 +21,12 @@ use Rattle.heap.specs.declared.handle.Handle.{Handle}
 use Rattle.heap.specs.Handles.{rowHandle}
 use Rattle.heap.specs.Main as heap
 use Rattle.heap.specs.Unfold.{areas}
-use Rattle.operate.specs.declared.ended.Ended.{Ended}
-use Rattle.operate.specs.declared.ended.Ended.the-variants.{Gives, Denies}
-use Rattle.operate.specs.declared.ended.Fault.{Fault}
-use Rattle.operate.specs.declared.ended.State.{State}
-use Rattle.operate.specs.Ended.{faultOf, state}
-use Rattle.operate.specs.Laws.Ends.{got, failed}
+use Rattle.operations.specs.declared.ended.Ended.{Ended}
+use Rattle.operations.specs.declared.ended.Ended.the-variants.{Gives, Denies}
+use Rattle.operations.specs.declared.ended.Fault.{Fault}
+use Rattle.operations.specs.declared.ended.State.{State}
+use Rattle.operations.specs.Ended.{faultOf, state}
+use Rattle.operations.specs.Laws.Ends.{got, failed}
 use Rattle.writer.specs.declared.Answer as writing
 use Rattle.writer.specs.Contract.{answered, handleWritten}
 use Rattle.eval.specs.declared.Answer.{Answer}

@@ -25,14 +25,14 @@ use Rattle.heap.specs.Handles.{span}
 use Rattle.heap.specs.Means.{Means}
 use Rattle.heap.specs.Unfold.{areas}
 use Rattle.keywords.specs.declared.Op.{Op}
-use Rattle.keywords.specs.Keyword.{Stands}
-use Rattle.operate.specs.declared.ended.Ended.{Ended}
-use Rattle.operate.specs.declared.ended.Ended.the-variants.{Gives, Denies}
-use Rattle.operate.specs.declared.ended.Fault.{Fault}
-use Rattle.operate.specs.declared.ended.State.{State}
-use Rattle.operate.specs.Cells.{Same}
-use Rattle.operate.specs.Ended.{EndsAs, state}
-use Rattle.operate.specs.Stack.{stacked}
+use Rattle.keywords.specs.Contract.{Stands}
+use Rattle.operations.specs.declared.ended.Ended.{Ended}
+use Rattle.operations.specs.declared.ended.Ended.the-variants.{Gives, Denies}
+use Rattle.operations.specs.declared.ended.Fault.{Fault}
+use Rattle.operations.specs.declared.ended.State.{State}
+use Rattle.operations.specs.Cells.{Same}
+use Rattle.operations.specs.Ended.{EndsAs, state}
+use Rattle.operations.specs.Stack.{stacked}
 use Rattle.rule.specs.declared.view.Literal.{Literal}
 use Rattle.rule.specs.declared.view.Literal.the-variants as Literals
 use Rattle.rule.specs.Holds.{Holds, ruleCount}

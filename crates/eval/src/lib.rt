@@ -7,13 +7,13 @@ use heap::handle::Handle;
 use heap::handle::load;
 use model::HEAP_CELLS;
 use model::MAX_NESTING;
-use operate::ended::Ended;
-use operate::ended::Fault;
+use operations::ended::Ended;
+use operations::ended::Fault;
 use writer::Answer as Written;
 use writer::write;
 ghost use mathlib.Core.Path.{_≡_};
 ghost use Rattle.model.specs.Refusal.{evalNumber};
-ghost use Rattle.operate.specs.Ended.{faultOf};
+ghost use Rattle.operations.specs.Ended.{faultOf};
 ghost use Rattle.eval.specs.Contract.{Reaches};
 ghost use Rattle.eval.specs.Evaluate.{Ready, Evaluates, writtenAnswer};
 

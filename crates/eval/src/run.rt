@@ -7,8 +7,8 @@ use crate::take::take;
 use crate::task::Next;
 use crate::task::Task;
 use crate::task::state;
-use operate::ended::Ended;
-use operate::ended::State;
+use operations::ended::Ended;
+use operations::ended::State;
 ghost use mathlib.Core.Path.{_≡_};
 ghost use Rattle.eval.specs.Inner.{Room, resumedEnd, Operating, Operates, Evals};
 

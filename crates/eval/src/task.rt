@@ -1,10 +1,10 @@
 // What an evaluation does next, by value.
 use heap::handle::Handle;
 use keywords::Op;
-use operate::ended::Ended;
-use operate::ended::State;
+use operations::ended::Ended;
+use operations::ended::State;
 ghost use mathlib.Core.Path.{_≡_};
-ghost use Rattle.operate.specs.Ended as ended;
+ghost use Rattle.operations.specs.Ended as ended;
 ghost use Rattle.eval.specs.Inner as inner;
 
 // A rule to evaluate: the row that it stands at, the context, and the state that it begins in.

@@ -22,7 +22,7 @@ use Rattle.model.specs.Laws.Logic.{true→T, clash}
 use Rattle.model.specs.declared.Date.{Date}
 use Rattle.model.specs.declared.TimeUnit.{TimeUnit}
 use Rattle.model.specs.declared.TimeUnit.the-variants.{Year, Month, Day, Hour}
-use Rattle.calendar.specs.Answer.{shifted}
+use Rattle.calendar.specs.Contract.{shifted}
 use Rattle.instants.specs.Inner.{amountOf, inMonth, monthOf}
 use Rattle.calendar.specs.Laws.Instant.{from-late, minus, minus-below, moved-back, moved-on, moved-out}
 use Rattle.instants.specs.Laws.Shift.{in-month}

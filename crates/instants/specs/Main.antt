@@ -12,7 +12,7 @@ use Rattle.model.specs.Refusal.{outOfRange}
 use Rattle.model.specs.Result.{refuse}
 use Rattle.model.specs.declared.TimeUnit.the-variants.{Year, Month}
 use Rattle.model.specs.Laws.Shift.{dateOf}
-use Rattle.calendar.specs.Answer.{shifted}
+use Rattle.calendar.specs.Contract.{shifted}
 use Rattle.instants.specs.Laws.Shift as ShiftLaws
 use Rattle.instants.specs.Laws.Shift.{Lands, monthTo}
 

@@ -11,7 +11,7 @@ ghost use Prim.Native.Nat.{_<_, _≤_};
 ghost use lib.IntN.{pos, _+ℤ_, _*ℤ_};
 ghost use Rattle.model.specs.Instant.{msPerDay, msPerHour, ranged, fromYear0};
 ghost use Rattle.model.specs.Shift.{movedByMonths};
-ghost use Rattle.calendar.specs.Answer.{instantResult, shifted};
+ghost use Rattle.calendar.specs.Contract.{instantResult, shifted};
 ghost use Rattle.instants.specs.Inner.{amountOf, latestSinceYear0, rangeMonths, monthOf, inMonth};
 
 const MS_PER_HOUR: u64 = MS_PER_DAY / 24;

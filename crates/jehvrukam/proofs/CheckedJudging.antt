@@ -13,14 +13,14 @@ use Rattle.syntax.specs.Output.{writtenSize, writtenOutput}
 use Rattle.eval.specs.declared.Answer as evaluating
 use Rattle.eval.specs.Evaluate.{Ready, Evaluates}
 use Rattle.sheet.specs.Contract.{Fits}
-use Rattle.stages.specs.declared.check.Checked.{Checked}
-use Rattle.stages.specs.declared.text.Stop as stages
-use Rattle.stages.specs.Areas.{TextAreas, textAreas, holding, leftBy}
-use Rattle.stages.specs.Contract.{stopOf, leftAfter, wordsOf}
-use Rattle.stages.specs.Laws.{number-some, Passed, Stopped, CheckHeld, check-held, TextHeld, text-held, record-held, left-holding, left-sheet, left-denotes}
-use Rattle.stages.specs.LongAreas.{ReadsLong, ChecksLong}
-use Rattle.stages.specs.Stage.{Stage, passed, refused, ruleText, sheetText, recordText, readAs}
-use Rattle.stages.specs.Texts.{TextsChecked, checkStage, CheckedTextsRead, evaluateCheckedStage}
+use Rattle.pipeline.specs.declared.check.Checked.{Checked}
+use Rattle.pipeline.specs.declared.text.Stop as stages
+use Rattle.pipeline.specs.Areas.{TextAreas, textAreas, holding, leftBy}
+use Rattle.pipeline.specs.Contract.{stopOf, leftAfter, wordsOf}
+use Rattle.pipeline.specs.Laws.Stages.{number-some, Passed, Stopped, CheckHeld, check-held, TextHeld, text-held, record-held, left-holding, left-sheet, left-denotes}
+use Rattle.pipeline.specs.Laws.LongAreas.{ReadsLong, ChecksLong}
+use Rattle.pipeline.specs.Stage.{Stage, passed, refused, ruleText, sheetText, recordText, readAs}
+use Rattle.pipeline.specs.Texts.{TextsChecked, checkStage, CheckedTextsRead, evaluateCheckedStage}
 use Rattle.jehvrukam.specs.declared.evaluate_checked.CheckedOutcome.{CheckedOutcome}
 use Rattle.jehvrukam.specs.Contract.{checkedAreasOf, checkedNumbersOf}
 use Rattle.jehvrukam.specs.Entry.{Entry, WorkAreas, workAreas}

@@ -7,10 +7,10 @@ use lib.ListN.{length}
 use Rattle.model.specs.Bytes.{Bytes}
 use Rattle.model.specs.Judgement.{Judged, done, refuses, answerOf}
 use Rattle.syntax.specs.Entry.{tooShort}
-use Rattle.stages.specs.Areas.{TextAreas, textAreas, zeroed}
-use Rattle.stages.specs.LongAreas.{Long}
-use Rattle.stages.specs.Stage.{Stage, passed, refused}
-use Rattle.stages.specs.Texts.{TextsRead, evaluateStage, CheckedTextsRead, evaluateCheckedStage}
+use Rattle.pipeline.specs.Areas.{TextAreas, textAreas, zeroed}
+use Rattle.pipeline.specs.Laws.LongAreas.{Long}
+use Rattle.pipeline.specs.Stage.{Stage, passed, refused}
+use Rattle.pipeline.specs.Texts.{TextsRead, evaluateStage, CheckedTextsRead, evaluateCheckedStage}
 use Rattle.jehvrukam.specs.declared.evaluate_checked.CheckedOutcome.{CheckedOutcome}
 use Rattle.jehvrukam.specs.Contract.{entry, areasOf, checkedAreasOf, checkedNumbersOf}
 use Rattle.jehvrukam.specs.Entry.{WorkAreas, workAreas, cannotRun, zeroedWork}

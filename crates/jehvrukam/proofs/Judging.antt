@@ -9,13 +9,13 @@ use Rattle.model.specs.Value.{Value}
 use Rattle.syntax.specs.Output.{writtenSize, writtenOutput}
 use Rattle.eval.specs.declared.Answer as evaluating
 use Rattle.eval.specs.Evaluate.{Ready, Evaluates}
-use Rattle.stages.specs.declared.text.Stop as stages
-use Rattle.stages.specs.Areas.{textAreas, holding}
-use Rattle.stages.specs.Contract.{stopOf}
-use Rattle.stages.specs.Laws.{number-some, Passed, Stopped, text-held, record-held, left-holding}
-use Rattle.stages.specs.LongAreas.{ReadsLong}
-use Rattle.stages.specs.Stage.{Stage, passed, refused, ruleText, recordText, readAs}
-use Rattle.stages.specs.Texts.{TextRead, ruleStage, TextsRead, evaluateStage}
+use Rattle.pipeline.specs.declared.text.Stop as stages
+use Rattle.pipeline.specs.Areas.{textAreas, holding}
+use Rattle.pipeline.specs.Contract.{stopOf}
+use Rattle.pipeline.specs.Laws.Stages.{number-some, Passed, Stopped, text-held, record-held, left-holding}
+use Rattle.pipeline.specs.Laws.LongAreas.{ReadsLong}
+use Rattle.pipeline.specs.Stage.{Stage, passed, refused, ruleText, recordText, readAs}
+use Rattle.pipeline.specs.Texts.{TextRead, ruleStage, TextsRead, evaluateStage}
 use Rattle.jehvrukam.specs.declared.evaluate.Outcome.{Outcome}
 use Rattle.jehvrukam.specs.Contract.{areasOf, numbersOf}
 use Rattle.jehvrukam.specs.Entry.{workAreas}

@@ -16,9 +16,9 @@ use Rattle.syntax.specs.Read.{read}
 use Rattle.heap.specs.Cells.{cellBytes}
 use Rattle.eval.specs.declared.Answer as evaluating
 use Rattle.eval.specs.Evaluate.{Ready, Evaluation, evaluation, evaluated, Evaluates}
-use Rattle.stages.specs.Areas.{textAreas, leftBy}
-use Rattle.stages.specs.Laws.{TextHeld, left-rule, left-denotes}
-use Rattle.stages.specs.Texts.{TextRead}
+use Rattle.pipeline.specs.Areas.{textAreas, leftBy}
+use Rattle.pipeline.specs.Laws.Stages.{TextHeld, left-rule, left-denotes}
+use Rattle.pipeline.specs.Texts.{TextRead}
 use Rattle.jehvrukam.specs.Inner.{Runs}
 use Rattle.jehvrukam.proofs.Settling.{neither}
 

@@ -9,7 +9,7 @@ use Rattle.area.specs.Laws.{zeroFrom-all}
 use Rattle.area.specs.Words.{zeroFrom}
 use Rattle.model.specs.Bytes.{Bytes}
 use Rattle.model.specs.Laws.Logic.{clash}
-use Rattle.stages.specs.Areas.{textAreas, zeroed}
+use Rattle.pipeline.specs.Areas.{textAreas, zeroed}
 use Rattle.jehvrukam.specs.Contract.{entry}
 use Rattle.jehvrukam.specs.Entry.{Entry, workAreas, zeroedWork}
 use Rattle.jehvrukam.specs.Inner.{settledBy, settled, Settled, Judges}

@@ -2,10 +2,10 @@
 use mathlib.Core.Path.{_≡_, sym, ap, _∙_}
 use Prim.Native.Nat.{ℕ}
 use Rattle.model.specs.Refusal.{Refusal, number}
-use Rattle.stages.specs.declared.text.Stop as stages
-use Rattle.stages.specs.Contract.{stopOf}
-use Rattle.stages.specs.Laws.{Passed, Stopped, zero-passed, some-stopped}
-use Rattle.stages.specs.Stage.{Stage, refused}
+use Rattle.pipeline.specs.declared.text.Stop as stages
+use Rattle.pipeline.specs.Contract.{stopOf}
+use Rattle.pipeline.specs.Laws.Stages.{Passed, Stopped, zero-passed, some-stopped}
+use Rattle.pipeline.specs.Stage.{Stage, refused}
 use Rattle.jehvrukam.specs.Entry.{Entry}
 use Rattle.jehvrukam.specs.Inner.{Judges}
 

@@ -6,15 +6,15 @@ use lib.Dec.{eqb}
 use Rattle.model.specs.Bytes.{Bytes}
 use Rattle.model.specs.Judgement.{ruleIn, sheetIn}
 use Rattle.syntax.specs.Entry.{tooShort}
-use Rattle.stages.specs.declared.check.Checked.{Checked}
-use Rattle.stages.specs.declared.fit.Fitted.{Fitted}
-use Rattle.stages.specs.declared.text.Stop as stages
-use Rattle.stages.specs.Areas.{TextAreas, textAreas, zeroed, holding, leftBy}
-use Rattle.stages.specs.Contract.{stopOf, leftAfter, wordsOf, ChecksTexts, fitOf, FitsTexts}
-use Rattle.stages.specs.Laws.{number-some, text-held, record-held, left-holding, check-held, fits-held}
-use Rattle.stages.specs.LongAreas.{ChecksLong, check-long, FitsLong, fit-long}
-use Rattle.stages.specs.Stage.{Stage, passed, refused, ruleText, sheetText}
-use Rattle.stages.specs.Texts.{TextsChecked, checkStage, TextsFitted, fitsStage}
+use Rattle.pipeline.specs.declared.check.Checked.{Checked}
+use Rattle.pipeline.specs.declared.fit.Fitted.{Fitted}
+use Rattle.pipeline.specs.declared.text.Stop as stages
+use Rattle.pipeline.specs.Areas.{TextAreas, textAreas, zeroed, holding, leftBy}
+use Rattle.pipeline.specs.Contract.{stopOf, leftAfter, wordsOf, ChecksTexts, fitOf, FitsTexts}
+use Rattle.pipeline.specs.Laws.Stages.{number-some, text-held, record-held, left-holding, check-held, fits-held}
+use Rattle.pipeline.specs.Laws.LongAreas.{ChecksLong, check-long, FitsLong, fit-long}
+use Rattle.pipeline.specs.Stage.{Stage, passed, refused, ruleText, sheetText}
+use Rattle.pipeline.specs.Texts.{TextsChecked, checkStage, TextsFitted, fitsStage}
 use Rattle.jehvrukam.specs.Check.{CheckAreas, CheckNumbers, isCheckInvalid, checkZeros, checkAnswer, checkEntry}
 use Rattle.jehvrukam.specs.Contract.{entry, checkAreasOf, checkNumbersOf, fitsAreasOf, fitsNumbersOf}
 use Rattle.jehvrukam.specs.Fits.{FitsAreas, FitsNumbers, yesOrNo, isFitsInvalid, fitsZeros, fitsAnswer, fitsEntry}

@@ -4,9 +4,9 @@ use Prim.Native.Nat.{ℕ}
 use Rattle.model.specs.Bytes.{Bytes}
 use Rattle.model.specs.Refusal.{number}
 use Rattle.model.specs.Types.{typeBits}
-use Rattle.stages.specs.Areas.{TextAreas, isShort, zeroed, holding}
-use Rattle.stages.specs.Stage.{Stage, passed, refused}
-use Rattle.stages.specs.Texts.{TextsChecked, checkStage}
+use Rattle.pipeline.specs.Areas.{TextAreas, isShort, zeroed, holding}
+use Rattle.pipeline.specs.Stage.{Stage, passed, refused}
+use Rattle.pipeline.specs.Texts.{TextsChecked, checkStage}
 use Rattle.jehvrukam.specs.Entry.{Entry, untouched}
 
 pub record CheckAreas : Type 0 where
@@ -35,6 +35,6 @@ checkAnswer a (passed c) = record {
   areas = record { rule = holding (c .rule .value) (a .rule); sheet = holding (c .sheet .value) (a .sheet) };
 }
 
--- "Order ..: 1; rule read; 6; then sheet read, 14 and 13" (stages/Texts.antt: checkStage)
+-- "Order ..: 1; rule read; 6; then sheet read, 14 and 13" (pipeline/Texts.antt: checkStage)
 abbrev pub checkEntry : Bytes → Bytes → CheckAreas → CheckNumbers → Entry CheckNumbers CheckAreas
 checkEntry rule sheet a n = elim (isCheckInvalid a) [ true ↦ untouched n a | false ↦ checkAnswer a (checkStage rule sheet) ]

@@ -2,7 +2,7 @@
 use Prim.Native.Nat.{ℕ}
 use Rattle.model.specs.Bytes.{Bytes}
 use Rattle.syntax.specs.Entry.{ReadAnswer}
-use Rattle.stages.specs.Areas.{textAreas}
+use Rattle.pipeline.specs.Areas.{textAreas}
 use Rattle.table.specs.declared.row.Span.{Span}
 use Rattle.viewer.specs.Answer.{Seen}
 use Rattle.jehvrukam.specs.Check.{CheckAreas, CheckNumbers}

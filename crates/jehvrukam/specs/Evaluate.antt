@@ -6,9 +6,9 @@ use Rattle.model.specs.Bytes.{Bytes}
 use Rattle.model.specs.Judgement.{Judged, done, refuses, answerOf}
 use Rattle.model.specs.Refusal.{number}
 use Rattle.syntax.specs.Layout.{padded}
-use Rattle.stages.specs.Areas.{TextAreas, isShort, zeroed, holding}
-use Rattle.stages.specs.Stage.{Stage, passed, refused}
-use Rattle.stages.specs.Texts.{TextsRead, evaluateStage}
+use Rattle.pipeline.specs.Areas.{TextAreas, isShort, zeroed, holding}
+use Rattle.pipeline.specs.Stage.{Stage, passed, refused}
+use Rattle.pipeline.specs.Texts.{TextsRead, evaluateStage}
 use Rattle.jehvrukam.specs.Entry.{Entry, untouched, WorkAreas, workAreas, cannotRun, zeroedWork}
 
 -- ---- what is lent and told
@@ -56,6 +56,6 @@ evaluateAnswer a limit (passed t) =
     let x = answerOf (t .rule .content) (t .«record») limit (length (a .work .output)) in
     answered a t (x .result) (x .stepsBegun)
 
--- "Order ..: 1; rule read; 6; .. record read; evaluation; 11; 12." (stages/Texts.antt: evaluateStage)
+-- "Order ..: 1; rule read; 6; .. record read; evaluation; 11; 12." (pipeline/Texts.antt: evaluateStage)
 abbrev pub evaluateEntry : Bytes → Bytes → ℕ → Areas → Numbers → Evaluated
 evaluateEntry rule record′ limit a n = elim (isInvalid limit a) [ true ↦ untouched n a | false ↦ evaluateAnswer a limit (evaluateStage rule record′) ]

@@ -8,9 +8,9 @@ use Rattle.model.specs.Refusal.{number}
 use Rattle.model.specs.Sheet.{fits}
 use Rattle.model.specs.Types.{typeBits}
 use Rattle.syntax.specs.Layout.{padded}
-use Rattle.stages.specs.Areas.{TextAreas, isShort, zeroed, holding}
-use Rattle.stages.specs.Stage.{Stage, passed, refused}
-use Rattle.stages.specs.Texts.{CheckedTextsRead, evaluateCheckedStage}
+use Rattle.pipeline.specs.Areas.{TextAreas, isShort, zeroed, holding}
+use Rattle.pipeline.specs.Stage.{Stage, passed, refused}
+use Rattle.pipeline.specs.Texts.{CheckedTextsRead, evaluateCheckedStage}
 use Rattle.jehvrukam.specs.Entry.{Entry, untouched, WorkAreas, workAreas, cannotRun, zeroedWork}
 use Rattle.jehvrukam.specs.Fits.{yesOrNo}
 

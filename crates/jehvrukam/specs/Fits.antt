@@ -4,9 +4,9 @@ use Prim.Native.Nat.{ℕ}
 use Rattle.model.specs.Bytes.{Bytes}
 use Rattle.model.specs.Refusal.{number}
 use Rattle.model.specs.Sheet.{fits}
-use Rattle.stages.specs.Areas.{TextAreas, isShort, zeroed, holding}
-use Rattle.stages.specs.Stage.{Stage, passed, refused}
-use Rattle.stages.specs.Texts.{TextsFitted, fitsStage}
+use Rattle.pipeline.specs.Areas.{TextAreas, isShort, zeroed, holding}
+use Rattle.pipeline.specs.Stage.{Stage, passed, refused}
+use Rattle.pipeline.specs.Texts.{TextsFitted, fitsStage}
 use Rattle.jehvrukam.specs.Entry.{Entry, untouched}
 
 pub record FitsAreas : Type 0 where
@@ -38,6 +38,6 @@ fitsAnswer a (passed t) = record {
   areas = record { sheet = holding (t .sheet .value) (a .sheet); «record» = holding (t .«record») (a .«record») };
 }
 
--- "Order, for as much as an entry takes: 1; .. sheet read, 14 ..; record read" (stages/Texts.antt: fitsStage)
+-- "Order, for as much as an entry takes: 1; .. sheet read, 14 ..; record read" (pipeline/Texts.antt: fitsStage)
 abbrev pub fitsEntry : Bytes → Bytes → FitsAreas → FitsNumbers → Entry FitsNumbers FitsAreas
 fitsEntry sheet record′ a n = elim (isFitsInvalid a) [ true ↦ untouched n a | false ↦ fitsAnswer a (fitsStage sheet record′) ]

@@ -5,7 +5,7 @@ use Prim.Native.Nat.{ℕ}
 use lib.Dec.{eqb}
 use lib.ListN.{length, replicate}
 use Rattle.model.specs.Bytes.{Bytes}
-use Rattle.stages.specs.declared.text.Stop as stages
+use Rattle.pipeline.specs.declared.text.Stop as stages
 use Rattle.jehvrukam.specs.declared.evaluate.Outcome.{Outcome}
 use Rattle.jehvrukam.specs.declared.evaluate_checked.CheckedOutcome.{CheckedOutcome}
 use Rattle.jehvrukam.specs.Contract.{numbersOf, checkedNumbersOf}

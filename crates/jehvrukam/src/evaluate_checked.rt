@@ -1,13 +1,13 @@
 // Evaluation under a sheet, from texts: the stages in 01's order.
 use eval::evaluate;
+use pipeline::check::check_texts;
+use pipeline::text::Stop;
+use pipeline::text::read_text;
 use sheet::fit::fits;
-use stages::check::check_texts;
-use stages::text::Stop;
-use stages::text::read_text;
 ghost use mathlib.Core.Path.{_≡_};
-ghost use Rattle.stages.specs.Areas.{textAreas};
-ghost use Rattle.stages.specs.LongAreas.{Long};
-ghost use Rattle.stages.specs.Texts.{evaluateCheckedStage};
+ghost use Rattle.pipeline.specs.Areas.{textAreas};
+ghost use Rattle.pipeline.specs.Laws.LongAreas.{Long};
+ghost use Rattle.pipeline.specs.Texts.{evaluateCheckedStage};
 ghost use Rattle.jehvrukam.specs.Contract.{checkedAreasOf};
 ghost use Rattle.jehvrukam.specs.EvaluateChecked.{checkedZeros, evaluateCheckedAnswer};
 ghost use Rattle.jehvrukam.specs.Inner.{Judges, Runs, checkedTold, checkedUnrun};

@@ -11,7 +11,7 @@ use Rattle.model.specs.Limits.{maxValues}
 use Rattle.model.specs.Refusal.{ReadFault}
 use Rattle.model.specs.Size.{valueCount}
 use Rattle.model.specs.Value.{Value}
-use Rattle.names.specs.Index.{entry}
+use Rattle.name_index.specs.Contract.{entry}
 use Rattle.scan.specs.declared.Fault.{Fault}
 use Rattle.scan.specs.Laws.{Gone}
 use Rattle.syntax.specs.Layout.{rowBytes, rowsOf, stringsOf}

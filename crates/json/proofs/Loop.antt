@@ -8,7 +8,7 @@ use lib.Seq.{sets}
 use Rattle.area.specs.Laws.{sets-append}
 use Rattle.model.specs.Bytes.{Bytes}
 use Rattle.model.specs.Limits.{maxValues}
-use Rattle.names.specs.Index.{entry}
+use Rattle.name_index.specs.Contract.{entry}
 use Rattle.scan.specs.declared.Fault.{Fault}
 use Rattle.scan.specs.Laws.{Gone}
 use Rattle.syntax.specs.Layout.{rowBytes}

@@ -14,8 +14,8 @@ use Rattle.model.specs.Refusal.{notJson}
 use Rattle.model.specs.Size.{valueCount}
 use Rattle.model.specs.Value.{Value, Members, no-members, member}
 use Rattle.model.specs.Laws.Logic.{clash}
-use Rattle.names.specs.Callers.{indexed-empty, indexed-frame}
-use Rattle.names.specs.Index.{Entry, Indexed, Between, namesOf, part}
+use Rattle.name_index.specs.Laws.Entries.{indexed-empty, indexed-frame}
+use Rattle.name_index.specs.Contract.{Entry, Indexed, Between, namesOf, part}
 use Rattle.scan.specs.declared.Fault.{Fault}
 use Rattle.scan.specs.Contract.{faultOf, Skipped, Separated}
 use Rattle.scan.specs.Laws.{eat-next, white-by, separator-by, Gone}

@@ -13,8 +13,8 @@ use Rattle.area.specs.Laws.{wordAt-take, part-sets}
 use Rattle.model.specs.Bytes.{Bytes, sameBytes}
 use Rattle.model.specs.Lists.{any}
 use Rattle.model.specs.Refusal.{notJson, repeatedName}
-use Rattle.names.specs.Index as index
-use Rattle.names.specs.Index.{Entry, Indexed, Between, EnterRoom, Entered, namesOf, part}
+use Rattle.name_index.specs.Contract as index
+use Rattle.name_index.specs.Contract.{Entry, Indexed, Between, EnterRoom, Entered, namesOf, part}
 use Rattle.scan.specs.declared.Fault.{Fault}
 use Rattle.scan.specs.Contract.{faultOf, Skipped, Stands}
 use Rattle.scan.specs.Laws.{eat-next, white-by, byte-by, Gone}

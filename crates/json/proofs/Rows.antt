@@ -12,8 +12,8 @@ use Rattle.model.specs.Bytes.{Bytes}
 use Rattle.model.specs.Limits.{maxTextBytes, maxValues}
 use Rattle.model.specs.Size.{itemsCount, membersCount}
 use Rattle.model.specs.Value.{Value, scalar, instant, array, object, Scalar, null, boolean, integer, string, memberCount}
-use Rattle.names.specs.Index.{entry}
-use Rattle.names.specs.Slots as slots
+use Rattle.name_index.specs.Contract.{entry}
+use Rattle.name_index.specs.Slots as slots
 use Rattle.syntax.specs.Layout.{rowBytes, entryBytes, tableBytes, Label, row, rowsOf, itemRows, memberRows, scalarRow, itemCount}
 use Rattle.syntax.specs.Laws.Layout.{size-above}
 use Rattle.json.specs.Inner.{rowsPart}

@@ -14,7 +14,7 @@ use Rattle.model.specs.Refusal.{ReadFault, notJson, tooLarge}
 use Rattle.model.specs.Size.{valueCount}
 use Rattle.model.specs.Laws.Logic.{clash}
 use Rattle.model.specs.Value.{Value, scalar, array, object, integer, string, no-items, no-members}
-use Rattle.names.specs.Index.{entry}
+use Rattle.name_index.specs.Contract.{entry}
 use Rattle.scan.specs.declared.Fault.{Fault}
 use Rattle.scan.specs.Contract.{faultOf, Skipped, Started, Separated, Stands, LiteralMeets, NumberMeets, wordValue}
 use Rattle.scan.specs.Laws.{eat-next, white-by, value-by, arrayBy, objectBy, array-by, object-by, Gone, literal-whole, literal-wrong, number-whole, number-wrong}

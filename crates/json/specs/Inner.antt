@@ -11,7 +11,7 @@ use Rattle.model.specs.Refusal.{notJson}
 use Rattle.model.specs.Size.{valueCount, itemsCount, membersCount}
 use Rattle.model.specs.Value.{Value, scalar, array, object, string, Values, no-items, Members, no-members, memberCount}
 use Rattle.area.specs.Words.{wordAt}
-use Rattle.names.specs.Index.{Entry, Indexed, Between, namesOf, part, entry}
+use Rattle.name_index.specs.Contract.{Entry, Indexed, Between, namesOf, part, entry}
 use Rattle.scan.specs.declared.Fault.{Fault}
 use Rattle.scan.specs.Contract.{faultOf, Skipped, Separated}
 use Rattle.syntax.specs.Layout.{rowBytes, tableBytes, unnamed, rowsOf, itemRows, memberRows, stringsOf, itemStrings, memberStrings, itemCount}

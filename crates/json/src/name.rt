@@ -2,7 +2,7 @@
 use crate::row::Label;
 use chars::Decoded;
 use chars::chars;
-use names::enter;
+use name_index::enter;
 use scan::Fault;
 use scan::token::skip_white;
 use scan::token::stands;

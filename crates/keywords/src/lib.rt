@@ -7,7 +7,7 @@ use model::TimeUnit;
 ghost use mathlib.Core.Path.{_≡_};
 ghost use Rattle.model.specs.Shape.{keywords, keywordNamed, units, unitNamed};
 ghost use Rattle.bytes.specs.Names.{entryAt};
-ghost use Rattle.keywords.specs.Keyword.{keywordOf, unitOf};
+ghost use Rattle.keywords.specs.Contract.{keywordOf, unitOf};
 
 // An operation that evaluates all operands first. 2^53 was added to an amount and an index.
 pub enum Op {

@@ -1,5 +1,5 @@
 -- Judgement: what comes back of a value that a text reads as (6, 14) and of a rule on a record (evaluation, then 11, then 12), with the steps that are
--- reported. The order of all stages of an entry is in stages/Texts.antt.
+-- reported. The order of all stages of an entry is in pipeline/Texts.antt.
 use mathlib.Core.Bool.{cond}
 use mathlib.Core.Option.{Option, none, some}
 use Prim.Native.Nat.{ℕ}

@@ -1,5 +1,5 @@
 // Decimal digits without leading zeros.
-use crate::bytes::put_bytes;
+use crate::put::put_bytes;
 ghost use mathlib.Core.Path.{_≡_};
 ghost use Rattle.model.specs.Bytes.{digitByte};
 ghost use Rattle.model.specs.Writing.{decimal};

@@ -1,6 +1,6 @@
 // An instant's text, copied from its fixed record of 24 bytes, as a string.
-use crate::bytes::put_byte;
-use crate::bytes::put_bytes;
+use crate::put::put_byte;
+use crate::put::put_bytes;
 use calendar::instant::Instant;
 use instants::text::InstantText;
 ghost use Rattle.model.specs.InstantText.{instantText};

@@ -1,6 +1,6 @@
 // Strings: in quotes, with the escapes of RFC 8785, section 3.2.2.2.
-use crate::bytes::put_byte;
-use crate::bytes::put_bytes;
+use crate::put::put_byte;
+use crate::put::put_bytes;
 use model::MAX_TEXT_BYTES;
 ghost use mathlib.Core.Path.{_≡_};
 ghost use mathlib.Core.Bool.{true, false};

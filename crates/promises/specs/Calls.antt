@@ -12,8 +12,8 @@ use Rattle.model.specs.Textual.{textual}
 use Rattle.model.specs.Value.{Value, instantFree}
 use Rattle.model.specs.Writing.{valueText}
 use Rattle.syntax.specs.Read.{done, read}
-use Rattle.stages.specs.Stage.{passed}
-use Rattle.stages.specs.Texts.{TextsRead, evaluateStage, CheckedTextsRead, evaluateCheckedStage}
+use Rattle.pipeline.specs.Stage.{passed}
+use Rattle.pipeline.specs.Texts.{TextsRead, evaluateStage, CheckedTextsRead, evaluateCheckedStage}
 use Rattle.jehvrukam.specs.Check.{CheckAreas, CheckNumbers, checkEntry}
 use Rattle.jehvrukam.specs.Entry.{Entry}
 use Rattle.jehvrukam.specs.Evaluate.{Evaluated}

@@ -2,7 +2,7 @@
 use mathlib.Core.Path.{_≡_}
 use lib.ListN.{length}
 use Rattle.syntax.specs.Entry.{ReadAnswer}
-use Rattle.stages.specs.Areas.{TextAreas}
+use Rattle.pipeline.specs.Areas.{TextAreas}
 use Rattle.jehvrukam.specs.Check.{CheckAreas}
 use Rattle.jehvrukam.specs.Entry.{Entry, WorkAreas}
 use Rattle.jehvrukam.specs.Evaluate.{Areas}

@@ -9,8 +9,8 @@ use Rattle.model.specs.Place.{subrule}
 use Rattle.model.specs.Rule.{Rule}
 use Rattle.model.specs.Run.{Place, steps, NeverBegins}
 use Rattle.syntax.specs.Locate.{StandsAt, positionsOf}
-use Rattle.stages.specs.Stage.{passed}
-use Rattle.stages.specs.Texts.{TextRead, ruleStage, TextsRead, evaluateStage}
+use Rattle.pipeline.specs.Stage.{passed}
+use Rattle.pipeline.specs.Texts.{TextRead, ruleStage, TextsRead, evaluateStage}
 use Rattle.jehvrukam.specs.Evaluate.{Evaluated}
 
 -- In a rule's bytes, `before`, `old` and `after`, `old` is an operand rule, by its place, that the run on the record's bytes never begins. The bytes `new` are

@@ -4,7 +4,7 @@ use Rattle.model.specs.Bytes.{Bytes}
 use Rattle.model.specs.Value.{Value}
 use Rattle.syntax.specs.Read.{done, read}
 use Rattle.viewer.specs.Shows.{ShowsText}
-use Rattle.stages.specs.Areas.{TextAreas}
+use Rattle.pipeline.specs.Areas.{TextAreas}
 
 pub record ReadShown (text table strings : Bytes) : Type 0 where
   pub value : Value

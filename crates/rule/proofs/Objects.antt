@@ -15,7 +15,7 @@ use Rattle.model.specs.Shape.{keywordNamed, contentOf, build, other, shape}
 use Rattle.model.specs.Value.{Value, scalar, string, object, Members, no-members, member}
 use Rattle.keywords.specs.declared.Keyword.{Keyword}
 use Rattle.keywords.specs.declared.Keyword.the-variants as Keywords
-use Rattle.keywords.specs.Keyword.{keywordOf}
+use Rattle.keywords.specs.Contract.{keywordOf}
 use Rattle.table.specs.declared.node.Node.{Node}
 use Rattle.table.specs.declared.node.Node.the-variants.{Object}
 use Rattle.table.specs.declared.node.Rows.{Rows}
@@ -28,7 +28,7 @@ use Rattle.rule.specs.declared.view.Single.the-variants.{NotSingle, Memb
 use Rattle.rule.specs.declared.view.Shape.{Shape}
 use Rattle.rule.specs.declared.view.Shape.the-variants as Seen
 use Rattle.rule.specs.Inner.{singleOf, pathOn, contentOn, ObjectShapes}
-use Rattle.rule.specs.View.{Shaped, shaped-none, shaped-var}
+use Rattle.rule.specs.Contract.{Shaped, shaped-none, shaped-var}
 use Rattle.rule.proofs.Chains.{bind-none}
 use Rattle.rule.proofs.Operands.{of, keyword-shape, operands-views}
 

@@ -12,7 +12,7 @@ use Rattle.model.specs.Rule.{Operation}
 use Rattle.model.specs.Shape.{Keyword, var, if, reduce, and, plusTime, extractFromUVCI, counted, keywords, keywordNamed}
 use Rattle.keywords.specs.declared.Op.{Op}
 use Rattle.keywords.specs.declared.Op.the-variants as Ops
-use Rattle.keywords.specs.Keyword.{operationOf, Stands, stands-equal, stands-member-of, stands-plus, stands-not, stands-date-of-birth, stands-compare}
+use Rattle.keywords.specs.Contract.{operationOf, Stands, stands-equal, stands-member-of, stands-plus, stands-not, stands-date-of-birth, stands-compare}
 
 -- The numbers that the table has for an operation; an array is not in it.
 abbrev Allowed : ℕ → ℕ → Operation → Type 0

@@ -16,7 +16,7 @@ use Rattle.model.specs.Shape.{shape, rulesOf, operandsOf}
 use Rattle.model.specs.Size.{nesting}
 use Rattle.model.specs.Value.{Value, array, object, Values}
 use Rattle.keywords.specs.declared.Op.the-variants as Ops
-use Rattle.keywords.specs.Keyword.{Stands, stands-array}
+use Rattle.keywords.specs.Contract.{Stands, stands-array}
 use Rattle.table.specs.declared.node.Node.{Node}
 use Rattle.table.specs.declared.node.Node.the-variants.{Null, False, True, Integer, String, Array, Object}
 use Rattle.table.specs.declared.node.Rows.{Rows}
@@ -32,7 +32,7 @@ use Rattle.rule.specs.declared.view.View.{View}
 use Rattle.rule.specs.declared.view.View.the-variants as Views
 use Rattle.rule.specs.Holds.{Holds, HoldsAll}
 use Rattle.rule.specs.Inner.{ObjectShapes, within}
-use Rattle.rule.specs.View.{Viewed, viewed-literal, viewed-var, viewed-if, viewed-and, viewed-reduce, viewed-apply, nested, nestedShape, ViewsAs, Built, built-if, built-and, built-reduce, built-apply, has-apply, Operates, Shaped, shaped-none, shaped-literal, shaped-var, shaped-operation, ShapesAs, spells-false, spells-true, spells-integer, spells-string}
+use Rattle.rule.specs.Contract.{Viewed, viewed-literal, viewed-var, viewed-if, viewed-and, viewed-reduce, viewed-apply, nested, nestedShape, ViewsAs, Built, built-if, built-and, built-reduce, built-apply, has-apply, Operates, Shaped, shaped-none, shaped-literal, shaped-var, shaped-operation, ShapesAs, spells-false, spells-true, spells-integer, spells-string}
 use Rattle.rule.specs.Laws.Holds.{rules-count}
 
 -- Nothing is seen where no nesting is left.

@@ -23,7 +23,7 @@ use Rattle.rule.specs.declared.view.Shape.{Shape}
 use Rattle.rule.specs.declared.view.Shape.the-variants.{NotRule, Rule}
 use Rattle.rule.specs.declared.view.View.{View}
 use Rattle.rule.specs.declared.view.View.the-variants.{Var, If, And, Reduce, Apply}
-use Rattle.rule.specs.View.{Shaped}
+use Rattle.rule.specs.Contract.{Shaped}
 
 -- ---- the single member
 abbrev pub singleOf : Bytes → Rows → Single

@@ -12,9 +12,9 @@ use table::node::node_at;
 use table::row::Span;
 use table::string::bytes_of;
 ghost use mathlib.Core.Path.{_≡_};
-ghost use Rattle.keywords.specs.Keyword.{unitOf};
+ghost use Rattle.keywords.specs.Contract.{unitOf};
 ghost use Rattle.rule.specs.Inner.{singleOf, countedOn, andOn, firstOf, unitAt, plusTimeOf, plusTimeOn, extractOn, pathOn, operandsOn, contentOn, within, ObjectShapes};
-ghost use Rattle.rule.specs.View.{ShapesAs, ViewsAs};
+ghost use Rattle.rule.specs.Contract.{ShapesAs, ViewsAs};
 
 // A boolean, an integer to which 2^53 was added, or where a string lies in the rule's strings.
 pub enum Literal {

@@ -18,7 +18,7 @@ use Rattle.rule.specs.declared.view.Shape.{Shape as Seen}
 use Rattle.rule.specs.declared.view.Shape.the-variants as Shapes
 use Rattle.rule.specs.declared.view.View.{View}
 use Rattle.rule.specs.declared.view.View.the-variants as Views
-use Rattle.rule.specs.View.{Has, nested, Operates, Shaped, shaped-none, shaped-literal, shaped-var, shaped-operation, ShapesAs}
+use Rattle.rule.specs.Contract.{Has, nested, Operates, Shaped, shaped-none, shaped-literal, shaped-var, shaped-operation, ShapesAs}
 use Rattle.rule.specs.Laws.View.{has-one, has-nested}
 use Rattle.table.specs.declared.node.Node.the-variants.{Array}
 use Rattle.table.specs.declared.node.Rows.{Rows as RowsOf}

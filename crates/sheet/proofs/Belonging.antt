@@ -18,9 +18,9 @@ use Rattle.table.specs.Denotes.{Denotes, denotes-null, denotes-false, denotes-t
 use Rattle.table.specs.Laws.Denotes.{ArrayParts}
 use Rattle.table.specs.Node.{nodeAt, tailOf}
 use Rattle.table.specs.Strings.{bytesOf}
-use Rattle.types.specs.declared.set.TypeSet.{TypeSet}
-use Rattle.types.specs.Fields.{any-typesIn}
-use Rattle.types.specs.Set.{typesIn}
+use Rattle.type_set.specs.declared.set.TypeSet.{TypeSet}
+use Rattle.type_set.specs.Laws.Fields.{any-typesIn}
+use Rattle.type_set.specs.Contract.{typesIn}
 use Rattle.sheet.specs.Inner.{kindOf, TestsKind, AllOfKind, stringBelongs, ArrayBelongs}
 
 -- ---- the loop over the items of an array

@@ -22,12 +22,12 @@ use Rattle.table.specs.Denotes.{Denotes, denotes-string, denotes-array}
 use Rattle.table.specs.Laws.Denotes.{ArrayParts}
 use Rattle.table.specs.Node.{nodeAt, tailOf}
 use Rattle.table.specs.Strings.{bytesOf}
-use Rattle.types.specs.declared.set.TypeSet.{TypeSet}
-use Rattle.words.specs.declared.TypeAnswer.{TypeAnswer}
-use Rattle.words.specs.declared.TypeAnswer.the-variants.{Unknown, Named}
-use Rattle.types.specs.Laws.{same-set, set-of-types, types-of-set, isIn-append}
-use Rattle.words.specs.Named.{typeOf}
-use Rattle.types.specs.Set.{setOf, typesIn}
+use Rattle.type_set.specs.declared.set.TypeSet.{TypeSet}
+use Rattle.text_types.specs.declared.TypeAnswer.{TypeAnswer}
+use Rattle.text_types.specs.declared.TypeAnswer.the-variants.{Unknown, Named}
+use Rattle.type_set.specs.Laws.Set.{same-set, set-of-types, types-of-set, isIn-append}
+use Rattle.text_types.specs.Contract.{typeOf}
+use Rattle.type_set.specs.Contract.{setOf, typesIn}
 use Rattle.sheet.specs.declared.content.Content.{Content}
 use Rattle.sheet.specs.declared.content.Content.the-variants.{NotTypes, Types as Listed}
 use Rattle.sheet.specs.Contract.{contentOf, Contains}

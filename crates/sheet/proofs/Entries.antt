@@ -16,7 +16,7 @@ use Rattle.table.specs.declared.node.Node.the-variants.{Object}
 use Rattle.table.specs.declared.node.Rows.{Rows}
 use Rattle.table.specs.Denotes.{Denotes}
 use Rattle.table.specs.Node.{nodeAt}
-use Rattle.types.specs.declared.set.TypeSet.{TypeSet}
+use Rattle.type_set.specs.declared.set.TypeSet.{TypeSet}
 use Rattle.sheet.specs.declared.content.Content.{Content}
 use Rattle.sheet.specs.Contract.{contentOf, Contains, HoldsSheet}
 use Rattle.sheet.specs.Inner.{typesListed, ListsTypes}

@@ -18,9 +18,9 @@ use Rattle.table.specs.Denotes.{Denotes}
 use Rattle.table.specs.Laws.Denotes.{ObjectParts}
 use Rattle.table.specs.Node.{nodeAt, nameAt, tailOf}
 use Rattle.table.specs.Strings.{bytesOf}
-use Rattle.types.specs.declared.set.TypeSet.{TypeSet}
-use Rattle.types.specs.Laws.{hasType-set}
-use Rattle.types.specs.Set.{typesIn}
+use Rattle.type_set.specs.declared.set.TypeSet.{TypeSet}
+use Rattle.type_set.specs.Laws.Set.{hasType-set}
+use Rattle.type_set.specs.Contract.{typesIn}
 use Rattle.sheet.specs.Contract.{Belongs, Fits}
 use Rattle.sheet.specs.Inner.{ListsTypes, FitsEntry, FitsAll}
 use Rattle.sheet.proofs.Entries.{made, not-made, no-entries, Split, split}

@@ -18,8 +18,8 @@ use Rattle.table.specs.declared.node.Rows.{Rows}
 use Rattle.table.specs.Laws.Denotes.{ObjectParts}
 use Rattle.table.specs.Node.{nodeAt, nameAt, tailOf}
 use Rattle.table.specs.Strings.{bytesOf}
-use Rattle.types.specs.declared.set.TypeSet.{TypeSet}
-use Rattle.types.specs.Set.{setOf}
+use Rattle.type_set.specs.declared.set.TypeSet.{TypeSet}
+use Rattle.type_set.specs.Contract.{setOf}
 use Rattle.sheet.specs.Contract.{ListsFor}
 use Rattle.sheet.specs.Inner.{ListsTypes, ListsAmong}
 use Rattle.sheet.proofs.Entries.{made, not-made, no-entries, Split, split}

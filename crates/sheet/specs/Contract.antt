@@ -12,8 +12,8 @@ use Rattle.model.specs.Value.{Value}
 use Rattle.table.specs.declared.node.Node.{Node}
 use Rattle.table.specs.Denotes.{Denotes}
 use Rattle.table.specs.Node.{nodeAt}
-use Rattle.types.specs.declared.set.TypeSet.{TypeSet}
-use Rattle.types.specs.Set.{setOf, typesIn}
+use Rattle.type_set.specs.declared.set.TypeSet.{TypeSet}
+use Rattle.type_set.specs.Contract.{setOf, typesIn}
 use Rattle.sheet.specs.declared.content.Content.{Content}
 use Rattle.sheet.specs.declared.content.Content.the-variants.{NotTypes, Types as Listed}
 

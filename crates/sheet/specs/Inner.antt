@@ -22,10 +22,10 @@ use Rattle.table.specs.declared.node.Rows.{Rows}
 use Rattle.table.specs.Denotes.{Denotes}
 use Rattle.table.specs.Node.{nodeAt, nameAt}
 use Rattle.table.specs.Strings.{bytesOf}
-use Rattle.types.specs.declared.set.TypeSet.{TypeSet}
-use Rattle.types.specs.Set.{setOf, typesIn}
-use Rattle.words.specs.declared.TypeAnswer.{TypeAnswer}
-use Rattle.words.specs.Named.{typeOf}
+use Rattle.type_set.specs.declared.set.TypeSet.{TypeSet}
+use Rattle.type_set.specs.Contract.{setOf, typesIn}
+use Rattle.text_types.specs.declared.TypeAnswer.{TypeAnswer}
+use Rattle.text_types.specs.Contract.{typeOf}
 use Rattle.sheet.specs.declared.content.Content.{Content}
 use Rattle.sheet.specs.declared.content.Content.the-variants.{NotTypes, Types as Listed}
 use Rattle.sheet.specs.Contract.{contentOf}

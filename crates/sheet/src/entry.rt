@@ -2,8 +2,8 @@
 use crate::content::Content;
 use crate::content::types_in;
 use table::node::node_at;
-use types::set::TypeSet;
-use types::set::none;
+use type_set::set::TypeSet;
+use type_set::set::none;
 ghost use mathlib.Core.Path.{_≡_};
 ghost use Rattle.sheet.specs.Inner.{typesListed, ListsTypes};
 

@@ -8,7 +8,7 @@ use table::node::name_at;
 use table::node::node_at;
 use table::node::tail;
 use table::string::bytes_of;
-use types::set::TypeSet;
+use type_set::set::TypeSet;
 ghost use Rattle.sheet.specs.Contract.{Fits};
 ghost use Rattle.sheet.specs.Inner.{FitsEntry, FitsAll};
 

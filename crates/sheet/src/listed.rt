@@ -7,8 +7,8 @@ use table::node::name_at;
 use table::node::node_at;
 use table::node::tail;
 use table::string::bytes_of;
-use types::set::TypeSet;
-use types::set::any_of_record;
+use type_set::set::TypeSet;
+use type_set::set::any_of_record;
 ghost use Rattle.sheet.specs.Contract.{ListsFor};
 ghost use Rattle.sheet.specs.Inner.{ListsAmong};
 

@@ -7,7 +7,7 @@ use heap::handle::Parts;
 use heap::part::head;
 use heap::part::tail;
 use model::MAX_TEXT_BYTES;
-use print::bytes::put_byte;
+use print::put::put_byte;
 ghost use Prim.Native.Nat.{_+_, _≤_, _<_};
 ghost use Rattle.model.specs.Limits.{maxTextBytes};
 ghost use Rattle.heap.specs.Unfold.{areas};

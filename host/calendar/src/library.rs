@@ -2,7 +2,7 @@
 
 use crate::random::Random;
 
-#[link(name = "calendar_c", kind = "static")]
+#[link(name = "test_calendar", kind = "static")]
 extern "C" {
     fn calendar_read_date(text: *const u8, text_len: usize, ms: *mut i64) -> u32;
     fn calendar_read_day(text: *const u8, text_len: usize, ms: *mut i64) -> u32;

@@ -17,7 +17,7 @@ use writer::cases::case;
 use writer::compare::Writer;
 use writer::run::{describe, run, self_test, CASES};
 
-#[link(name = "writer_c", kind = "static")]
+#[link(name = "test_writer", kind = "static")]
 extern "C" {
     fn writer_write(
         rule_strings: *const u8,

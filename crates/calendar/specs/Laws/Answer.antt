@@ -16,7 +16,7 @@ use Rattle.model.specs.Laws.Shift.{shift-in-range, shift-none, days-twice, hour
 use Rattle.model.specs.declared.TimeUnit.{TimeUnit}
 use Rattle.model.specs.declared.TimeUnit.the-variants.{Year, Month, Day, Hour}
 use Rattle.model.specs.Laws.Logic.{clash}
-use Rattle.calendar.specs.Answer.{instantResult, dateResult, shifted}
+use Rattle.calendar.specs.Contract.{instantResult, dateResult, shifted}
 use Rattle.calendar.specs.declared.instant.DateAnswer.{DateAnswer}
 use Rattle.calendar.specs.declared.instant.Instant.{Instant}
 use Rattle.calendar.specs.declared.instant.InstantAnswer.{InstantAnswer}

@@ -3,7 +3,7 @@ use mathlib.Core.Path.{ap, _∙_}
 use Prim.Native.Nat.{_+_, _-_}
 use native.Mathlib.Omega.{arith}
 use lib.ListN.{length}
-use Rattle.chars.specs.Pieces.{Room, Taken}
+use Rattle.chars.specs.Inner.{Room, Taken}
 use Rattle.chars.proofs.Loops.{taken-length}
 use Rattle.chars.proofs.Promise.{room-of, promise-closed, promise-stopped, promise-end, advanced, stopped}
 use Rattle.chars.proofs.Steps.{taken-none, taken-then}

@@ -1,5 +1,5 @@
 use Rattle.syntax.specs.Utf8.{unitOf}
-use Rattle.chars.specs.Pieces.{Escaped}
+use Rattle.chars.specs.Inner.{Escaped}
 use borrow.Author.Needs.{needs}
 use mathlib.Core.Path.{sym, _∙_}
 use native.Mathlib.Omega.{arith}

@@ -1,6 +1,6 @@
 use Prim.Native.Nat.{_+_}
 use Rattle.syntax.specs.declared.Unit.the-variants.{Low}
-use Rattle.chars.specs.Pieces.{Escaped}
+use Rattle.chars.specs.Inner.{Escaped}
 use native.Mathlib.Omega.{arith}
 use Rattle.syntax.specs.Utf8.{pairOf}
 use Rattle.chars.proofs.Pieces.{gives, stops-high, taken-pair}

@@ -1,5 +1,5 @@
 use Prim.Native.Nat.{_+_}
-use Rattle.chars.specs.Pieces.{UnitRead}
+use Rattle.chars.specs.Inner.{UnitRead}
 use borrow.Author.Needs.{needs}
 use Rattle.model.specs.Refusal.{notJson}
 use Rattle.chars.proofs.Pieces.{stops-at, escaped, unit-not}

@@ -23,7 +23,7 @@ use Rattle.model.specs.declared.Date.{Date}
 use Rattle.model.specs.declared.TimeUnit.{TimeUnit}
 use Rattle.model.specs.declared.TimeUnit.the-variants.{Year, Month}
 use Rattle.model.specs.Laws.Logic.{clash}
-use Rattle.calendar.specs.Answer.{shifted}
+use Rattle.calendar.specs.Contract.{shifted}
 use Rattle.instants.specs.Inner.{inMonth, monthOf}
 use Rattle.calendar.specs.Laws.Answer.{own-in, year-months}
 use Rattle.calendar.specs.Laws.Instant.{from-early, from-late, minus, minus-below, since-from}

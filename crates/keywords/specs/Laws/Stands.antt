@@ -8,7 +8,7 @@ use Rattle.model.specs.Value.{withinLimits}
 use Rattle.syntax.specs.Layout.{biased, unbiased}
 use Rattle.syntax.specs.Laws.Biased.{unbiased-biased}
 use Rattle.keywords.specs.declared.Op.{Op}
-use Rattle.keywords.specs.Keyword.{operationOf, Stands, stands-array, stands-equal, stands-member-of, stands-plus, stands-not, stands-date-of-birth, stands-compare, stands-plus-time, stands-extract}
+use Rattle.keywords.specs.Contract.{operationOf, Stands, stands-array, stands-equal, stands-member-of, stands-plus, stands-not, stands-date-of-birth, stands-compare, stands-plus-time, stands-extract}
 
 given : {m : ℕ} (k : ℤ) → T (withinLimits k) → m ≡ biased k → k ≡ unbiased m
 given k w e = sym (ap unbiased e ∙ unbiased-biased k w)

@@ -21,10 +21,10 @@ use Rattle.model.specs.Value.{Value}
 use Rattle.syntax.specs.Layout.{padded}
 use Rattle.syntax.specs.Read.{Read}
 use Rattle.syntax.specs.Read as readings
-use Rattle.stages.specs.Areas.{isShort}
-use Rattle.stages.specs.Laws.{text-held, not-refused, check-held}
-use Rattle.stages.specs.Stage.{Stage, passed, refused, _>>=_, ruleText, sheetText, recordText, asRead, readAs, asJudged}
-use Rattle.stages.specs.Texts.{TextRead, textStage, ruleStage, sheetStage, TextsChecked, checkStage, evaluateStage, CheckedTextsRead, evaluateCheckedStage}
+use Rattle.pipeline.specs.Areas.{isShort}
+use Rattle.pipeline.specs.Laws.Stages.{text-held, not-refused, check-held}
+use Rattle.pipeline.specs.Stage.{Stage, passed, refused, _>>=_, ruleText, sheetText, recordText, asRead, readAs, asJudged}
+use Rattle.pipeline.specs.Texts.{TextRead, textStage, ruleStage, sheetStage, TextsChecked, checkStage, evaluateStage, CheckedTextsRead, evaluateCheckedStage}
 use Rattle.jehvrukam.specs.Entry.{Entry, cannotRun}
 use Rattle.jehvrukam.specs.Evaluate.{Areas, Numbers, Evaluated, isInvalid, answered, evaluateAnswer, evaluateEntry}
 use Rattle.jehvrukam.specs.EvaluateChecked.{CheckedAreas, CheckedNumbers, isCheckedInvalid, checkedAnswered, evaluateCheckedAnswer, evaluateCheckedEntry}

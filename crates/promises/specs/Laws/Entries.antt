@@ -15,9 +15,9 @@ use Rattle.model.specs.Rule.{Rule}
 use Rattle.model.specs.Size.{isTooLarge}
 use Rattle.model.specs.Value.{Value}
 use Rattle.model.specs.Writing.{valueText}
-use Rattle.stages.specs.Laws.{bound, check-held}
-use Rattle.stages.specs.Stage.{passed, recordText, readAs}
-use Rattle.stages.specs.Texts.{TextRead, ruleStage, checkStage, TextsRead, evaluateStage, CheckedTextsRead, evaluateCheckedStage}
+use Rattle.pipeline.specs.Laws.Stages.{bound, check-held}
+use Rattle.pipeline.specs.Stage.{passed, recordText, readAs}
+use Rattle.pipeline.specs.Texts.{TextRead, ruleStage, checkStage, TextsRead, evaluateStage, CheckedTextsRead, evaluateCheckedStage}
 use Rattle.jehvrukam.specs.Entry.{Entry, untouched, cannotRun}
 
 -- ---- an answer but 1

@@ -14,9 +14,9 @@ use Rattle.model.specs.Value.{Value}
 use Rattle.syntax.specs.Entry.{ReadAnswer, readInto, readEntry, tooShort}
 use Rattle.syntax.specs.Layout.{tableBytes, stringsBytes, tableOf, stringsAreaOf, padded}
 use Rattle.syntax.specs.Read.{read}
-use Rattle.stages.specs.Areas.{TextAreas, textAreas, isShort, zeroed, holding}
-use Rattle.stages.specs.Stage.{Stage, passed, refused}
-use Rattle.stages.specs.Texts.{TextsChecked, checkStage, TextsFitted, fitsStage, TextsRead, evaluateStage, CheckedTextsRead, evaluateCheckedStage}
+use Rattle.pipeline.specs.Areas.{TextAreas, textAreas, isShort, zeroed, holding}
+use Rattle.pipeline.specs.Stage.{Stage, passed, refused}
+use Rattle.pipeline.specs.Texts.{TextsChecked, checkStage, TextsFitted, fitsStage, TextsRead, evaluateStage, CheckedTextsRead, evaluateCheckedStage}
 use Rattle.jehvrukam.specs.Check.{CheckAreas, CheckNumbers, isCheckInvalid, checkAnswer, checkEntry}
 use Rattle.jehvrukam.specs.Entry.{Entry, WorkAreas, workAreas, cellsBytes, cannotRun, zeroedWork}
 use Rattle.jehvrukam.specs.Evaluate.{Areas, Numbers, Evaluated, isInvalid, zeros, answered, evaluateAnswer, evaluateEntry}

@@ -22,10 +22,10 @@ use Rattle.model.specs.Types.{Types, belongs, hasType, isIn, sameTy, typeBits}
 use Rattle.model.specs.Value.{Value}
 use Rattle.model.specs.declared.Ty.{Ty}
 use Rattle.syntax.specs.Demand3.{demand-3a-bytes}
-use Rattle.stages.specs.Areas.{isShort}
-use Rattle.stages.specs.Laws.{text-held, record-held, not-refused, number-some, check-held, fits-held}
-use Rattle.stages.specs.Stage.{Stage, passed, refused, ruleText, sheetText, recordText, readAs}
-use Rattle.stages.specs.Texts.{TextsChecked, checkStage, TextsFitted, fitsStage, TextsRead, evaluateStage, CheckedTextsRead, evaluateCheckedStage}
+use Rattle.pipeline.specs.Areas.{isShort}
+use Rattle.pipeline.specs.Laws.Stages.{text-held, record-held, not-refused, number-some, check-held, fits-held}
+use Rattle.pipeline.specs.Stage.{Stage, passed, refused, ruleText, sheetText, recordText, readAs}
+use Rattle.pipeline.specs.Texts.{TextsChecked, checkStage, TextsFitted, fitsStage, TextsRead, evaluateStage, CheckedTextsRead, evaluateCheckedStage}
 use Rattle.jehvrukam.specs.Check.{CheckNumbers, CheckAreas, isCheckInvalid, checkAnswer, checkEntry}
 use Rattle.jehvrukam.specs.Entry.{Entry}
 use Rattle.jehvrukam.specs.Evaluate.{Areas, Numbers, Evaluated, isInvalid, answered, evaluateAnswer, evaluateEntry}

@@ -13,9 +13,9 @@ use Rattle.model.specs.Rule.{Rule}
 use Rattle.model.specs.Run.{steps}
 use Rattle.model.specs.Shape.{shape}
 use Rattle.syntax.specs.Demand3.{demand-3b-bytes}
-use Rattle.stages.specs.Laws.{TextHeld, text-held, record-held, not-refused, EvaluateHeld, evaluate-held}
-use Rattle.stages.specs.Stage.{passed, ruleText}
-use Rattle.stages.specs.Texts.{TextRead, ruleStage, TextsRead, evaluateStage}
+use Rattle.pipeline.specs.Laws.Stages.{TextHeld, text-held, record-held, not-refused, EvaluateHeld, evaluate-held}
+use Rattle.pipeline.specs.Stage.{passed, ruleText}
+use Rattle.pipeline.specs.Texts.{TextRead, ruleStage, TextsRead, evaluateStage}
 use Rattle.jehvrukam.specs.Entry.{untouched}
 use Rattle.jehvrukam.specs.Evaluate.{Areas, Numbers, Evaluated, isInvalid, answered, evaluateAnswer, evaluateEntry}
 use Rattle.promises.specs.Lengths.{SameEvaluate, SameEntry}

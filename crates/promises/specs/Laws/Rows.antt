@@ -22,8 +22,8 @@ use Rattle.syntax.specs.Read as readings
 use Rattle.syntax.specs.Read.{then, _>>=_, give, fail, if, peek, eat, white, expect, literal, signed, isPart, endNumber, digits, afterZero, firstDigit, int as integers, tails, onHex, hexes, onEscape, escape, onLead, char, onPiece, onUnit, orLone, lone, grow, chars, quoted, among, name, onStart, onSeparator, value, ended, text, answer, read}
 use Rattle.syntax.specs.Tokens.{within, isWhite, isDigit, isPoint, isE, counted, nested, startOf, separatorOf, escapeOf, hexOf}
 use Rattle.syntax.specs.Utf8.{utf8, leadOf, unitOf, pairOf}
-use Rattle.stages.specs.Stage.{passed}
-use Rattle.stages.specs.Texts.{TextsRead, evaluateStage}
+use Rattle.pipeline.specs.Stage.{passed}
+use Rattle.pipeline.specs.Texts.{TextsRead, evaluateStage}
 use Rattle.jehvrukam.specs.Evaluate.{Areas, Numbers, Evaluated, answered, evaluateAnswer, evaluateEntry}
 use Rattle.promises.specs.Rows.{Lent, called, reduceText, Comes, StarredRows}
 

@@ -17,10 +17,10 @@ use Rattle.syntax.specs.Layout.{tableBytes}
 use Rattle.syntax.specs.Read as readings
 use Rattle.syntax.specs.Read.{Read, read}
 use Rattle.viewer.specs.Main as Viewers
-use Rattle.stages.specs.Areas.{TextAreas, textAreas, isShort, holding}
-use Rattle.stages.specs.Laws.{number-some, text-held, record-held, check-held, fits-held, evaluate-held}
-use Rattle.stages.specs.Stage.{Stage, passed, refused, ruleText, sheetText, recordText, readAs}
-use Rattle.stages.specs.Texts.{TextRead, ruleStage, sheetStage, TextsChecked, checkStage, TextsFitted, fitsStage, TextsRead, evaluateStage, CheckedTextsRead, evaluateCheckedStage}
+use Rattle.pipeline.specs.Areas.{TextAreas, textAreas, isShort, holding}
+use Rattle.pipeline.specs.Laws.Stages.{number-some, text-held, record-held, check-held, fits-held, evaluate-held}
+use Rattle.pipeline.specs.Stage.{Stage, passed, refused, ruleText, sheetText, recordText, readAs}
+use Rattle.pipeline.specs.Texts.{TextRead, ruleStage, sheetStage, TextsChecked, checkStage, TextsFitted, fitsStage, TextsRead, evaluateStage, CheckedTextsRead, evaluateCheckedStage}
 use Rattle.jehvrukam.specs.Check.{CheckAreas, CheckNumbers, isCheckInvalid, checkAnswer, checkEntry}
 use Rattle.jehvrukam.specs.Entry.{Entry, cannotRun}
 use Rattle.jehvrukam.specs.Evaluate.{Areas, Numbers, Evaluated, isInvalid, answered, evaluateAnswer, evaluateEntry}

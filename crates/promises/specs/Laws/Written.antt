@@ -20,9 +20,9 @@ use Rattle.syntax.specs.Layout.{padded}
 use Rattle.syntax.specs.Read as readings
 use Rattle.syntax.specs.Read.{then, _>>=_, give, fail, if, peek, eat, white, value, onStart, text, answer, read}
 use Rattle.syntax.specs.Tokens.{isWhite, startOf}
-use Rattle.stages.specs.Laws.{text-held, record-held, not-refused, number-some, evaluate-held}
-use Rattle.stages.specs.Stage.{Stage, passed, refused, ruleText}
-use Rattle.stages.specs.Texts.{TextsRead, evaluateStage}
+use Rattle.pipeline.specs.Laws.Stages.{text-held, record-held, not-refused, number-some, evaluate-held}
+use Rattle.pipeline.specs.Stage.{Stage, passed, refused, ruleText}
+use Rattle.pipeline.specs.Texts.{TextsRead, evaluateStage}
 use Rattle.jehvrukam.specs.Evaluate.{Areas, Numbers, Evaluated, isInvalid, answered, evaluateAnswer, evaluateEntry}
 use Rattle.jehvrukam.specs.EvaluateChecked.{CheckedAreas, CheckedNumbers, evaluateCheckedEntry}
 use Rattle.promises.specs.Calls.{writtenBy, writtenByChecked, Answers}

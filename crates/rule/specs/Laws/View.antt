@@ -2,7 +2,7 @@
 use mathlib.Core.Path.{_≡_, refl}
 use Rattle.table.specs.declared.node.Rows.{Rows}
 use Rattle.rule.specs.declared.view.View.{View}
-use Rattle.rule.specs.View.{Has, has-if, has-and, has-reduce, has-apply, nested}
+use Rattle.rule.specs.Contract.{Has, has-if, has-and, has-reduce, has-apply, nested}
 
 pub has-one : {w : View} {q q′ : Rows} → Has w q → Has w q′ → q ≡ q′
 has-one has-if has-if = refl

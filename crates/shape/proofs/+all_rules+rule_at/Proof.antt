@@ -2,7 +2,7 @@ use mathlib.Core.Bool.{Bool, true, false}
 use native.Mathlib.Omega.{arith}
 use borrow.Author.Needs.{needs}
 use borrow.Author.Tests.{not-true, not-false}
-use Rattle.rule.specs.View.{has-if, has-and, has-reduce, has-apply}
+use Rattle.rule.specs.Contract.{has-if, has-and, has-reduce, has-apply}
 use Rattle.shape.proofs.Rows.{AllRows, all-rules as rules-of, rows-done, rows-stop, rows-next, at-none, at-literal, at-var, at-operation, deep-left}
 use Prim.Native.Nat.{ℕ, _+_, _*_, _<_}
 use borrow.Fn.Kinds.{In}

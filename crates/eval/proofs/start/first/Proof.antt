@@ -1,5 +1,5 @@
 use mathlib.Core.Path.{ap, _∙_}
-use Rattle.operate.specs.declared.ended.State.{State}
+use Rattle.operations.specs.declared.ended.State.{State}
 use Rattle.eval.specs.Inner.{task}
 use borrow.Author.Needs.{needs}
 use Rattle.eval.proofs.start.first.Statement.{statement}

@@ -6,7 +6,7 @@ use mir.Val.{ofZ, toZ}
 use Rattle.model.specs.Instant.{ranged}
 use Rattle.model.specs.declared.TimeUnit.{TimeUnit}
 use Rattle.model.specs.declared.TimeUnit.the-variants.{Year, Month, Day, Hour}
-use Rattle.calendar.specs.Answer.{instantResult, shifted}
+use Rattle.calendar.specs.Contract.{instantResult, shifted}
 use Rattle.instants.proofs.Shifts.{Own, own-of, shiftedSince, shifted-is, shifted-out}
 use borrow.Author.Needs.{needs}
 use Rattle.instants.proofs.shift.shift.Statement.{statement}

@@ -1,4 +1,4 @@
-use Rattle.stages.specs.LongAreas.{text-long, rule-long}
+use Rattle.pipeline.specs.Laws.LongAreas.{text-long, rule-long}
 use Rattle.jehvrukam.proofs.Judging.{rule-stops, record-stops, run-ready, judged}
 use borrow.Author.Needs.{needs}
 use Rattle.jehvrukam.proofs.evaluate.judge.Statement.{statement}

@@ -1,4 +1,4 @@
-use Rattle.stages.specs.LongAreas.{text-long, check-long}
+use Rattle.pipeline.specs.Laws.LongAreas.{text-long, check-long}
 use Rattle.jehvrukam.proofs.CheckedJudging.{check-stops, record-stops, run-ready, judged}
 use borrow.Author.Needs.{needs}
 use Rattle.jehvrukam.proofs.evaluate_checked.judge.Statement.{statement}

@@ -2,7 +2,7 @@ use native.Mathlib.Omega.{arith}
 use borrow.Author.Needs.{needs}
 use mathlib.Core.List.{[]}
 use Rattle.paths.specs.Laws.Loops.{Left, begins, goes-on}
-use Rattle.types.specs.Set.{setOf}
+use Rattle.type_set.specs.Contract.{setOf}
 use Rattle.sheet.specs.Inner.{Collects}
 use Rattle.sheet.proofs.Contents.{collect-end, collect-stops, collect-on}
 use Rattle.sheet.proofs.content.collect.Statement.{statement}

@@ -1,7 +1,7 @@
 use borrow.Author.Needs.{needs}
 use mathlib.Core.Path.{sym, ap, _∙_}
 use Rattle.model.specs.Laws.Widths.{text-below}
-use Rattle.calendar.specs.Answer.{instantResult}
+use Rattle.calendar.specs.Contract.{instantResult}
 use Rattle.print.specs.Laws.{put-bytes, put-as}
 use Rattle.writer.proofs.Tokens.{instant-in, instant-out}
 use Rattle.writer.proofs.scalar.put_since.Statement.{statement}

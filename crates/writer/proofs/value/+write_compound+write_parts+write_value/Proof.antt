@@ -20,7 +20,7 @@ use Rattle.writer.proofs.value.write_value.Kinds as write-value-kinds
 use Rattle.writer.proofs.value.+write_compound+write_parts+write_value.Lts-write_value as write-value-lts
 use Rattle.heap.proofs.part.head.Reads as head-reads
 use Rattle.heap.proofs.part.tail.Reads as tail-reads
-use Rattle.print.proofs.bytes.put_byte.Reads as put-byte-reads
+use Rattle.print.proofs.put.put_byte.Reads as put-byte-reads
 use Rattle.writer.proofs.part.opening.Reads as opening-reads
 use Rattle.writer.proofs.part.put_front.Reads as put-front-reads
 use Rattle.writer.proofs.scalar.put_scalar.Reads as put-scalar-reads

@@ -1,0 +1,111 @@
+// `var`: the value at a path, by handles: through cells here, through the record's rows by crate paths.
+use bytes::path::fragment_end;
+use bytes::same;
+use heap::cell::CELL_BYTES;
+use heap::cell::get;
+use heap::handle::Form;
+use heap::handle::Handle;
+use heap::handle::Parts;
+use heap::handle::of_node;
+use paths::find;
+use paths::index::Index;
+use paths::index::read_index;
+use table::node::Node;
+use table::node::Rows;
+ghost use mathlib.Core.Path.{_≡_};
+ghost use Prim.Native.Nat.{_+_};
+ghost use Rattle.heap.specs.Cells.{cellHandle};
+ghost use Rattle.op_lookup.specs.Contract.{Leads};
+ghost use Rattle.op_lookup.specs.Inner.{memberOf, ItemNamed, StepIs};
+
+// Where a fragment leads: to a part of a value, null where it names none; or into the record, where the value is this.
+enum Step {
+    Part(Handle),
+    Record(Node),
+}
+
+// The handle so many cells after a cell; null where there is no such cell.
+fn cell_after(cells: &[u8], cell: usize, at: usize) -> Handle
+    ensures { λ r. ⌜ r ≡ cellHandle (now (cells .entry)) (cell + at) ⌝ }
+{
+    let count = cells.len() / CELL_BYTES;
+    if cell >= count {
+        return Handle::Null;
+    }
+    if at >= count - cell {
+        return Handle::Null;
+    }
+    get(cells, cell + at)
+}
+
+// The member of a context, which has `current` in a cell and `accumulator` in the next.
+fn member(fragment: &[u8], cells: &[u8], cell: usize) -> Handle
+    ensures { λ r. ⌜ r ≡ memberOf (now (fragment .entry)) (now (cells .entry)) cell ⌝ }
+{
+    if same(fragment, b"current") {
+        return get(cells, cell);
+    }
+    if same(fragment, b"accumulator") {
+        return cell_after(cells, cell, 1);
+    }
+    Handle::Null
+}
+
+// The item of a computed list.
+fn item_named(fragment: &[u8], cells: &[u8], p: Parts) -> Handle
+    ensures { λ r. ⌜ ItemNamed (now (fragment .entry)) (now (cells .entry)) p r ⌝ }
+{
+    let Index::At(at) = read_index(fragment) else {
+        return Handle::Null;
+    };
+    if at >= p.count {
+        return Handle::Null;
+    }
+    cell_after(cells, p.first, at)
+}
+
+// Where a fragment leads from a value.
+fn next_step(fragment: &[u8], cells: &[u8], h: Handle) -> Step
+    ensures { λ r. ⌜ StepIs (now (fragment .entry)) (now (cells .entry)) h r ⌝ }
+{
+    let Handle::Compound(p) = h else {
+        return Step::Part(Handle::Null);
+    };
+    let form = p.form;
+    let first = p.first;
+    let count = p.count;
+    match form {
+        Form::Items => Step::Record(Node::Array(Rows { first, count })),
+        Form::Members => Step::Record(Node::Object(Rows { first, count })),
+        Form::List => Step::Part(item_named(fragment, cells, p)),
+        Form::Context => Step::Part(member(fragment, cells, first)),
+    }
+}
+
+// The value at a path, which has the form that 01 wants of `var`, in a context; null where there is none.
+pub fn value_at(
+    path: &[u8],
+    record_strings: &[u8],
+    record_table: &[u8],
+    cells: &[u8],
+    context: Handle,
+) -> Handle
+    ensures { λ r. ⌜ Leads (now (path .entry)) (now («record_strings» .entry)) (now («record_table» .entry)) (now (cells .entry)) context r ⌝ }
+{
+    let mut h = context;
+    let mut at: usize = 0;
+    while at < path.len() {
+        let end = fragment_end(path, at, b".");
+        let r = next_step(&path[at..end], cells, h);
+        match r {
+            Step::Record(n) => {
+                return of_node(find(&path[at..], record_table, record_strings, n));
+            }
+            Step::Part(inner) => {
+                h = inner;
+                at = end + 1;
+            }
+        }
+    }
+    h
+}

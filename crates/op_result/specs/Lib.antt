@@ -1,0 +1,2 @@
+-- What an operation gives on handles.
+pub mod Contract

@@ -1,2 +1,0 @@
--- What an operation gives on handles.
-pub mod Gives

@@ -1,0 +1,2 @@
+-- The type that a text names, in the model's terms.
+pub mod Contract

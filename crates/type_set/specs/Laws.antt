@@ -1,0 +1,3 @@
+-- Laws: what is proved of the definitions, a file for each subject.
+pub mod Fields
+pub mod Set

@@ -1,0 +1,3 @@
+-- Sets of types by value, and the laws.
+pub mod Contract
+pub mod Laws

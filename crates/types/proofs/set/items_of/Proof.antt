@@ -1,9 +1,0 @@
-use Rattle.types.proofs.Sets.{items-written}
-use Rattle.types.proofs.set.items_of.Statement.{statement}
-use Rattle.types.proofs.set.items_of.Tie as tie
-
-returns : tie.Need-returns
-returns c = items-written (c .before .before .args .s)
-
-pub items-of-spec : {M : Type 1} → statement M
-items-of-spec = tie.close (tie.spec returns)

@@ -1,9 +1,0 @@
-use mathlib.Core.Path.{refl}
-use Rattle.types.proofs.set.none.Statement.{statement}
-use Rattle.types.proofs.set.none.Tie as tie
-
-returns : tie.Need-returns
-returns c = refl
-
-pub none-spec : {M : Type 1} → statement M
-none-spec = tie.close (tie.spec returns)

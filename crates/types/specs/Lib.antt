@@ -1,4 +1,0 @@
--- Sets of types by value.
-pub mod Set
-pub mod Fields
-pub mod Laws
