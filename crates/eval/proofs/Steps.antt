@@ -23,7 +23,7 @@ use Rattle.eval.specs.declared.task.Next.the-variants.{Ends, Asks}
 use Rattle.eval.specs.declared.task.Pending.{Pending}
 use Rattle.eval.specs.declared.task.Task.{Task}
 use Rattle.eval.specs.Inner.{Room, onStack, unused, Charged, Within, resumedEnd, Then, FrameMeans, Asked, Follows, nextLeft, nextDeep, Evals, Starts, Takes, Taking, TakesEnd, Operating, Operates, task}
-use Rattle.eval.proofs.Bounds.{gives-at, stops-at, same-wider, resumed-bound, resumed-state, resumed-ends}
+use Rattle.eval.proofs.Bounds.{gives-at, stops-at, within-deep, same-wider, resumed-bound, resumed-state, resumed-ends}
 use Rattle.eval.proofs.Frames.{Moved, frame-kept}
 
 -- ---- the operand gave a value
@@ -97,16 +97,34 @@ take-stops {T} {A} {R} {B} {C} {t} {f} e g l q r = record {
 }
 
 -- ---- the whole rule
-pub begun-operating : {T A R B C C₁ : Bytes} {t : Task} {n : Next} → Room C 0 0 (t .state) → Starts T A R B C t n C₁ → Operating C₁ n
-begun-operating {t = t} r d = record { base = t .state; room = record { fits = r .fits; within = r .within; enough = rw (d .same .size) (r .enough) }; within = d .within }
+module _ {T A R B C : Bytes} {t : Task} {n : Next} (d : Starts T A R B C t n) where
+  -- It ends at once,
+  pub ended : {r : Ended} (e : Ended) → n ≡ Ends e → r ≡ resumedEnd (t .state) e → Evals T A R B C t r C
+  ended e is-end q = rw q (record {
+    same = same-all C _ _;
+    bound = resumed-bound (t .state) e (rw is-end at (d .within));
+    restores = resumed-state (t .state) e;
+    evals = λ ρ κ k m. resumed-ends (t .state) e (rw is-end at (d .follows ρ κ k m));
+  })
 
-pub evaluated : {T A R B C C₁ C₂ : Bytes} {t : Task} {n : Next} {e r : Ended} → Starts T A R B C t n C₁ → Operates T A R B C₁ n e C₂ → r ≡ resumedEnd (t .state) e → Evals T A R B C t r C₂
-evaluated {t = t} {n = n} {e = e} d o q = rw q (record {
-  same = same-then (d .same) (o .same (t .state) (d .within)) (omega arith) (omega arith);
-  bound = resumed-bound (t .state) e (o .bound (t .state) (d .within));
-  restores = resumed-state (t .state) e;
-  evals = λ ρ κ k m. resumed-ends (t .state) e (o .ends _ (d .follows ρ κ k m));
-})
+  -- or after its operands.
+  module _ (u : Task) (f : Frame) (asks : n ≡ Asks u f) where
+    charged-first : Charged (t .state) 0 (u .state) f
+    charged-first = rw asks at (d .within)
+
+    pub begun-operating : Room C 0 0 (t .state) → Operating C (Asks u f)
+    begun-operating r = record { base = t .state; room = r; within = charged-first }
+
+    pub first-falls : nextDeep (Asks u f) < 2 * t .state .deep + 1
+    first-falls = within-deep (t .state) (Asks u f) charged-first
+
+    pub evaluated : {C₁ : Bytes} {e r : Ended} → Operates T A R B C (Asks u f) e C₁ → r ≡ resumedEnd (t .state) e → Evals T A R B C t r C₁
+    evaluated {C₁} {e} o q = rw q (record {
+      same = o .same (t .state) charged-first;
+      bound = resumed-bound (t .state) e (o .bound (t .state) charged-first);
+      restores = resumed-state (t .state) e;
+      evals = λ ρ κ k m. resumed-ends (t .state) e (o .ends _ (rw asks at (d .follows ρ κ k m)));
+    })
 
 -- ---- the loop: operand after operand
 pub record OperandsInv (T A R B C₀ : Bytes) (n₀ : Next) (C : Bytes) (n : Next) : Type 0 where
@@ -115,6 +133,10 @@ pub record OperandsInv (T A R B C₀ : Bytes) (n₀ : Next) (C : Bytes) (n : Nex
   pub within : (s : State) → Within s n₀ → Within s n
   pub deep : nextDeep n ≤ nextDeep n₀
   pub follows : (m : Plain Value) → Follows T A R B C₀ m n₀ → Follows T A R B C m n
+
+-- Whatever next is by another name.
+pub inv-as : {T A R B C₀ : Bytes} {n₀ : Next} {C : Bytes} {n : Next} (n′ : Next) → n ≡ n′ → OperandsInv T A R B C₀ n₀ C n → OperandsInv T A R B C₀ n₀ C n′
+inv-as n′ q i = rw q at i
 
 pub inv-begins : {T A R B C : Bytes} {n : Next} → Operating C n → OperandsInv T A R B C n C n
 inv-begins {C = C} o = record { operating = o; same = λ s w. same-all C _ _; within = λ s w. w; deep = omega arith; follows = λ m x. x }

@@ -1,7 +1,7 @@
 -- Inner: what the private functions do. T and A are the rule's table and strings, R and B the record's, C the cells before and C′ after.
 -- The run is the model's (EvalPlain) for whatever rule the table holds and whatever value the context's handle means.
 use mathlib.Core.Path.{_≡_}
-use Prim.Native.Nat.{ℕ, suc, _+_, _*_, _-_, _/_, _≤_}
+use Prim.Native.Nat.{ℕ, zero, suc, _+_, _*_, _-_, _/_, _≤_}
 use lib.ListN.{length}
 use Rattle.model.specs.Bytes.{Bytes}
 use Rattle.model.specs.Eval.{context}
@@ -21,7 +21,7 @@ use Rattle.heap.specs.declared.handle.Handle.the-variants as Handles
 use Rattle.heap.specs.declared.handle.Parts.{Parts}
 use Rattle.heap.specs.Blocks.{MeansEach}
 use Rattle.heap.specs.Cells.{cellBytes}
-use Rattle.heap.specs.Handles.{span}
+use Rattle.heap.specs.Handles.{span, parts}
 use Rattle.heap.specs.Means.{Means}
 use Rattle.heap.specs.Unfold.{areas}
 use Rattle.keywords.specs.declared.Op.{Op}
@@ -103,6 +103,14 @@ pending op done rest = record { op = op; done = done; rest = rest }
 
 abbrev pub firstTask : Rows → Handle → State → Task
 firstTask q context s = task (q .first) context (state (s .left) (s .top) (s .bottom) (s .deep - 1))
+
+-- The first of so many operands of an operation on all of them; with none, an array's empty list.
+abbrev pub firstOf : ℕ → Op → Rows → Handle → State → Next
+firstOf zero op q context s = Ends (Gives (Handles.Compound (parts Forms.List (s .top) 0)) s)
+firstOf (suc rest) op q context s = Asks (firstTask q context s) (Argument (pending op 0 rest))
+
+abbrev pub firstArgument : Op → Rows → Handle → State → Next
+firstArgument op q context s = firstOf (q .count) op q context s
 
 abbrev pub literalHandle : Literal → Handle
 literalHandle Literals.False = Handles.False
@@ -233,14 +241,13 @@ pub record Evals (T A R B C : Bytes) (t : Task) (e : Ended) (C′ : Bytes) : Typ
       → Means (areas A B R C) (t .state .top) κ (t .context)
       → EndsAs (areas A B R C′) (evalPlain ρ κ (t .state .left)) e
 
-pub record Starts (T A R B C : Bytes) (t : Task) (n : Next) (C′ : Bytes) : Type 0 where
-  pub same : Same C C′ (t .state .top) (t .state .bottom)
+pub record Starts (T A R B C : Bytes) (t : Task) (n : Next) : Type 0 where
   pub within : Within (t .state) n
   pub follows :
       (ρ : Rule) (κ : Value)
       → RuleAt T A (t .state .deep) (t .row) ρ
       → Means (areas A B R C) (t .state .top) κ (t .context)
-      → Follows T A R B C′ (evalPlain ρ κ (t .state .left)) n
+      → Follows T A R B C (evalPlain ρ κ (t .state .left)) n
 
 -- The operands that are left, from the task's row on, and those on the stack.
 pub record ArgumentsLeft (T A R B C : Bytes) (t : Task) (p : Pending) (m : Plain Value) : Type 0 where

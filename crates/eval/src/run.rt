@@ -4,6 +4,7 @@
 // and the stack of operands, from the last cell down.
 use crate::start::start;
 use crate::take::take;
+use crate::task::Frame;
 use crate::task::Next;
 use crate::task::Task;
 use crate::task::state;
@@ -22,43 +23,46 @@ fn resumed(s: State, e: Ended) -> Ended
     }
 }
 
-// Operand after operand, until the rule that was begun ends.
+// Operand after operand, from the first on, until the rule that was begun ends.
 fn operands<'a>(
     rule_table: &[u8],
     rule_strings: &'a [u8],
     record_table: &[u8],
     record_strings: &'a [u8],
     cells: &mut [u8],
-    next: Next,
+    first: Task,
+    begun: Frame,
 ) -> Ended
-    requires { ⌜ Operating (now cells) next ⌝ }
-    ensures { λ r. ⌜ Operates (now («rule_table» .entry)) (now («rule_strings» .entry)) (now («record_table» .entry)) (now («record_strings» .entry)) (now (cells .entry)) next r (now (cells .exit)) ⌝ }
+    requires { ⌜ Operating (now cells) (Next.Asks first begun) ⌝ }
+    ensures { λ r. ⌜ Operates (now («rule_table» .entry)) (now («rule_strings» .entry)) (now («record_table» .entry)) (now («record_strings» .entry)) (now (cells .entry)) (Next.Asks first begun) r (now (cells .exit)) ⌝ }
 {
-    let mut at = next;
+    let mut task = first;
+    let mut frame = begun;
     loop {
-        match at {
-            Next::Ends(e) => {
-                return e;
+        let e = eval(
+            rule_table,
+            rule_strings,
+            record_table,
+            record_strings,
+            cells,
+            task,
+        );
+        match take(
+            rule_table,
+            rule_strings,
+            record_table,
+            record_strings,
+            cells,
+            task,
+            frame,
+            e,
+        ) {
+            Next::Ends(end) => {
+                return end;
             }
-            Next::Asks(task, frame) => {
-                let e = eval(
-                    rule_table,
-                    rule_strings,
-                    record_table,
-                    record_strings,
-                    cells,
-                    task,
-                );
-                at = take(
-                    rule_table,
-                    rule_strings,
-                    record_table,
-                    record_strings,
-                    cells,
-                    task,
-                    frame,
-                    e,
-                );
+            Next::Asks(t, f) => {
+                task = t;
+                frame = f;
             }
         }
     }
@@ -76,22 +80,27 @@ pub fn eval<'a>(
     requires { ⌜ Room (now cells) 0 0 (task .state) ⌝ }
     ensures { λ r. ⌜ Evals (now («rule_table» .entry)) (now («rule_strings» .entry)) (now («record_table» .entry)) (now («record_strings» .entry)) (now (cells .entry)) task r (now (cells .exit)) ⌝ }
 {
-    let next = start(
+    let s = task.state;
+    match start(
         rule_table,
         rule_strings,
         record_table,
         record_strings,
         cells,
         task,
-    );
-    let e = operands(
-        rule_table,
-        rule_strings,
-        record_table,
-        record_strings,
-        cells,
-        next,
-    );
-    let s = task.state;
-    resumed(s, e)
+    ) {
+        Next::Ends(e) => resumed(s, e),
+        Next::Asks(first, frame) => {
+            let e = operands(
+                rule_table,
+                rule_strings,
+                record_table,
+                record_strings,
+                cells,
+                first,
+                frame,
+            );
+            resumed(s, e)
+        }
+    }
 }

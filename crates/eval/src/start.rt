@@ -1,16 +1,17 @@
 // How a rule begins.
 use crate::task::Frame;
 use crate::task::Next;
-use crate::task::Pending;
 use crate::task::Task;
 use crate::task::arguments_of;
 use crate::task::operand;
 use crate::task::state;
 use heap::handle::Area;
+use heap::handle::Form;
 use heap::handle::Handle;
+use heap::handle::compound;
 use heap::handle::string;
+use keywords::Op;
 use op_lookup::value_at;
-use operations::apply;
 use operations::ended::Ended;
 use operations::ended::Fault;
 use operations::ended::State;
@@ -20,39 +21,8 @@ use rule::view::view_at;
 use table::node::Rows;
 use table::string::bytes_of;
 ghost use mathlib.Core.Path.{_≡_};
-ghost use Prim.Native.Nat.{_+_, _≤_};
-ghost use Rattle.eval.specs.Inner.{Room, Argued, literalHandle, firstTask, Starts};
-
-// The task's operand, or the operation where none is left. Those before stand on the stack.
-pub fn arguments<'a>(
-    rule_strings: &'a [u8],
-    record_table: &[u8],
-    record_strings: &'a [u8],
-    cells: &mut [u8],
-    task: Task,
-    p: Pending,
-) -> Next
-    requires { ⌜ Room (now cells) (2 + p .done) (p .done) (task .state) ⌝ }
-    ensures { λ r. ⌜ Argued (now («rule_strings» .entry)) (now («record_table» .entry)) (now («record_strings» .entry)) (now (cells .entry)) task p r (now (cells .exit)) ⌝ }
-{
-    let op = p.op;
-    let done = p.done;
-    let s = task.state;
-    if p.rest > 0 {
-        let rest = p.rest - 1;
-        return Next::Asks(task, Frame::Argument(arguments_of(op, done, rest)));
-    }
-    let all = state(s.left, s.top, s.bottom + done, s.deep);
-    Next::Ends(apply(
-        rule_strings,
-        record_table,
-        record_strings,
-        cells,
-        op,
-        done,
-        all,
-    ))
-}
+ghost use Prim.Native.Nat.{_≤_};
+ghost use Rattle.eval.specs.Inner.{Room, literalHandle, firstTask, firstArgument, Starts};
 
 // A literal's handle: a string lies in the rule's strings.
 fn literal(l: Literal) -> Handle
@@ -74,17 +44,32 @@ fn first(q: Rows, context: Handle, s: State) -> Task
     operand(q.first, context, state(s.left, s.top, s.bottom, s.deep - 1))
 }
 
+// The first operand of an operation on all its operands. Only an array may have none: its list is empty.
+fn first_argument(op: Op, q: Rows, context: Handle, s: State) -> Next
+    requires { ⌜ 1 ≤ s .deep ⌝ }
+    ensures { λ r. ⌜ r ≡ firstArgument op q context s ⌝ }
+{
+    if q.count == 0 {
+        return Next::Ends(Ended::Gives(compound(Form::List, s.top, 0), s));
+    }
+    let rest = q.count - 1;
+    Next::Asks(
+        first(q, context, s),
+        Frame::Argument(arguments_of(op, 0, rest)),
+    )
+}
+
 // One step, and then what the rule's kind says; refusal 10 where no step is left.
 pub fn start<'a>(
     rule_table: &[u8],
     rule_strings: &'a [u8],
     record_table: &[u8],
     record_strings: &'a [u8],
-    cells: &mut [u8],
+    cells: &[u8],
     task: Task,
 ) -> Next
     requires { ⌜ Room (now cells) 0 0 (task .state) ⌝ }
-    ensures { λ r. ⌜ Starts (now («rule_table» .entry)) (now («rule_strings» .entry)) (now («record_table» .entry)) (now («record_strings» .entry)) (now (cells .entry)) task r (now (cells .exit)) ⌝ }
+    ensures { λ r. ⌜ Starts (now («rule_table» .entry)) (now («rule_strings» .entry)) (now («record_table» .entry)) (now («record_strings» .entry)) (now (cells .entry)) task r ⌝ }
 {
     let s = task.state;
     if s.left == 0 {
@@ -102,10 +87,6 @@ pub fn start<'a>(
         View::If(q) => Next::Asks(first(q, context, begun), Frame::Guard),
         View::And(q) => Next::Asks(first(q, context, begun), Frame::Conjunct(q.count)),
         View::Reduce(q) => Next::Asks(first(q, context, begun), Frame::Source),
-        View::Apply(op, q) => {
-            let t = first(q, context, begun);
-            let p = arguments_of(op, 0, q.count);
-            arguments(rule_strings, record_table, record_strings, cells, t, p)
-        }
+        View::Apply(op, q) => first_argument(op, q, context, begun),
     }
 }

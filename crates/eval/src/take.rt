@@ -1,9 +1,9 @@
 // What an operation does with the value of an operand.
-use crate::start::arguments;
 use crate::task::Frame;
 use crate::task::Next;
 use crate::task::Pending;
 use crate::task::Task;
+use crate::task::arguments_of;
 use crate::task::operand;
 use crate::task::state;
 use heap::cell::put;
@@ -15,12 +15,13 @@ use heap::part::head;
 use heap::part::tail;
 use op_scalars::truth::Truth;
 use op_scalars::truth::truth_of;
+use operations::apply;
 use operations::ended::Ended;
 use operations::ended::Fault;
 use table::node::next_row;
 ghost use mathlib.Core.Path.{_≡_};
 ghost use Prim.Native.Nat.{_+_};
-ghost use Rattle.eval.specs.Inner.{Room, elementsIn, elementsOf, Branches, Takes, TakesByRule, TakesByRecord, Taking, TakesEnd};
+ghost use Rattle.eval.specs.Inner.{Room, Argued, elementsIn, elementsOf, Branches, Takes, TakesByRule, TakesByRecord, Taking, TakesEnd};
 
 // The items of an array, or that a value is none.
 enum Elements {
@@ -139,6 +140,37 @@ fn next_item(
             items: rest,
         },
     )
+}
+
+// The task's operand, or the operation where none is left. Those before stand on the stack.
+fn arguments<'a>(
+    rule_strings: &'a [u8],
+    record_table: &[u8],
+    record_strings: &'a [u8],
+    cells: &mut [u8],
+    task: Task,
+    p: Pending,
+) -> Next
+    requires { ⌜ Room (now cells) (2 + p .done) (p .done) (task .state) ⌝ }
+    ensures { λ r. ⌜ Argued (now («rule_strings» .entry)) (now («record_table» .entry)) (now («record_strings» .entry)) (now (cells .entry)) task p r (now (cells .exit)) ⌝ }
+{
+    let op = p.op;
+    let done = p.done;
+    let s = task.state;
+    if p.rest > 0 {
+        let rest = p.rest - 1;
+        return Next::Asks(task, Frame::Argument(arguments_of(op, done, rest)));
+    }
+    let all = state(s.left, s.top, s.bottom + done, s.deep);
+    Next::Ends(apply(
+        rule_strings,
+        record_table,
+        record_strings,
+        cells,
+        op,
+        done,
+        all,
+    ))
 }
 
 // The value onto the stack; then the next operand, or the operation.

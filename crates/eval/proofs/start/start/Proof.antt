@@ -1,10 +1,19 @@
 use mathlib.Core.Path.{refl}
 use native.Mathlib.Omega.{arith}
 use Rattle.rule.specs.declared.view.View.the-variants as Views
-use Rattle.eval.proofs.Begun.{some-deep, first-room, none-left, of-literal, of-path, of-if, of-and, of-reduce, of-apply}
+use Rattle.eval.proofs.Begun.{some-deep, none-left, of-literal, of-path, of-if, of-and, of-reduce, of-apply}
 use borrow.Author.Needs.{needs}
 use Rattle.eval.proofs.start.start.Statement.{statement}
 use Rattle.eval.proofs.start.start.Tie as tie
+use Rattle.eval.proofs.start.start.Reads as reads
+use Rattle.eval.proofs.start.start.Lts as lts
+use Rattle.eval.proofs.start.first.Reads as first-reads
+use Rattle.eval.proofs.start.first_argument.Reads as first-argument-reads
+use Rattle.eval.proofs.start.literal.Reads as literal-reads
+use Rattle.eval.proofs.task.state.Reads as state-reads
+use Rattle.op_lookup.proofs.value_at.Reads as value-at-reads
+use Rattle.rule.proofs.view.view_at.Reads as view-at-reads
+use Rattle.table.proofs.string.bytes_of.Reads as bytes-of-reads
 
 returns : tie.Need-returns
 returns c = none-left _ _ _ _ _ (c .before .before .before .before .before .before .before .before .args .task) (c .if1 .taken)
@@ -54,23 +63,14 @@ first-requires-3 c κs = rw (c .before .before .before .before .state .ensures) 
 enum-known-op : tie.Need-enum-known-op
 enum-known-op c = search needs
 
-first-requires-4 : tie.Need-first-requires-4
-first-requires-4 c κs = rw (c .before .before .before .before .state .ensures) (some-deep (Views.Apply _ _) (c .before .before .before .view-at .ensures) (c .before .op .given .1) refl)
-
-arguments-of-requires : tie.Need-arguments-of-requires
-arguments-of-requires c κs = search needs
-
-arguments-requires : tie.Need-arguments-requires
-arguments-requires c κs = rw (c .before .arguments-of .ensures) (first-room (c .before .before .before .before .before .before .before .before .before .before .before .before .before .before .before .before .before .args .task) (c .before .before .before .before .before .before .before .state .result) (c .before .before .before .before .op .given .0 .1 .0) (c .before .before .first4 .result) (omega (arith, c .before .before .before .before .before .before .before .before .before .if1 .left)) (c .before .before .before .before .before .before .before .state .ensures) (c .before .before .first4 .ensures) (c .before .before .before .before .before .before .before .before .before .before .before .before .before .before .before .before .before .pre))
+first-argument-requires : tie.Need-first-argument-requires
+first-argument-requires c κs = rw (c .before .before .before .before .state .ensures) (some-deep (Views.Apply _ _) (c .before .before .before .view-at .ensures) (c .before .op .given .1) refl)
 
 returns-2 : tie.Need-returns-2
 returns-2 c = of-literal _ _ _ _ _ (c .before .before .before .before .before .before .before .before .before .before .before .before .before .before .before .args .task) (omega (arith, c .before .before .before .before .before .before .before .if1 .left)) (c .before .before .before .before .before .state .result) (c .before .before .before .before .before .state .ensures) (c .before .before .before .before .view-at .ensures) _ (c .literal .result) (c .before .before .l .given .1) (c .literal .ensures)
 
-same-length : tie.Need-same-length
-same-length c = search needs
-
 returns-3 : tie.Need-returns-3
-returns-3 c = of-path _ _ _ _ _ (c .before .before .before .before .before .before .before .before .before .before .before .before .before .before .before .before .before .args .task) (omega (arith, c .before .before .before .before .before .before .before .before .before .if1 .left)) (c .before .before .before .before .before .before .before .state .result) (c .before .before .before .before .before .before .before .state .ensures) (c .before .before .before .before .before .before .view-at .ensures) _ _ (c .value-at .result) (c .before .before .before .before .p .given .1) (c .before .before .bytes-of .ensures) (omega (arith, c .before .before .before .before .before .before .before .before .before .before .before .before .before .before .before .before .before .pre .fits, c .before .before .before .before .before .before .before .before .before .before .before .before .before .before .before .before .before .pre .within)) (c .value-at .ensures)
+returns-3 c = of-path _ _ _ _ _ (c .before .before .before .before .before .before .before .before .before .before .before .before .before .before .before .before .args .task) (omega (arith, c .before .before .before .before .before .before .before .before .if1 .left)) (c .before .before .before .before .before .before .state .result) (c .before .before .before .before .before .before .state .ensures) (c .before .before .before .before .before .view-at .ensures) _ _ (c .value-at .result) (c .before .before .before .p .given .1) (c .before .bytes-of .ensures) (omega (arith, c .before .before .before .before .before .before .before .before .before .before .before .before .before .before .before .before .pre .fits, c .before .before .before .before .before .before .before .before .before .before .before .before .before .before .before .before .pre .within)) (c .value-at .ensures)
 
 returns-4 : tie.Need-returns-4
 returns-4 c = of-if _ _ _ _ _ (c .before .before .before .before .before .before .before .before .before .before .before .before .before .before .before .args .task) (omega (arith, c .before .before .before .before .before .before .before .if1 .left)) (c .before .before .before .before .before .state .result) (c .before .before .before .before .before .state .ensures) (c .before .before .before .before .view-at .ensures) _ (c .first .result) (c .first .ensures) (c .before .before .q .given .1)
@@ -81,11 +81,8 @@ returns-5 c = of-and _ _ _ _ _ (c .before .before .before .before .before .befor
 returns-6 : tie.Need-returns-6
 returns-6 c = of-reduce _ _ _ _ _ (c .before .before .before .before .before .before .before .before .before .before .before .before .before .before .before .args .task) (omega (arith, c .before .before .before .before .before .before .before .if1 .left)) (c .before .before .before .before .before .state .result) (c .before .before .before .before .before .state .ensures) (c .before .before .before .before .view-at .ensures) _ (c .first3 .result) (c .first3 .ensures) (c .before .before .q3 .given .1)
 
-same-length-2 : tie.Need-same-length-2
-same-length-2 c = search needs
-
 returns-7 : tie.Need-returns-7
-returns-7 c = of-apply _ _ _ _ _ (c .before .before .before .before .before .before .before .before .before .before .before .before .before .before .before .before .before .before .before .before .args .task) (omega (arith, c .before .before .before .before .before .before .before .before .before .before .before .before .if1 .left)) (c .before .before .before .before .before .before .before .before .before .before .state .result) (c .before .before .before .before .before .before .before .before .before .before .state .ensures) (c .before .before .before .before .before .before .before .before .before .view-at .ensures) _ (c .before .before .before .before .before .first4 .result) (c .before .before .before .before .before .first4 .ensures) _ (c .before .before .before .before .arguments-of .result) (c .before .before .before .before .before .before .before .op .given .1) (c .before .before .before .before .arguments-of .ensures) (c .before .before .arguments .ensures)
+returns-7 c = of-apply _ _ _ _ _ (c .before .before .before .before .before .before .before .before .before .before .before .before .before .before .before .args .task) (omega (arith, c .before .before .before .before .before .before .before .if1 .left)) (c .before .before .before .before .before .state .result) (c .before .before .before .before .before .state .ensures) (c .before .before .before .before .view-at .ensures) (c .before .before .op .given .0 .0) (c .before .before .op .given .0 .1 .0) (c .first-argument .result) (c .before .before .op .given .1) (c .first-argument .ensures)
 
 pub start-spec : {M : Type 1} → statement M
 start-spec =
@@ -107,14 +104,10 @@ start-spec =
     enum-known-q-3
     first-requires-3
     enum-known-op
-    first-requires-4
-    arguments-of-requires
-    arguments-requires
+    first-argument-requires
     returns-2
-    same-length
     returns-3
     returns-4
     returns-5
     returns-6
-    same-length-2
     returns-7)

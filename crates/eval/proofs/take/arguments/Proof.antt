@@ -3,8 +3,8 @@ use native.Mathlib.Omega.{arith}
 use mathlib.Core.Path.{refl}
 use Rattle.eval.proofs.Arguments.{asks-next, stack-room, applies}
 use borrow.Author.Needs.{needs}
-use Rattle.eval.proofs.start.arguments.Statement.{statement}
-use Rattle.eval.proofs.start.arguments.Tie as tie
+use Rattle.eval.proofs.take.arguments.Statement.{statement}
+use Rattle.eval.proofs.take.arguments.Tie as tie
 
 sub-rest : tie.Need-sub-rest
 sub-rest c = search needs
