@@ -14,7 +14,7 @@ pub struct InstantText {
 }
 
 // The last decimal digit of a number.
-fn digit(n: u64) -> u8
+pub fn digit(n: u64) -> u8
     ensures { λ r. ⌜ r ≡ digitByte n ⌝ }
 {
     b'0' + (n % 10) as u8

@@ -1,17 +1,9 @@
 // Decimal digits without leading zeros.
 use crate::put::put_bytes;
-ghost use mathlib.Core.Path.{_≡_};
-ghost use Rattle.model.specs.Bytes.{digitByte};
+use instants::text::digit;
 ghost use Rattle.model.specs.Writing.{decimal};
 ghost use Rattle.print.specs.Contract.{Near, Put};
 ghost use Rattle.print.specs.Inner.{Ends};
-
-// The last digit of a number.
-fn digit(n: u64) -> u8
-    ensures { λ r. ⌜ r ≡ digitByte n ⌝ }
-{
-    b'0' + (n % 10) as u8
-}
 
 // The digits of a number: what stands in `bytes` from `start` on.
 pub struct Digits {

@@ -16,13 +16,13 @@ fn letter(b: u8) -> u8
     ensures { λ r. ⌜ r ≡ letterOf b ⌝ }
 {
     match b {
-        8 => b'b',
-        9 => b't',
-        10 => b'n',
-        12 => b'f',
-        13 => b'r',
-        34 => 34,
-        92 => 92,
+        b'\x08' => b'b',
+        b'\t' => b't',
+        b'\n' => b'n',
+        b'\x0C' => b'f',
+        b'\r' => b'r',
+        b'"' => b'"',
+        b'\\' => b'\\',
         _ => 0,
     }
 }
@@ -31,13 +31,13 @@ fn letter(b: u8) -> u8
 fn is_plain(b: u8) -> bool
     ensures { λ r. ⌜ r ≡ plain b ⌝ }
 {
-    if b < 32 {
+    if b < b' ' {
         return false;
     }
-    if b == 34 {
+    if b == b'"' {
         return false;
     }
-    b != 92
+    b != b'\\'
 }
 
 // Whether eight bytes all do.
@@ -100,7 +100,7 @@ fn put_escape(output: &mut [u8], at: usize, b: u8) -> usize
 {
     let c = letter(b);
     if c != 0 {
-        put_byte(output, at, 92);
+        put_byte(output, at, b'\\');
         put_byte(output, at + 1, c);
         return at + 2;
     }
@@ -143,7 +143,7 @@ fn put_quoted(output: &mut [u8], at: usize, s: &[u8]) -> usize
     requires { ⌜ (Near at) × (length (now s) ≤ maxTextBytes) ⌝ }
     ensures { λ r. ⌜ Put (stringText (now (s .entry))) at (now (output .entry)) r (now (output .exit)) ⌝ }
 {
-    put_byte(output, at, 34);
+    put_byte(output, at, b'"');
     let mut here = Move {
         from: 0,
         at: at + 1,
@@ -151,7 +151,7 @@ fn put_quoted(output: &mut [u8], at: usize, s: &[u8]) -> usize
     while here.from < s.len() {
         here = put_some(output, s, here);
     }
-    put_byte(output, here.at, 34);
+    put_byte(output, here.at, b'"');
     here.at + 1
 }
 
