@@ -3,7 +3,7 @@ ghost use mathlib.Core.Path.{_≡_};
 ghost use Prim.Native.Nat.{_+_, _≤_, _<_};
 ghost use lib.ListN.{length};
 ghost use lib.Seq.{sets};
-ghost use Rattle.area.specs.Words.{word, wordAt, zeroFrom};
+ghost use Rattle.area.specs.Contract.{word, wordAt, zeroFrom};
 
 // Zeros from `from` on.
 pub fn clear_from(d: &mut [u8], from: usize)

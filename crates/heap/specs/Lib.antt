@@ -6,5 +6,6 @@ pub mod Parts
 pub mod Unfold
 pub mod Means
 pub mod Blocks
+pub mod Contract
 pub mod Main
 pub mod Laws

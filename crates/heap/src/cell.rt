@@ -8,7 +8,8 @@ use area::get_word;
 use area::put_word;
 ghost use mathlib.Core.Path.{_≡_};
 ghost use Prim.Native.Nat.{_+_, _*_, _<_};
-ghost use Rattle.heap.specs.Cells.{Packs, spanTag, partsTag, packedOf, ofPacked, cellHandle, stored};
+ghost use Rattle.heap.specs.Contract.{cellHandle, stored};
+ghost use Rattle.heap.specs.Cells.{Packs, spanTag, partsTag, packedOf, ofPacked};
 
 pub const CELL_BYTES: usize = 8;
 

@@ -2,7 +2,7 @@
 use table::node::Node;
 use table::node::node_at;
 ghost use mathlib.Core.Path.{_≡_};
-ghost use Rattle.heap.specs.Handles.{span, parts, recordHandle, rowHandle};
+ghost use Rattle.heap.specs.Contract.{span, parts, recordHandle, rowHandle};
 
 // Which strings area: the rule's or the record's.
 pub enum Area {

@@ -10,7 +10,8 @@ use table::node::next_row;
 use table::row::Span;
 ghost use mathlib.Core.Path.{_≡_};
 ghost use Prim.Native.Nat.{_-_};
-ghost use Rattle.heap.specs.Parts.{headOf, nextCell, nextOf, tailOf, contextLabel, labelOf};
+ghost use Rattle.heap.specs.Contract.{headOf, tailOf, labelOf};
+ghost use Rattle.heap.specs.Parts.{nextCell, nextOf, contextLabel};
 
 // What names a part: nothing in an array; a part of the record's strings; or a name of a lambda's context, which lies in no area.
 pub enum Label {

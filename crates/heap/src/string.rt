@@ -3,7 +3,7 @@ use crate::handle::Area;
 use crate::handle::Span;
 use table::string::part_of;
 ghost use mathlib.Core.Path.{_≡_};
-ghost use Rattle.heap.specs.Strings.{spanBytes};
+ghost use Rattle.heap.specs.Contract.{spanBytes};
 
 // 01, Evaluation: a string is a part of the rule's strings or of the record's, never a copy.
 pub fn bytes<'a>(rule_strings: &'a [u8], record_strings: &'a [u8], s: Span) -> &'a [u8]

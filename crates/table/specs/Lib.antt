@@ -3,5 +3,6 @@ pub mod Row
 pub mod Node
 pub mod Strings
 pub mod Denotes
+pub mod Contract
 pub mod Main
 pub mod Laws

@@ -13,8 +13,8 @@ use syntax::STRING_ROW;
 use syntax::TRUE_ROW;
 ghost use mathlib.Core.Path.{_≡_};
 ghost use Prim.Native.Nat.{_-_};
-ghost use Rattle.table.specs.Node.{nodeOf, nodeAt, nextRow, nameAt, tailOf};
-ghost use Rattle.table.specs.Row.{Halves};
+ghost use Rattle.table.specs.Contract.{nodeAt, nextRow, nameAt, tailOf, Halves};
+ghost use Rattle.table.specs.Node.{nodeOf};
 
 // So many values, one after the other, from a row on.
 pub struct Rows {

@@ -3,7 +3,7 @@ use area::get_word;
 use syntax::ROW_BYTES;
 ghost use mathlib.Core.Path.{_≡_};
 ghost use Prim.Native.Nat.{_<_};
-ghost use Rattle.table.specs.Row.{rowAt, Halves, joined};
+ghost use Rattle.table.specs.Contract.{rowAt, Halves, joined};
 
 // A part of a strings area.
 pub struct Span {

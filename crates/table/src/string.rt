@@ -1,7 +1,7 @@
 // The bytes of a string, where they lie.
 use crate::row::Span;
 ghost use mathlib.Core.Path.{_≡_};
-ghost use Rattle.table.specs.Strings.{part, bytesOf};
+ghost use Rattle.table.specs.Contract.{part, bytesOf};
 
 // So many bytes of an area from `start` on; fewer where it ends before.
 pub fn part_of(area: &[u8], start: usize, size: usize) -> &[u8]

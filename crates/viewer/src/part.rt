@@ -7,8 +7,8 @@ use table::row::Row;
 ghost use mathlib.Core.Path.{_≡_};
 ghost use Prim.Native.Nat.{_<_};
 ghost use Rattle.viewer.specs.Inner.{after, afterAll, partAfter};
+ghost use Rattle.viewer.specs.Contract.{partSeen};
 ghost use Rattle.viewer.specs.Row.{endOf};
-ghost use Rattle.viewer.specs.View.{partSeen};
 
 // The place of a part; or refusal 1.
 pub enum PartAnswer {

@@ -11,10 +11,10 @@ use table::row::Row;
 use table::row::join;
 use table::row::row_at;
 ghost use mathlib.Core.Path.{_≡_};
-ghost use Rattle.viewer.specs.Form.{isWithin, isInteger, integerIn, isSpan, hasContent, hasForm};
+ghost use Rattle.viewer.specs.Contract.{integerIn, countOf, rowSeen};
+ghost use Rattle.viewer.specs.Form.{isWithin, isInteger, isSpan, hasContent, hasForm};
 ghost use Rattle.table.specs.Row.{Halves};
-ghost use Rattle.viewer.specs.Row.{rowCount, countOf};
-ghost use Rattle.viewer.specs.View.{rowSeen};
+ghost use Rattle.viewer.specs.Row.{rowCount};
 
 // No integer is as large, with 2^53 added.
 const TOO_LARGE: usize = 2 * BIAS as usize;

@@ -5,7 +5,7 @@ use crate::part::find_part;
 use crate::row::RowAnswer;
 use crate::row::find_row;
 ghost use mathlib.Core.Path.{_≡_};
-ghost use Rattle.viewer.specs.View.{rowSeen, partSeen};
+ghost use Rattle.viewer.specs.Contract.{rowSeen, partSeen};
 
 // 01, Reading: "A viewer for the host holds the lent table of one read text and a place".
 pub struct Viewer<'a> {
