@@ -26,7 +26,7 @@ use Rattle.operations.specs.Stack.{stackedFrom}
 use Rattle.rule.specs.declared.view.Literal.{Literal}
 use Rattle.rule.specs.declared.view.View.{View}
 use Rattle.rule.specs.declared.view.View.the-variants as Views
-use Rattle.rule.specs.Holds.{ruleCount}
+use Rattle.rule.specs.Holds.{Holds, ruleCount}
 use Rattle.rule.specs.Laws.Holds.{holds-count}
 use Rattle.rule.specs.Contract.{Spells, spells-false, spells-true, spells-integer, spells-string, nested, Viewed, viewed-literal, viewed-var, viewed-if, viewed-and, viewed-reduce, viewed-apply, ViewsAs}
 use Rattle.syntax.specs.Layout.{itemCount}
@@ -38,7 +38,7 @@ use Rattle.eval.specs.declared.task.Next.{Next}
 use Rattle.eval.specs.declared.task.Next.the-variants.{Ends, Asks}
 use Rattle.eval.specs.declared.task.Pending.{Pending}
 use Rattle.eval.specs.declared.task.Task.{Task}
-use Rattle.eval.specs.Inner.{Charged, RuleAt, RowsHold, row-rule, reduced, Asked, Argues, Starts, pending, firstTask, firstOf, firstArgument, literalHandle}
+use Rattle.eval.specs.Inner.{Charged, RowsHold, row-rule, reduced, Asked, Argues, Starts, pending, firstTask, firstOf, firstArgument, literalHandle}
 use Rattle.eval.proofs.Arguments.{asks-next}
 use Rattle.eval.proofs.Bounds.{gives-at, stops-at}
 use Rattle.eval.proofs.Rows.{rows-hold}
@@ -207,7 +207,7 @@ module _ (T A R B C : Bytes) (t : Task) where
         deep : 1 ≤ t .state .deep
         deep = some-deep (Views.Apply op q) seen e refl
 
-        viewed : (ρ : Rule) → RuleAt T A (t .state .deep) (t .row) ρ → Viewed T A (t .state .deep) (Views.Apply op q) ρ
+        viewed : (ρ : Rule) → Holds T A (t .state .deep) (t .row) ρ → Viewed T A (t .state .deep) (Views.Apply op q) ρ
         viewed ρ k = subst (λ (y : View). Viewed T A (t .state .deep) y ρ) e (seen .viewed ρ k)
 
         some-arguments : (rest : ℕ) → q .count ≡ suc rest → Argues T A R B C (firstTask q (t .context) (after t)) (pending op 0 (q .count)) (Asks (firstTask q (t .context) (after t)) (Argument (pending op 0 rest))) C

@@ -123,13 +123,10 @@ resumedEnd s (Gives h t) = Gives h (state (t .left) (t .top) (s .bottom) (s .dee
 resumedEnd s (Denies f l) = Denies f l
 
 -- ---- rules
-abbrev pub RuleAt : Bytes → Bytes → ℕ → ℕ → Rule → Type 0
-RuleAt T A deep row ρ = Holds T A deep row ρ
-
 -- The rules of operands, from a row on.
 pub data RowsHold (T A : Bytes) (deep : ℕ) : ℕ → Rules → Type 0 where
   no-rows : {row : ℕ} → RowsHold T A deep row no-rules
-  row-rule : {row : ℕ} {r : Rule} {rs : Rules} → RuleAt T A deep row r → RowsHold T A deep (nextRow T row) rs → RowsHold T A deep row (rule r rs)
+  row-rule : {row : ℕ} {r : Rule} {rs : Rules} → Holds T A deep row r → RowsHold T A deep (nextRow T row) rs → RowsHold T A deep row (rule r rs)
 
 -- ---- frames: what the model still does with the operand's value
 abbrev pub Then : Type 0
@@ -176,7 +173,7 @@ pub record SourceMeans (T A R B C : Bytes) (t : Task) (K : Then) : Type 0 where
 pub record ItemMeans (T A R B C : Bytes) (t : Task) (row : ℕ) (items : Handle) (K : Then) : Type 0 where
   pub lambda : Rule
   pub value : Value
-  pub holds : RuleAt T A (t .state .deep) row lambda
+  pub holds : Holds T A (t .state .deep) row lambda
   pub means : Means (areas A B R C) (t .state .top) value items
   pub run : (v : Value) (n : ℕ) → K v n ≡ reduced lambda value v n
 
@@ -212,7 +209,7 @@ pub record Asked (T A R B C : Bytes) (m : Plain Value) (t : Task) (f : Frame) : 
   pub asked : Rule
   pub given : Value
   pub next : Then
-  pub holds : RuleAt T A (t .state .deep) (t .row) asked
+  pub holds : Holds T A (t .state .deep) (t .row) asked
   pub means : Means (areas A B R C) (t .state .top) given (t .context)
   pub frame : FrameMeans T A R B C t f next
   pub run : m ≡ continue (evalPlain asked given (t .state .left)) next
@@ -237,7 +234,7 @@ pub record Evals (T A R B C : Bytes) (t : Task) (e : Ended) (C′ : Bytes) : Typ
   pub restores : Restored (t .state) e
   pub evals :
       (ρ : Rule) (κ : Value)
-      → RuleAt T A (t .state .deep) (t .row) ρ
+      → Holds T A (t .state .deep) (t .row) ρ
       → Means (areas A B R C) (t .state .top) κ (t .context)
       → EndsAs (areas A B R C′) (evalPlain ρ κ (t .state .left)) e
 
@@ -245,7 +242,7 @@ pub record Starts (T A R B C : Bytes) (t : Task) (n : Next) : Type 0 where
   pub within : Within (t .state) n
   pub follows :
       (ρ : Rule) (κ : Value)
-      → RuleAt T A (t .state .deep) (t .row) ρ
+      → Holds T A (t .state .deep) (t .row) ρ
       → Means (areas A B R C) (t .state .top) κ (t .context)
       → Follows T A R B C (evalPlain ρ κ (t .state .left)) n
 

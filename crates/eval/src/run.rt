@@ -30,14 +30,12 @@ fn operands<'a>(
     record_table: &[u8],
     record_strings: &'a [u8],
     cells: &mut [u8],
-    first: Task,
-    begun: Frame,
+    mut task: Task,
+    mut frame: Frame,
 ) -> Ended
-    requires { ⌜ Operating (now cells) (Next.Asks first begun) ⌝ }
-    ensures { λ r. ⌜ Operates (now («rule_table» .entry)) (now («rule_strings» .entry)) (now («record_table» .entry)) (now («record_strings» .entry)) (now (cells .entry)) (Next.Asks first begun) r (now (cells .exit)) ⌝ }
+    requires { ⌜ Operating (now cells) (Next.Asks task frame) ⌝ }
+    ensures { λ r. ⌜ Operates (now («rule_table» .entry)) (now («rule_strings» .entry)) (now («record_table» .entry)) (now («record_strings» .entry)) (now (cells .entry)) (Next.Asks task frame) r (now (cells .exit)) ⌝ }
 {
-    let mut task = first;
-    let mut frame = begun;
     loop {
         let e = eval(
             rule_table,
@@ -57,9 +55,7 @@ fn operands<'a>(
             frame,
             e,
         ) {
-            Next::Ends(end) => {
-                return end;
-            }
+            Next::Ends(end) => return end,
             Next::Asks(t, f) => {
                 task = t;
                 frame = f;
