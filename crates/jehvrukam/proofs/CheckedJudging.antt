@@ -26,7 +26,7 @@ use Rattle.jehvrukam.specs.Contract.{checkedAreasOf, checkedNumbersOf}
 use Rattle.jehvrukam.specs.Entry.{Entry, WorkAreas, workAreas}
 use Rattle.jehvrukam.specs.EvaluateChecked.{CheckedAreas, CheckedNumbers, checkedZeros, checkedAnswered, evaluateCheckedAnswer}
 use Rattle.jehvrukam.specs.Fits.{yesOrNo}
-use Rattle.jehvrukam.specs.Inner.{Judges, Runs, checkedTold, checkedUnrun}
+use Rattle.jehvrukam.specs.Inner.{Judges, Runs, checkedTold, checkedUnrun, checkedRun, AfterCheck, beforeCheck}
 use Rattle.jehvrukam.proofs.Settling.{AsLong, same-long, long-text, long-work}
 use Rattle.jehvrukam.proofs.Stopping.{passes-stage, stops}
 use Rattle.jehvrukam.proofs.Running.{Texts, ready, refusal-is, steps-are, size-is, output-is, cells-are}
@@ -34,34 +34,43 @@ use Rattle.jehvrukam.proofs.Running.{Texts, ready, refusal-is, steps-ar
 abbrev parts : TextAreas → TextAreas → TextAreas → WorkAreas → CheckedAreas
 parts t s r c = record { rule = t; sheet = s; «record» = r; work = c }
 
-as-long : {T A S Z R B C O T′ A′ S′ Z′ R′ B′ C′ O′ : Bytes} → AsLong T A T′ A′ → AsLong S Z S′ Z′ → AsLong R B R′ B′ → AsLong C O C′ O′
-    → checkedZeros (checkedAreasOf T′ A′ S′ Z′ R′ B′ C′ O′) ≡ checkedZeros (checkedAreasOf T A S Z R B C O)
-as-long t s r c = λ i. parts (long-text t i) (long-text s i) (long-text r i) (long-work c i)
+-- What the check left, from its contract.
+abbrev pub after-check : {rule sheet T A S Z T′ A′ S′ Z′ : Bytes} {c : Checked} → ChecksLong rule sheet (textAreas T A) (textAreas S Z) c (textAreas T′ A′) (textAreas S′ Z′) → AsLong T A T′ A′ → AsLong S Z S′ Z′ → AfterCheck c (textAreas T′ A′) (textAreas S′ Z′)
+after-check {rule} {sheet} {T} {A} {S} {Z} h l m =
+    record { rule = rule; sheet = sheet; rule-before = textAreas T A; sheet-before = textAreas S Z; checks = h; rule-sizes = long-text l; sheet-sizes = long-text m }
 
 all-read : (rule sheet d : Bytes) (t : TextsChecked) (v : Value) → checkStage rule sheet ≡ passed t → readAs recordText d ≡ passed v → evaluateCheckedStage rule sheet d ≡ passed (record { checked = t; «record» = v })
 all-read rule sheet d t v e f = rw (e, f)
 
-module _ (rule sheet d : Bytes) (limit : ℕ) (T A S Z R B C O : Bytes) {T′ A′ S′ Z′ : Bytes} {c : Checked}
-    (h : ChecksLong rule sheet (textAreas T A) (textAreas S Z) c (textAreas T′ A′) (textAreas S′ Z′)) (l : AsLong T A T′ A′) (m : AsLong S Z S′ Z′) where
+module _ (d : Bytes) (limit : ℕ) (T A S Z R B C O : Bytes) {c : Checked} (k : AfterCheck c (textAreas T A) (textAreas S Z)) where
+  abbrev rule : Bytes
+  rule = k .rule
+
+  abbrev sheet : Bytes
+  sheet = k .sheet
+
   abbrev lent : CheckedAreas
-  lent = checkedAreasOf T A S Z R B C O
+  lent = beforeCheck (checkedAreasOf T A S Z R B C O) k
 
   abbrev Whole : Entry CheckedNumbers CheckedAreas
   Whole = evaluateCheckedAnswer lent limit (evaluateCheckedStage rule sheet d)
+
+  as-long : {R′ B′ C′ O′ : Bytes} → AsLong R B R′ B′ → AsLong C O C′ O′ → checkedZeros (checkedAreasOf T A S Z R′ B′ C′ O′) ≡ checkedZeros lent
+  as-long l m = λ i. parts (k .rule-sizes i) (k .sheet-sizes i) (long-text l i) (long-work m i)
 
   stopping : {X : Type 0} (x : Stage X) (y : Stage CheckedTextsRead) {q : stages.Stop} {a′ : CheckedAreas} → ((p : Stopped x) → y ≡ refused (p .refusal) (p .which) (p .place)) → q ≡ stopOf x → (q .refusal ≡ 0 → ⊥) → checkedZeros a′ ≡ checkedZeros lent
       → Judges checkedZeros (evaluateCheckedAnswer lent limit y) lent (q .refusal) (checkedNumbersOf (q .which) (q .place) 0 0 0 0) a′
   stopping = stops checkedZeros (evaluateCheckedAnswer lent limit) lent (λ w p. checkedNumbersOf w p 0 0 0 0) (λ e w p. refl) (λ e w p. refl)
 
-  pub check-stops : {o : CheckedOutcome} → (c .stop .refusal ≡ 0 → ⊥) → o ≡ checkedUnrun (c .stop) → Judges checkedZeros Whole lent (o .refusal) (checkedTold o) (checkedAreasOf T′ A′ S′ Z′ R B C O)
-  check-stops n e = rw e (stopping (checkStage rule sheet) (evaluateCheckedStage rule sheet d) (λ p. rw (p .is)) (h .stop) n (as-long l m (same-long R B) (same-long C O)))
+  pub check-stops : {o : CheckedOutcome} → (c .stop .refusal ≡ 0 → ⊥) → o ≡ checkedUnrun (c .stop) → Judges checkedZeros Whole lent (o .refusal) (checkedTold o) (checkedAreasOf T A S Z R B C O)
+  check-stops n e = rw e (stopping (checkStage rule sheet) (evaluateCheckedStage rule sheet d) (λ p. rw (p .is)) (k .checks .stop) n (as-long (same-long R B) (same-long C O)))
 
-  module _ (zero : c .stop .refusal ≡ 0) {R′ B′ : Bytes} {q : stages.Stop} (g : ReadsLong (readAs recordText d) d (textAreas R B) q (textAreas R′ B′)) (k : AsLong R B R′ B′) where
+  module _ (zero : c .stop .refusal ≡ 0) {R′ B′ : Bytes} {q : stages.Stop} (g : ReadsLong (readAs recordText d) d (textAreas R B) q (textAreas R′ B′)) (l : AsLong R B R′ B′) where
     pub check-passes : Passed (checkStage rule sheet)
-    check-passes = passes-stage (checkStage rule sheet) (h .stop) zero
+    check-passes = passes-stage (checkStage rule sheet) (k .checks .stop) zero
 
-    pub record-stops : {o : CheckedOutcome} → (q .refusal ≡ 0 → ⊥) → o ≡ checkedUnrun q → Judges checkedZeros Whole lent (o .refusal) (checkedTold o) (checkedAreasOf T′ A′ S′ Z′ R′ B′ C O)
-    record-stops n e = rw e (stopping (readAs recordText d) (evaluateCheckedStage rule sheet d) (λ p. rw (check-passes .is, p .is)) (g .stop) n (as-long l m k (same-long C O)))
+    pub record-stops : {o : CheckedOutcome} → (q .refusal ≡ 0 → ⊥) → o ≡ checkedUnrun q → Judges checkedZeros Whole lent (o .refusal) (checkedTold o) (checkedAreasOf T A S Z R′ B′ C O)
+    record-stops n e = rw e (stopping (readAs recordText d) (evaluateCheckedStage rule sheet d) (λ p. rw (check-passes .is, p .is)) (g .stop) n (as-long l (same-long C O)))
 
     module _ (zero₂ : q .refusal ≡ 0) where
       pub record-passes : Passed (readAs recordText d)
@@ -82,23 +91,23 @@ module _ (rule sheet d : Bytes) (limit : ℕ) (T A S Z R B C O : Bytes) {T′ A�
       sheet-text-held : TextHeld sheetIn sheet (checked .sheet)
       sheet-text-held = text-held sheetText sheetIn sheet (checked .sheet) (held .sheet-passes)
 
-      sheet-left : textAreas S′ Z′ ≡ leftBy sheet (textAreas S Z)
-      sheet-left = h .sheet-areas ∙ ap (λ y. leftAfter y (textAreas S Z) (leftBy sheet (textAreas S Z))) (held .rule-passes)
+      sheet-left : textAreas S Z ≡ leftBy sheet (k .sheet-before)
+      sheet-left = k .checks .sheet-areas ∙ ap (λ y. leftAfter y (k .sheet-before) (leftBy sheet (k .sheet-before))) (held .rule-passes)
 
-      pub texts : Texts rule d (checked .rule) value T A R B T′ A′ R′ B′
-      texts = record { rule = rule-text-held; rule-left = h .rule-areas; reads = record-held d value (record-passes .is); record-left = g .areas }
+      pub texts : Texts rule d (checked .rule) value (k .rule-before .table) (k .rule-before .strings) R B T A R′ B′
+      texts = record { rule = rule-text-held; rule-left = k .checks .rule-areas; reads = record-held d value (record-passes .is); record-left = g .areas }
 
-      pub run-ready : Runs limit C → Ready T′ A′ R′ B′ C limit
+      pub run-ready : Runs limit C → Ready T A R′ B′ C limit
       run-ready u = ready texts u
 
-      fit-is : {f : Bool} → Fits S′ Z′ R′ B′ f → f ≡ fits (checked .sheet .content) value
+      fit-is : {f : Bool} → Fits S Z R′ B′ f → f ≡ fits (checked .sheet .content) value
       fit-is w =
           w .is (checked .sheet .content) value
-          (left-sheet sheet (checked .sheet) S Z S′ Z′ sheet-text-held sheet-left)
+          (left-sheet sheet (checked .sheet) (k .sheet-before .table) (k .sheet-before .strings) S Z sheet-text-held sheet-left)
           (left-denotes d value R B R′ B′ (record-held d value (record-passes .is)) (g .areas))
 
       words-are : c .words ≡ typeBits (checked .types)
-      words-are = h .words ∙ ap wordsOf (check-passes .is)
+      words-are = k .checks .words ∙ ap wordsOf (check-passes .is)
 
       -- By what evaluation comes to.
       abbrev all-texts : CheckedTextsRead
@@ -113,18 +122,18 @@ module _ (rule sheet d : Bytes) (limit : ℕ) (T A S Z R B C O : Bytes) {T′ A�
       numbers (refuses e) n = refl
 
       areas : (j : Judged Bytes) (n : ℕ) → judgedNumber j ≡ 0
-          → parts (holding (checked .rule .value) (textAreas T A)) (holding (checked .sheet .value) (textAreas S Z)) (holding value (textAreas R B)) (workAreas (replicate (length C) 0) (writtenOutput j (length O))) ≡ checkedAnswered lent all-texts j n .areas
+          → parts (holding (checked .rule .value) (k .rule-before)) (holding (checked .sheet .value) (k .sheet-before)) (holding value (textAreas R B)) (workAreas (replicate (length C) 0) (writtenOutput j (length O))) ≡ checkedAnswered lent all-texts j n .areas
       areas (done x) n e = refl
       areas (refuses e) n f = absurd (number-some e f)
 
-      module _ (u : Runs limit C) {f : Bool} (w : Fits S′ Z′ R′ B′ f) {C′ O′ : Bytes} {e : evaluating.Answer} (v : Evaluates T′ A′ R′ B′ C limit O e C′ O′) where
-        pub judged : AsLong C O C′ O′ → Judges checkedZeros Whole lent (e .refusal) (checkedNumbersOf 0 0 (c .words) (yesOrNo f) (e .steps) (e .size)) (checkedAreasOf T′ A′ S′ Z′ R′ B′ C′ O′)
-        judged long = record {
+      module _ (u : Runs limit C) {f : Bool} (w : Fits S Z R′ B′ f) {C′ O′ : Bytes} {e : evaluating.Answer} (v : Evaluates T A R′ B′ C limit O e C′ O′) where
+        pub judged : {o : CheckedOutcome} → o ≡ checkedRun (c .words) f e → AsLong C O C′ O′ → Judges checkedZeros Whole lent (o .refusal) (checkedTold o) (checkedAreasOf T A S Z R′ B′ C′ O′)
+        judged is long = rw is (record {
           refusal = refusal-is texts u v ∙ refusals result begun ∙ sym (ap (λ (y : Stage CheckedTextsRead). evaluateCheckedAnswer lent limit y .refusal) stage-is);
           numbers = (λ i. checkedNumbersOf 0 0 (words-are i) (yesOrNo (fit-is w i)) (steps-are texts u v i) (size-is texts u v i)) ∙ numbers result begun ∙ sym (ap (λ (y : Stage CheckedTextsRead). evaluateCheckedAnswer lent limit y .numbers) stage-is);
           areas = λ z. areas-left ∙ areas result begun (sym (refusal-is texts u v) ∙ z) ∙ sym (ap (λ (y : Stage CheckedTextsRead). evaluateCheckedAnswer lent limit y .areas) stage-is);
-          sizes = as-long l m k long;
-        }
+          sizes = as-long l long;
+        })
           where
             result : Judged Bytes
             result = answerOf (checked .rule .content) value limit (length O) .result
@@ -135,9 +144,9 @@ module _ (rule sheet d : Bytes) (limit : ℕ) (T A S Z R B C O : Bytes) {T′ A�
             stage-is : evaluateCheckedStage rule sheet d ≡ passed (record { checked = checked; «record» = value })
             stage-is = all-read rule sheet d checked value (check-passes .is) (record-passes .is)
 
-            areas-left : checkedAreasOf T′ A′ S′ Z′ R′ B′ C′ O′ ≡ parts (holding (checked .rule .value) (textAreas T A)) (holding (checked .sheet .value) (textAreas S Z)) (holding value (textAreas R B)) (workAreas (replicate (length C) 0) (writtenOutput (answerOf (checked .rule .content) value limit (length O) .result) (length O)))
+            areas-left : checkedAreasOf T A S Z R′ B′ C′ O′ ≡ parts (holding (checked .rule .value) (k .rule-before)) (holding (checked .sheet .value) (k .sheet-before)) (holding value (textAreas R B)) (workAreas (replicate (length C) 0) (writtenOutput (answerOf (checked .rule .content) value limit (length O) .result) (length O)))
             areas-left = λ i. parts
-                ((h .rule-areas ∙ left-holding rule (checked .rule .value) (textAreas T A) (rule-text-held .reads)) i)
-                ((sheet-left ∙ left-holding sheet (checked .sheet .value) (textAreas S Z) (sheet-text-held .reads)) i)
+                ((k .checks .rule-areas ∙ left-holding rule (checked .rule .value) (k .rule-before) (rule-text-held .reads)) i)
+                ((sheet-left ∙ left-holding sheet (checked .sheet .value) (k .sheet-before) (sheet-text-held .reads)) i)
                 ((g .areas ∙ left-holding d value (textAreas R B) (record-held d value (record-passes .is))) i)
                 (workAreas (cells-are texts u v i) (output-is texts u v i))

@@ -1,17 +1,22 @@
 -- Inner: what the private functions do.
-use mathlib.Core.Bool.{true, false}
+use mathlib.Core.Bool.{Bool, true, false}
 use mathlib.Core.Path.{_≡_}
 use Prim.Native.Nat.{ℕ}
 use lib.Dec.{eqb}
 use lib.ListN.{length, replicate}
 use Rattle.model.specs.Bytes.{Bytes}
+use Rattle.eval.specs.declared.Answer as evaluating
+use Rattle.pipeline.specs.declared.check.Checked.{Checked}
 use Rattle.pipeline.specs.declared.text.Stop as stages
+use Rattle.pipeline.specs.Areas.{TextAreas, zeroed}
+use Rattle.pipeline.specs.Laws.LongAreas.{ChecksLong}
+use Rattle.pipeline.specs.Texts.{evaluateCheckedStage}
 use Rattle.jehvrukam.specs.declared.evaluate.Outcome.{Outcome}
 use Rattle.jehvrukam.specs.declared.evaluate_checked.CheckedOutcome.{CheckedOutcome}
 use Rattle.jehvrukam.specs.Contract.{numbersOf, checkedNumbersOf}
-use Rattle.jehvrukam.specs.Entry.{Entry, cannotRun}
+use Rattle.jehvrukam.specs.Entry.{Entry, WorkAreas, cannotRun}
 use Rattle.jehvrukam.specs.Evaluate.{Numbers}
-use Rattle.jehvrukam.specs.EvaluateChecked.{CheckedNumbers}
+use Rattle.jehvrukam.specs.EvaluateChecked.{CheckedAreas, CheckedNumbers, checkedZeros, evaluateCheckedAnswer}
 use Rattle.jehvrukam.specs.Fits.{yesOrNo}
 
 -- ---- areas after a refusal
@@ -50,3 +55,27 @@ checkedTold o = checkedNumbersOf (o .which) (o .place) (o .words) (yesOrNo (o .f
 
 abbrev pub checkedUnrun : stages.Stop → CheckedOutcome
 checkedUnrun s = record { refusal = s .refusal; which = s .which; place = s .place; words = 0; fits = false; steps = 0; size = 0 }
+
+-- After evaluation: the types found and whether the record fits, with a refusal too.
+abbrev pub checkedRun : ℕ → Bool → evaluating.Answer → CheckedOutcome
+checkedRun words fit e = record { refusal = e .refusal; which = 0; place = 0; words = words; fits = fit; steps = e .steps; size = e .size }
+
+-- ---- after the check
+-- A check of two texts came to c and left these areas; before it they were others, of the same length.
+pub record AfterCheck (c : Checked) (ruleAreas sheetAreas : TextAreas) : Type 0 where
+  pub rule : Bytes
+  pub sheet : Bytes
+  pub rule-before : TextAreas
+  pub sheet-before : TextAreas
+  pub checks : ChecksLong rule sheet rule-before sheet-before c ruleAreas sheetAreas
+  pub rule-sizes : zeroed ruleAreas ≡ zeroed rule-before
+  pub sheet-sizes : zeroed sheetAreas ≡ zeroed sheet-before
+
+abbrev pub beforeCheck : {c : Checked} (a : CheckedAreas) → AfterCheck c (a .rule) (a .sheet) → CheckedAreas
+beforeCheck a k = record { rule = k .rule-before; sheet = k .sheet-before; «record» = a .«record»; work = a .work }
+
+-- The stages that are left, with the record's text d: the whole answer is that for the areas before the check. The rule's areas and the sheet's stay.
+pub record JudgesAfter (c : Checked) (d : Bytes) (limit : ℕ) (a : CheckedAreas) (r : CheckedOutcome) (recordAreas : TextAreas) (work : WorkAreas) : Type 0 where
+  pub is :
+      (k : AfterCheck c (a .rule) (a .sheet))
+      → Judges checkedZeros (evaluateCheckedAnswer (beforeCheck a k) limit (evaluateCheckedStage (k .rule) (k .sheet) d)) (beforeCheck a k) (r .refusal) (checkedTold r) (record { rule = a .rule; sheet = a .sheet; «record» = recordAreas; work = work })
