@@ -7,7 +7,8 @@ names, paths, layout or parsing: such an edit would only make the proofs unfit, 
 file, and so a check, if each changes one function's body only, that of its `refused-by`, and no two the same; an edit of a
 constant, a type, a contract or a definition stands alone. Every public function has two wrong programs that are refused
 by its own needs. The last line is 'N passed, M failed': tests of this script on samples, and one for each wrong program,
-each public function, and each source, of which every function must have been seen.
+each public function, and each source, of which every function must have been seen; and one that no two wrong programs
+have one label.
 """
 import re
 import sys
@@ -108,6 +109,11 @@ def unseen(file, text, listed):
     return None if there == seen else '%d functions, of which %d are seen' % (there, seen)
 
 
+def repeated(labels):
+    """The labels that stand more than once: docs/PROMISES.md names a wrong program by its label alone."""
+    return sorted({label for label in labels if labels.count(label) > 1})
+
+
 def of_crate(crate):
     """The results of one crate."""
     listed = list(functions(crate))
@@ -189,13 +195,17 @@ def samples():
         yield None if (unfit_together(programs[0], programs[1:], listed, texts) is None) == good else '%r is judged wrongly' % first
     for line in (SAID + F).splitlines()[:3]:
         yield None if unsaid(Program('a', (SAID + F).replace(line, ''))) else 'nothing is missed without %r' % line
+    yield None if repeated(['a', 'b', 'a']) == ['a'] and not repeated(['a', 'b']) else 'repeated labels are judged wrongly'
     yield None if unsaid(Program('', SAID + F)) and not unsaid(Program('a', SAID + F)) else 'what is said is judged wrongly'
 
 
 def results():
     for fault in samples():
         yield 'sample', fault
-    for crate in sorted(ROOT.glob('crates/*')):
+    crates = sorted(ROOT.glob('crates/*'))
+    labels = [program.label for crate in crates for _, programs in edits(crate) for program in programs]
+    yield 'labels', ', '.join(repeated(labels)) or None
+    for crate in crates:
         yield from of_crate(crate)
 
 
