@@ -2,13 +2,20 @@
 use mathlib.Core.Bool.{cond}
 use mathlib.Core.List.{List, [], _∷_, _++_}
 use mathlib.Core.Option.{Option, none, some}
-use mathlib.Core.Path.{_≡_}
 use Prim.Native.Nat.{ℕ, zero, suc, _+_}
-use lib.ListN.{length}
+use lib.Dec.{leb}
+use lib.ListN.{length, take, drop}
 use Rattle.model.specs.Bytes.{Bytes, byte, sameBytes}
 use Rattle.bytes.specs.declared.names.Position.{Position}
 use Rattle.bytes.specs.declared.names.Position.the-variants.{Nowhere, At}
 
+-- The first place of a name, counted from i, where each size is that of the next of the names, with a byte after it. The search ends where the names do.
+abbrev pub placeFrom : ℕ → Bytes → Bytes → Bytes → Position
+placeFrom i name names [] = Nowhere
+placeFrom i name names (n ∷ sizes) =
+    cond (leb (length names) n) Nowhere (cond (sameBytes name (take n names)) (At i) (placeFrom (i + 1) name (drop (n + 1) names) sizes))
+
+-- ---- the same of a list of names (Laws/Names.antt: place-among)
 -- Each name with a space after it, and the length of each.
 abbrev pub spaced : List Bytes → Bytes
 spaced [] = []
@@ -22,10 +29,6 @@ lengths (n ∷ l) = length n ∷ lengths l
 abbrev pub positionFrom : ℕ → Bytes → List Bytes → Position
 positionFrom i name [] = Nowhere
 positionFrom i name (n ∷ l) = cond (sameBytes name n) (At i) (positionFrom (i + 1) name l)
-
--- Of whatever names these are.
-pub record IsPosition (names sizes name : Bytes) (r : Position) : Type 0 where
-  pub is : (l : List Bytes) → names ≡ spaced l → sizes ≡ lengths l → r ≡ positionFrom 0 name l
 
 -- ---- tables
 -- The names of a table of pairs,

@@ -1,6 +1,7 @@
 // A name among others that lie in one byte string.
 use crate::same;
-ghost use Rattle.bytes.specs.Names.{IsPosition};
+ghost use mathlib.Core.Path.{_≡_};
+ghost use Rattle.bytes.specs.Contract.{placeFrom};
 
 pub enum Position {
     Nowhere,
@@ -9,7 +10,7 @@ pub enum Position {
 
 // The first place of a name among others. Each of them has a space after it; `sizes` has the length of each.
 pub fn position_of(names: &[u8], sizes: &[u8], name: &[u8]) -> Position
-    ensures { λ r. ⌜ IsPosition (now (names .entry)) (now (sizes .entry)) (now (name .entry)) r ⌝ }
+    ensures { λ r. ⌜ r ≡ placeFrom 0 (now (name .entry)) (now (names .entry)) (now (sizes .entry)) ⌝ }
 {
     let mut at: usize = 0;
     let mut i: usize = 0;

@@ -4,7 +4,7 @@ ghost use mathlib.Core.Path.{_≡_};
 ghost use Prim.Native.Nat.{_+_};
 ghost use lib.Dec.{eqb};
 ghost use lib.ListN.{drop};
-ghost use Rattle.bytes.specs.Fragment.{fragmentLength};
+ghost use Rattle.bytes.specs.Contract.{fragmentLength};
 ghost use Rattle.bytes.specs.Inner.{fragments};
 ghost use Rattle.model.specs.Lists.{any};
 ghost use Rattle.model.specs.Option.{isSome};

@@ -46,6 +46,28 @@ keywordOf Keywords.PlusTime = some plusTime
 keywordOf Keywords.ExtractFromUvci = some extractFromUVCI
 keywordOf (Keywords.Counted least most op) = some (counted least most (operationOf op))
 
+-- And back: the code's operation, and its keyword.
+abbrev pub opFor : Operation → Op
+opFor Operation.array = Ops.Array
+opFor Operation.equal = Ops.Equal
+opFor Operation.memberOf = Ops.MemberOf
+opFor Operation.plus = Ops.Plus
+opFor Operation.not = Ops.Not
+opFor Operation.dateOfBirth = Ops.DateOfBirth
+opFor (Operation.compare d c) = Ops.Compare d c
+opFor (Operation.plusTime z u) = Ops.PlusTime (biased z) u
+opFor (Operation.extractFromUVCI z) = Ops.ExtractFromUvci (biased z)
+
+abbrev pub keywordFor : Option ModelKeyword → Keyword
+keywordFor none = Keywords.NoKeyword
+keywordFor (some var) = Keywords.Var
+keywordFor (some if) = Keywords.If
+keywordFor (some reduce) = Keywords.Reduce
+keywordFor (some and) = Keywords.And
+keywordFor (some plusTime) = Keywords.PlusTime
+keywordFor (some extractFromUVCI) = Keywords.ExtractFromUvci
+keywordFor (some (counted least most o)) = Keywords.Counted least most (opFor o)
+
 -- The operation, with its number of operands as 01's table has it. 2^53 was added to an amount or index.
 pub data Stands : Op → Operation → ℕ → Type 0 where
   stands-array : {n : ℕ} → Stands Ops.Array Operation.array n

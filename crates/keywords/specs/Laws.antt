@@ -1,2 +1,3 @@
 -- Laws: what is proved of the definitions, a file for each subject.
+pub mod Keyword
 pub mod Stands

@@ -23,8 +23,9 @@ use Rattle.table.specs.Node.{rows}
 use Rattle.paths.proofs.index.Index.{the-type as index-type}
 use Rattle.paths.specs.declared.index.Index.{Index}
 use Rattle.paths.specs.declared.index.Index.the-variants.{At}
-use Rattle.paths.specs.Contract.{limit, IndexIs, inside, outside}
+use Rattle.paths.specs.Contract.{limit, indexIn}
 use Rattle.paths.specs.Inner.{orNull}
+use Rattle.paths.specs.Laws.Index.{IndexIs, inside, outside, index-is}
 use Rattle.heap.proofs.handle.Handle.{the-type}
 use Rattle.heap.specs.declared.handle.Form.the-variants.{Items, Members, List, Context}
 use Rattle.heap.specs.declared.handle.Handle.{Handle}
@@ -69,24 +70,27 @@ list-past (means-items e f r) q k l = clash cc
 list-past (means-list {vs = vs} e b r) q k l = rw (item-past vs k (omega arith)) means-null
 
 module _ {f C : Bytes} {p : Parts} where
-  pub named-outside : {i : Index} → IndexIs f i → OneOf (0 ∷ []) (tagOf index-type i) → ItemNamed f C p Null
-  named-outside (inside e) t = absurd (miss (0 ∷ []) 1 tt t)
-  named-outside (outside far) t = record { means = λ A B T top vs l q m. go m l q (indexOf f) far }
+  named-far : {i : Index} → IndexIs f i → OneOf (0 ∷ []) (tagOf index-type i) → ItemNamed f C p Null
+  named-far (inside e) t = absurd (miss (0 ∷ []) 1 tt t)
+  named-far (outside far) t = record { means = λ A B T top vs l q m. go m l q (indexOf f) far }
     where
       go : {a : Areas} {top : ℕ} {vs : Values} → Means a top (array vs) (Compound p) → top ≤ heapCells → p .form ≡ List → (o : Option ℕ) → ((k : ℕ) → o ≡ some k → limit ≤ k)
           → Means a top (orNull (o >>= itemAt vs)) Null
       go m l q none x = means-null
       go m l q (some k) x = list-past m q k (omega (arith, x k refl, means-small m l))
 
-  module _ {k : ℕ} (x : IndexIs f (At k)) where
+  pub named-outside : {i : Index} → i ≡ indexIn f → OneOf (0 ∷ []) (tagOf index-type i) → ItemNamed f C p Null
+  named-outside e t = named-far (index-is f e) t
+
+  module _ {k : ℕ} (x : At k ≡ indexIn f) where
     pub named-past : p .count ≤ k → ItemNamed f C p Null
-    named-past l = go x
+    named-past l = go (index-is f x)
       where
         go : IndexIs f (At k) → ItemNamed f C p Null
         go (inside e) = record { means = λ A B T top vs b q m. rw e (list-past m q k l) }
 
     pub named-at : {r : Handle} → k < p .count → r ≡ cellHandle C (p .first + k) → ItemNamed f C p r
-    named-at {r} l d = go x
+    named-at {r} l d = go (index-is f x)
       where
         go : IndexIs f (At k) → ItemNamed f C p r
         go (inside e) = record { means = λ A B T top vs b q m. rw (e, d) (list-item m q k l) }

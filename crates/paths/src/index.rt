@@ -1,6 +1,6 @@
 // The index that a fragment of a path is on an array.
 ghost use mathlib.Core.Path.{_≡_};
-ghost use Rattle.paths.specs.Contract.{IndexIs};
+ghost use Rattle.paths.specs.Contract.{indexIn};
 ghost use Rattle.paths.specs.Inner.{plain};
 
 // Where an item stands, or that no array has such an item.
@@ -28,7 +28,7 @@ fn is_plain(fragment: &[u8]) -> bool
 
 // "0 or digits without a leading zero are an index"
 pub fn read_index(fragment: &[u8]) -> Index
-    ensures { λ r. ⌜ IndexIs (now (fragment .entry)) r ⌝ }
+    ensures { λ r. ⌜ r ≡ indexIn (now (fragment .entry)) ⌝ }
 {
     if !is_plain(fragment) {
         return Index::Outside;

@@ -15,7 +15,8 @@ use Rattle.model.specs.Shape.{keywordNamed, contentOf, build, other, shape}
 use Rattle.model.specs.Value.{Value, scalar, string, object, Members, no-members, member}
 use Rattle.keywords.specs.declared.Keyword.{Keyword}
 use Rattle.keywords.specs.declared.Keyword.the-variants as Keywords
-use Rattle.keywords.specs.Contract.{keywordOf}
+use Rattle.keywords.specs.Contract.{keywordOf, keywordFor}
+use Rattle.keywords.specs.Laws.Keyword.{keyword-for, keyword-named}
 use Rattle.table.specs.declared.node.Node.{Node}
 use Rattle.table.specs.declared.node.Node.the-variants.{Object}
 use Rattle.table.specs.declared.node.Rows.{Rows}
@@ -27,7 +28,7 @@ use Rattle.rule.specs.declared.view.Single.{Single}
 use Rattle.rule.specs.declared.view.Single.the-variants.{NotSingle, Member}
 use Rattle.rule.specs.declared.view.Shape.{Shape}
 use Rattle.rule.specs.declared.view.Shape.the-variants as Seen
-use Rattle.rule.specs.Inner.{singleOf, pathOn, contentOn, ObjectShapes}
+use Rattle.rule.specs.View.{singleOf, pathOn, contentOn, memberOn, objectOn}
 use Rattle.rule.specs.Contract.{Shaped, shaped-none, shaped-var}
 use Rattle.rule.proofs.Chains.{bind-none}
 use Rattle.rule.proofs.Operands.{of, keyword-shape, operands-views}
@@ -80,9 +81,6 @@ module _ {T B : Bytes} {q : Rows} where
   none-single (member n v no-members) e (denotes-object c b r) = let x = eq-eqb (q .count) 1 c in clash cc
   none-single (member n v (member n₂ v₂ ms)) e d = refl
 
-  pub not-single : (s : Single) → s ≡ singleOf T q → s ≡ NotSingle → ObjectShapes T B q Seen.NotRule
-  not-single s g e = record { shaped = λ ms d. shaped-none (none-single ms (sym g ∙ e) d) }
-
   single-views : {p : Span} {h : Node} {r : Shape} (ms : Members) (k : Keyword) → singleOf T q ≡ Member p h → keywordOf k ≡ keywordNamed (bytesOf B p) → r ≡ contentOn T B k h
       → Denotes T B (object ms) (Object q) → Shaped T B (object ms) r
   single-views no-members k e g w (denotes-object c b r) = absurd (omega (arith, one-member (q .count) _ e member-is))
@@ -93,6 +91,18 @@ module _ {T B : Bytes} {q : Rows} where
       rw (w, ← (z .1)) (content-views k n (g ∙ ap keywordNamed (sym name)) m)
   single-views (member n v (member n₂ v₂ ms)) k e g w (denotes-object c b r) = absurd (omega (arith, one-member (q .count) _ e member-is))
 
-  pub single : {p : Span} {h : Node} {r : Shape} (s : Single) (k : Keyword) → s ≡ singleOf T q → s ≡ Member p h → keywordOf k ≡ keywordNamed (bytesOf B p) → r ≡ contentOn T B k h
-      → ObjectShapes T B q r
-  single s k g e w x = record { shaped = λ ms d. single-views ms k (sym g ∙ e) w x d }
+  -- An object is seen as it is shaped.
+  pub object-views : {ms : Members} → Denotes T B (object ms) (Object q) → Shaped T B (object ms) (objectOn T B q)
+  object-views {ms} d = go (singleOf T q) refl
+    where
+      go : (s : Single) → singleOf T q ≡ s → Shaped T B (object ms) (memberOn T B s)
+      go NotSingle e = shaped-none (none-single ms e d)
+      go (Member p h) e = single-views ms (keywordFor (keywordNamed (bytesOf B p))) e (keyword-named (bytesOf B p)) refl d
+
+-- ---- what `operation` gives
+pub not-single : (T B : Bytes) (q : Rows) {s : Single} → s ≡ singleOf T q → s ≡ NotSingle → Seen.NotRule ≡ objectOn T B q
+not-single T B q g e = ap (memberOn T B) (sym e ∙ g)
+
+pub single : (T B : Bytes) (q : Rows) {p : Span} {h : Node} {s : Single} {r : Shape} (k : Keyword) → s ≡ singleOf T q → s ≡ Member p h → keywordOf k ≡ keywordNamed (bytesOf B p)
+    → r ≡ contentOn T B k h → r ≡ objectOn T B q
+single T B q {h = h} k g e w x = x ∙ ap (λ (j : Keyword). contentOn T B j h) (sym (keyword-for k) ∙ ap keywordFor w) ∙ ap (memberOn T B) (sym e ∙ g)

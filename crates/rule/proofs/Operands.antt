@@ -35,7 +35,7 @@ use Rattle.rule.specs.declared.view.Shape.the-variants as Seen
 use Rattle.rule.specs.declared.view.View.{View}
 use Rattle.rule.specs.declared.view.View.the-variants as Views
 use Rattle.rule.specs.Holds.{ruleCount}
-use Rattle.rule.specs.Inner.{countedOn, andOn, firstOf, unitAt, plusTimeOf, plusTimeBy, plusTimeOn, extractBy, extractOn, operandsOn}
+use Rattle.rule.specs.View.{countedOn, andOn, firstOf, unitAt, plusTimeOf, plusTimeBy, plusTimeOn, extractBy, extractOn, operandsOn}
 use Rattle.rule.specs.Contract.{Built, built-if, built-and, built-reduce, built-apply, Builds, has-if, has-and, has-reduce, has-apply, Has, Operates, Shaped, shaped-none, shaped-operation}
 use Rattle.rule.specs.Laws.Holds.{rules-count}
 use Rattle.rule.proofs.Chains.{bind-none, one-refused, one-built, three-refused, three-built, unit-chain, operands-length, chain3, Two, two, two-of, ThreeItems, three, three-of, exactly2-none, exactly3-none}

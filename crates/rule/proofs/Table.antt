@@ -1,18 +1,16 @@
 -- Table: how many operands an operation of 01's table has.
 use mathlib.Core.Path.{_≡_, refl}
-use mathlib.Core.Bool.{Bool}
-use mathlib.Core.List.{List, [], _∷_}
 use mathlib.Core.Option.{some}
 use Prim.Native.Nat.{ℕ, _≤_}
 use native.Mathlib.Omega.{arith}
 use Rattle.model.specs.Bytes.{Bytes, sameBytes}
-use Rattle.model.specs.Laws.Option.{All, all-some, all-cond}
-use Rattle.model.specs.Lists.{find}
+use Rattle.model.specs.Laws.Option.{All, all-some}
 use Rattle.model.specs.Rule.{Operation}
 use Rattle.model.specs.Shape.{Keyword, var, if, reduce, and, plusTime, extractFromUVCI, counted, keywords, keywordNamed}
 use Rattle.keywords.specs.declared.Op.{Op}
 use Rattle.keywords.specs.declared.Op.the-variants as Ops
 use Rattle.keywords.specs.Contract.{operationOf, Stands, stands-equal, stands-member-of, stands-plus, stands-not, stands-date-of-birth, stands-compare}
+use Rattle.keywords.specs.Laws.Keyword.{each-found}
 
 -- The numbers that the table has for an operation; an array is not in it.
 abbrev Allowed : ℕ → ℕ → Operation → Type 0
@@ -34,15 +32,6 @@ Listed and = Unit {0}
 Listed plusTime = Unit {0}
 Listed extractFromUVCI = Unit {0}
 Listed (counted least most o) = Allowed least most o
-
--- Every entry of a table has what is found in it.
-abbrev Each : {A : Type 0} → (A → Type 0) → List (Bytes × A) → Type 0
-Each P [] = Unit {0}
-Each P (e ∷ l) = P (e .1) × Each P l
-
-each-found : {A : Type 0} (P : A → Type 0) (f : Bytes → Bool) (l : List (Bytes × A)) → Each P l → All P (find f l)
-each-found P f [] h = tt
-each-found P f (e ∷ l) h = all-cond P (f (e .0)) (some (e .1)) (find f l) (h .0) (each-found P f l (h .1))
 
 listed : (s : Bytes) → All Listed (keywordNamed s)
 listed s =

@@ -31,9 +31,10 @@ use Rattle.rule.specs.declared.view.Shape.the-variants as Shapes
 use Rattle.rule.specs.declared.view.View.{View}
 use Rattle.rule.specs.declared.view.View.the-variants as Views
 use Rattle.rule.specs.Holds.{Holds, HoldsAll}
-use Rattle.rule.specs.Inner.{ObjectShapes, within}
+use Rattle.rule.specs.View.{objectOn, within, nodeShape, viewOf}
 use Rattle.rule.specs.Contract.{Viewed, viewed-literal, viewed-var, viewed-if, viewed-and, viewed-reduce, viewed-apply, nested, nestedShape, ViewsAs, Built, built-if, built-and, built-reduce, built-apply, has-apply, Operates, Shaped, shaped-none, shaped-literal, shaped-var, shaped-operation, ShapesAs, spells-false, spells-true, spells-integer, spells-string}
 use Rattle.rule.specs.Laws.Holds.{rules-count}
+use Rattle.rule.proofs.Objects.{object-views}
 
 -- Nothing is seen where no nesting is left.
 bound-within : (deep : ℕ) (s : Seen) → nestedShape s ≤ 1 → nestedShape (within deep s) ≤ deep
@@ -95,12 +96,12 @@ module _ {T B : Bytes} where
   pub rule-viewed : {row deep : ℕ} {s : Seen} (w : View) → ShapesAs T B row deep s → s ≡ Shapes.Rule w → ViewsAs T B row deep w
   rule-viewed {row} {deep} w a e =
       let b : ShapesAs T B row deep (Shapes.Rule w) = subst (ShapesAs T B row deep) e a in
-      record { viewed = λ ρ x. shaped-viewed deep (b .shaped (x .value) (x .denotes) (x .nests)) (x .nests) (x .shaped); bound = b .bound }
+      record { is = ap viewOf (b .is); viewed = λ ρ x. shaped-viewed deep (b .shaped (x .value) (x .denotes) (x .nests)) (x .nests) (x .shaped); bound = b .bound }
 
   pub none-viewed : {row deep : ℕ} {s : Seen} → ShapesAs T B row deep s → s ≡ Shapes.NotRule → ViewsAs T B row deep (Views.Literal Literals.False)
   none-viewed {row} {deep} a e =
       let b : ShapesAs T B row deep Shapes.NotRule = subst (ShapesAs T B row deep) e a in
-      record { viewed = λ ρ x. absurd (not-shaped (b .shaped (x .value) (x .denotes) (x .nests)) (x .shaped)); bound = omega arith }
+      record { is = ap viewOf (b .is); viewed = λ ρ x. absurd (not-shaped (b .shaped (x .value) (x .denotes) (x .nests)) (x .shaped)); bound = omega arith }
 
   -- ---- arrays and objects
   array-operates : {vs : Values} {q : Rows} → Denotes T B (array vs) (Array q) → Shaped T B (array vs) (Shapes.Rule (Views.Apply Ops.Array q))
@@ -124,50 +125,50 @@ module _ {T B : Bytes} where
   module _ {row deep : ℕ} where
     pub array-shape : {q : Rows} → nodeAt T row ≡ Array q → ShapesAs T B row deep (within deep (Shapes.Rule (Views.Apply Ops.Array q)))
     unfolding nesting
-    array-shape {q} e = record { shaped = λ v d n. go (subst (Denotes T B v) e d) n; bound = bound-within deep (Shapes.Rule (Views.Apply Ops.Array q)) (omega arith) }
+    array-shape {q} e = record { is = sym (ap (nodeShape T B deep) e); shaped = λ v d n. go (subst (Denotes T B v) e d) n; bound = bound-within deep (Shapes.Rule (Views.Apply Ops.Array q)) (omega arith) }
       where
         go : {v : Value} → Denotes T B v (Array q) → nesting v ≤ deep → Shaped T B v (within deep (Shapes.Rule (Views.Apply Ops.Array q)))
         go (denotes-array x f r) n = within-shaped deep (λ z. omega arith) (array-operates (denotes-array x f r))
 
-    pub object-shape : {q : Rows} {s : Seen} → nodeAt T row ≡ Object q → ObjectShapes T B q s → ShapesAs T B row deep (within deep s)
+    pub object-shape : {q : Rows} {s : Seen} → nodeAt T row ≡ Object q → s ≡ objectOn T B q → ShapesAs T B row deep (within deep s)
     unfolding nesting
-    object-shape {q} {s} e o = record { shaped = λ v d n. go (subst (Denotes T B v) e d) n; bound = bound-within deep s (shape-small s) }
+    object-shape {q} {s} e o = record { is = ap (within deep) o ∙ sym (ap (nodeShape T B deep) e); shaped = λ v d n. go (subst (Denotes T B v) e d) n; bound = bound-within deep s (shape-small s) }
       where
         go : {v : Value} → Denotes T B v (Object q) → nesting v ≤ deep → Shaped T B v (within deep s)
-        go (denotes-object {ms = ms} x f r) n = within-shaped deep (λ z. omega arith) (o .shaped ms (denotes-object x f r))
+        go (denotes-object x f r) n = within-shaped deep (λ z. omega arith) (rw o (object-views (denotes-object x f r)))
 
     -- ---- scalars
     pub null-shape : nodeAt T row ≡ Null → ShapesAs T B row deep Shapes.NotRule
     unfolding shape
-    null-shape e = record { shaped = λ v d n. go (subst (Denotes T B v) e d); bound = omega arith }
+    null-shape e = record { is = sym (ap (nodeShape T B deep) e); shaped = λ v d n. go (subst (Denotes T B v) e d); bound = omega arith }
       where
         go : {v : Value} → Denotes T B v Null → Shaped T B v Shapes.NotRule
         go denotes-null = shaped-none refl
 
     pub false-shape : nodeAt T row ≡ False → ShapesAs T B row deep (Shapes.Rule (Views.Literal Literals.False))
     unfolding shape
-    false-shape e = record { shaped = λ v d n. go (subst (Denotes T B v) e d); bound = omega arith }
+    false-shape e = record { is = sym (ap (nodeShape T B deep) e); shaped = λ v d n. go (subst (Denotes T B v) e d); bound = omega arith }
       where
         go : {v : Value} → Denotes T B v False → Shaped T B v (Shapes.Rule (Views.Literal Literals.False))
         go denotes-false = shaped-literal {l = Literal.boolean false} refl spells-false
 
     pub true-shape : nodeAt T row ≡ True → ShapesAs T B row deep (Shapes.Rule (Views.Literal Literals.True))
     unfolding shape
-    true-shape e = record { shaped = λ v d n. go (subst (Denotes T B v) e d); bound = omega arith }
+    true-shape e = record { is = sym (ap (nodeShape T B deep) e); shaped = λ v d n. go (subst (Denotes T B v) e d); bound = omega arith }
       where
         go : {v : Value} → Denotes T B v True → Shaped T B v (Shapes.Rule (Views.Literal Literals.True))
         go denotes-true = shaped-literal {l = Literal.boolean true} refl spells-true
 
     pub integer-shape : {n : ℕ} → nodeAt T row ≡ Integer n → ShapesAs T B row deep (Shapes.Rule (Views.Literal (Literals.Integer n)))
     unfolding shape
-    integer-shape {n} e = record { shaped = λ v d l. go (subst (Denotes T B v) e d); bound = omega arith }
+    integer-shape {n} e = record { is = sym (ap (nodeShape T B deep) e); shaped = λ v d l. go (subst (Denotes T B v) e d); bound = omega arith }
       where
         go : {v : Value} → Denotes T B v (Integer n) → Shaped T B v (Shapes.Rule (Views.Literal (Literals.Integer n)))
         go (denotes-integer {z = z} w e) = shaped-literal {l = Literal.integer z} refl (spells-integer w e)
 
     pub string-shape : {p : Span} → nodeAt T row ≡ String p → ShapesAs T B row deep (Shapes.Rule (Views.Literal (Literals.String p)))
     unfolding shape
-    string-shape {p} e = record { shaped = λ v d n. go (subst (Denotes T B v) e d); bound = omega arith }
+    string-shape {p} e = record { is = sym (ap (nodeShape T B deep) e); shaped = λ v d n. go (subst (Denotes T B v) e d); bound = omega arith }
       where
         go : {v : Value} → Denotes T B v (String p) → Shaped T B v (Shapes.Rule (Views.Literal (Literals.String p)))
         go (denotes-string {s = t} l) = shaped-literal {l = Literal.string t} refl (spells-string l)

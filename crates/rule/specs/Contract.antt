@@ -28,6 +28,7 @@ use Rattle.rule.specs.declared.view.Shape.the-variants as Shapes
 use Rattle.rule.specs.declared.view.View.{View}
 use Rattle.rule.specs.declared.view.View.the-variants as Views
 use Rattle.rule.specs.Holds.{Holds, HoldsAll, ruleCount}
+use Rattle.rule.specs.View.{shapeAt, viewAt}
 
 -- A literal of the model, its string in the rule's strings B.
 pub data Spells (B : Bytes) : Literal → ModelLiteral → Type 0 where
@@ -54,8 +55,9 @@ nested (Views.And q) = 1
 nested (Views.Reduce q) = 1
 nested (Views.Apply op q) = 1
 
--- What `view_at` promises: of every rule that the row holds; and that operations are seen only where a nesting is left.
+-- What `view_at` promises: the view of any bytes; what it is of every rule that the row holds; and that operations are seen only where a nesting is left.
 pub record ViewsAs (T B : Bytes) (row deep : ℕ) (r : View) : Type 0 where
+  pub is : r ≡ viewAt T B row deep
   pub viewed : (ρ : Rule) → Holds T B deep row ρ → Viewed T B deep r ρ
   pub bound : nested r ≤ deep
 
@@ -99,7 +101,8 @@ abbrev pub nestedShape : Seen → ℕ
 nestedShape Shapes.NotRule = 0
 nestedShape (Shapes.Rule w) = nested w
 
--- What `shape_at` promises: of every value that the row may denote, if it nests no deeper than `deep`.
+-- What `shape_at` promises: the shape of any bytes; and what it is of every value that the row may denote, if it nests no deeper than `deep`.
 pub record ShapesAs (T B : Bytes) (row deep : ℕ) (r : Seen) : Type 0 where
+  pub is : r ≡ shapeAt T B row deep
   pub shaped : (v : Value) → Denotes T B v (nodeAt T row) → nesting v ≤ deep → Shaped T B v r
   pub bound : nestedShape r ≤ deep

@@ -1,5 +1,5 @@
 -- The rule that a read table holds: the definitions, in the order to read them; then the laws.
 pub mod Holds
+pub mod View
 pub mod Contract
-pub mod Inner
 pub mod Laws

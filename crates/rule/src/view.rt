@@ -13,7 +13,7 @@ use table::row::Span;
 use table::string::bytes_of;
 ghost use mathlib.Core.Path.{_≡_};
 ghost use Rattle.keywords.specs.Contract.{unitOf};
-ghost use Rattle.rule.specs.Inner.{singleOf, countedOn, andOn, firstOf, unitAt, plusTimeOf, plusTimeOn, extractOn, pathOn, operandsOn, contentOn, within, ObjectShapes};
+ghost use Rattle.rule.specs.View.{singleOf, countedOn, andOn, firstOf, unitAt, plusTimeOf, plusTimeOn, extractOn, pathOn, operandsOn, contentOn, objectOn, within};
 ghost use Rattle.rule.specs.Contract.{ShapesAs, ViewsAs};
 
 // A boolean, an integer to which 2^53 was added, or where a string lies in the rule's strings.
@@ -214,7 +214,7 @@ fn content_shape(rule_table: &[u8], rule_strings: &[u8], k: Keyword, content: No
 
 // 01, Shape: "An object must yield its single member, or else it is refused with 6."
 fn operation(rule_table: &[u8], rule_strings: &[u8], q: Rows) -> Shape
-    ensures { λ r. ⌜ ObjectShapes (now («rule_table» .entry)) (now («rule_strings» .entry)) q r ⌝ }
+    ensures { λ r. ⌜ r ≡ objectOn (now («rule_table» .entry)) (now («rule_strings» .entry)) q ⌝ }
 {
     let Single::Member(name, content) = single_member(rule_table, q) else {
         return Shape::NotRule;

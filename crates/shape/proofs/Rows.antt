@@ -1,6 +1,6 @@
 -- Rows: whether the value of a row is a rule, and whether those of an array's rows are.
 use mathlib.Core.Path.{_≡_, refl, sym, ap, subst, _∙_}
-use mathlib.Core.Bool.{Bool, true, false}
+use mathlib.Core.Bool.{Bool, true, false, _&&_}
 use mathlib.Core.Option.{Option, none, some}
 use Prim.Native.Nat.{ℕ, suc, _-_, _≤_}
 use native.Mathlib.Omega.{arith}
@@ -18,14 +18,16 @@ use Rattle.rule.specs.declared.view.Shape.{Shape as Seen}
 use Rattle.rule.specs.declared.view.Shape.the-variants as Shapes
 use Rattle.rule.specs.declared.view.View.{View}
 use Rattle.rule.specs.declared.view.View.the-variants as Views
-use Rattle.rule.specs.Contract.{Has, nested, Operates, Shaped, shaped-none, shaped-literal, shaped-var, shaped-operation, ShapesAs}
+use Rattle.rule.specs.Contract.{Has, has-if, has-and, has-reduce, has-apply, nested, Operates, Shaped, shaped-none, shaped-literal, shaped-var, shaped-operation, ShapesAs}
 use Rattle.rule.specs.Laws.View.{has-one, has-nested}
+use Rattle.rule.specs.View.{shapeAt}
 use Rattle.table.specs.declared.node.Node.the-variants.{Array}
 use Rattle.table.specs.declared.node.Rows.{Rows as RowsOf}
 use Rattle.table.specs.declared.row.Span.{Span}
 use Rattle.table.specs.Denotes.{Denotes, denotes-array, RowItems, no-row-items, row-item}
 use Rattle.table.specs.Node.{nodeAt, nextRow}
 use Rattle.table.specs.Strings.{bytesOf}
+use Rattle.shape.specs.Contract.{viewIsRule, shapeIsRule, everyRow, rulesBelow, ruleAt}
 use Rattle.shape.specs.Inner.{RuleAt, AllRules}
 
 -- ---- the value in a row, by its shape
@@ -40,9 +42,21 @@ path-is : (o : Option Rule) {A : Type 0} (p : Option A) (f : A → Rule) → o �
 path-is o none f e = sym (ap isSome e)
 path-is o (some q) f e = sym (ap isSome e)
 
+-- The operands of a view decide.
+has-rule : {w : View} {q : RowsOf} (B : Bytes) (all : RowsOf → Bool) → Has w q → viewIsRule B all w ≡ all q
+has-rule B all has-if = refl
+has-rule B all has-and = refl
+has-rule B all has-reduce = refl
+has-rule B all has-apply = refl
+
 module _ {T B : Bytes} {row deep : ℕ} where
+  -- By the shape that is seen.
+  by-shape : {s : Seen} (x : Seen) → ShapesAs T B row deep s → s ≡ x → shapeIsRule B (rulesBelow T B deep) x ≡ ruleAt T B deep row
+  unfolding ruleAt
+  by-shape x a e = ap (shapeIsRule B (rulesBelow T B deep)) (sym e ∙ a .is)
+
   pub at-none : {s : Seen} → ShapesAs T B row deep s → s ≡ Shapes.NotRule → RuleAt T B row deep false
-  at-none {s} a e = record { is = λ v d n. go (subst (Shaped T B v) e (a .shaped v d n)) }
+  at-none {s} a e = record { byRows = by-shape Shapes.NotRule a e; is = λ v d n. go (subst (Shaped T B v) e (a .shaped v d n)) }
     where
       go : {v : Value} → Shaped T B v Shapes.NotRule → false ≡ isSome (shape v)
       go (shaped-none f) = sym (ap isSome f)
@@ -52,7 +66,7 @@ module _ {T B : Bytes} {row deep : ℕ} where
   seen a e x f v d n = subst (λ (y : View). Shaped T B v (Shapes.Rule y)) f (subst (Shaped T B v) e (a .shaped v d n))
 
   pub at-literal : {s : Seen} {w : View} {g : Literal} → ShapesAs T B row deep s → s ≡ Shapes.Rule w → w ≡ Views.Literal g → RuleAt T B row deep true
-  at-literal {g = g} a e f = record { is = λ v d n. go (seen a e (Views.Literal g) f v d n) }
+  at-literal {g = g} a e f = record { byRows = by-shape (Shapes.Rule (Views.Literal g)) a (e ∙ ap Shapes.Rule f); is = λ v d n. go (seen a e (Views.Literal g) f v d n) }
     where
       no-operands : {q : RowsOf} → Has (Views.Literal g) q → ⊥
       no-operands h = let x = has-nested h in absurd (omega arith)
@@ -62,7 +76,7 @@ module _ {T B : Bytes} {row deep : ℕ} where
       go (shaped-operation o) = absurd (no-operands (o .has))
 
   pub at-var : {s : Seen} {w : View} {p : Span} (b : Bool) → ShapesAs T B row deep s → s ≡ Shapes.Rule w → w ≡ Views.Var p → b ≡ isSome (pathOf (bytesOf B p)) → RuleAt T B row deep b
-  at-var {p = p} b a e f x = record { is = λ v d n. x ∙ go (seen a e (Views.Var p) f v d n) }
+  at-var {p = p} b a e f x = record { byRows = x ∙ by-shape (Shapes.Rule (Views.Var p)) a (e ∙ ap Shapes.Rule f); is = λ v d n. x ∙ go (seen a e (Views.Var p) f v d n) }
     where
       no-operands : {q : RowsOf} → Has (Views.Var p) q → ⊥
       no-operands h = let x = has-nested h in absurd (omega arith)
@@ -71,18 +85,21 @@ module _ {T B : Bytes} {row deep : ℕ} where
       go {v} (shaped-var f) = path-is (shape v) (pathOf (bytesOf B p)) var f
       go (shaped-operation o) = absurd (no-operands (o .has))
 
+  pub deep-left : {s : Seen} {w : View} (x : View) {q : RowsOf} → ShapesAs T B row deep s → s ≡ Shapes.Rule w → w ≡ x → Has x q → 1 ≤ deep
+  deep-left x a e f h = let z = has-nested h in let b = rw (e, f) at (a .bound) in omega (arith, z, b)
+
   -- An operation: its operands decide, and there is a nesting left for them.
   pub at-operation : {s : Seen} {w : View} (x : View) {q : RowsOf} (b : Bool) → ShapesAs T B row deep s → s ≡ Shapes.Rule w → w ≡ x → Has x q → AllRules T B q (deep - 1) b → RuleAt T B row deep b
-  at-operation x {q} b a e f h all = record { is = λ v d n. go x h n (seen a e x f v d n) }
+  at-operation x {q} b a e f h all =
+      let l = deep-left x a e f h in
+      let d : suc (deep - 1) ≡ deep = omega arith in
+      record { byRows = rw d at (all .byRows) ∙ sym (has-rule B (rulesBelow T B deep) h) ∙ by-shape (Shapes.Rule x) a (e ∙ ap Shapes.Rule f); is = λ v d n. go x h n (seen a e x f v d n) }
     where
       go : {v : Value} (y : View) → Has y q → nesting v ≤ deep → Shaped T B v (Shapes.Rule y) → b ≡ isSome (shape v)
       go y h n (shaped-literal f l) = let z = has-nested h in absurd (omega arith)
       go y h n (shaped-var f) = let z = has-nested h in absurd (omega arith)
       go y h n (shaped-operation o) =
           all .is (o .operands) (rw (has-one h (o .has)) (o .denotes)) (omega (arith, o .nests)) ∙ operates-is o
-
-  pub deep-left : {s : Seen} {w : View} (x : View) {q : RowsOf} → ShapesAs T B row deep s → s ≡ Shapes.Rule w → w ≡ x → Has x q → 1 ≤ deep
-  deep-left x a e f h = let z = has-nested h in let b = rw (e, f) at (a .bound) in omega (arith, z, b)
 
 -- ---- the rows of an array
 -- So many rows, from a row on, hold these values.
@@ -92,6 +109,7 @@ pub data Rows (T B : Bytes) : ℕ → ℕ → Values → Type 0 where
 
 -- Whether all of them, which nest no deeper than `deep`, are rules.
 pub record AllRows (T B : Bytes) (row count deep : ℕ) (r : Bool) : Type 0 where
+  pub byRows : r ≡ everyRow (ruleAt T B deep) T row count
   pub is : (vs : Values) → Rows T B row count vs → itemsNesting vs ≤ deep → r ≡ isSome (rulesOf (operandsOf vs))
 
 module _ {T B : Bytes} where
@@ -104,21 +122,29 @@ module _ {T B : Bytes} where
   array-rows (denotes-array e f r) = rw e (items-rows r)
 
   pub all-rules : {deep : ℕ} {r : Bool} (q : RowsOf) → AllRows T B (q .first) (q .count) deep r → AllRules T B q deep r
-  all-rules q a = record { is = λ vs m n. a .is vs (array-rows m) n }
+  unfolding rulesBelow ruleAt
+  all-rules q a = record { byRows = a .byRows; is = λ vs m n. a .is vs (array-rows m) n }
 
   -- No row is left.
   pub rows-done : {row count deep : ℕ} → count ≡ 0 → AllRows T B row count deep true
   unfolding operandsOf
-  rows-done e = record { is = λ vs x n. go e x }
+  rows-done e = record { byRows = rw e; is = λ vs x n. go e x }
     where
       go : {row count : ℕ} {vs : Values} → count ≡ 0 → Rows T B row count vs → true ≡ isSome (rulesOf (operandsOf vs))
       go e no-rows = refl
       go e (a-row m r) = absurd (omega arith)
 
+  -- By the first row and the others.
+  rows-on : {row deep : ℕ} {b : Bool} (count : ℕ) (c : Bool) → 1 ≤ count → b ≡ c → RuleAt T B row deep b
+      → (c && everyRow (ruleAt T B deep) T (nextRow T row) (count - 1)) ≡ everyRow (ruleAt T B deep) T row count
+  rows-on {row} {deep} count c l f a =
+      let n : count ≡ suc (count - 1) = omega arith in
+      ap (λ (t : Bool). t && everyRow (ruleAt T B deep) T (nextRow T row) (count - 1)) (sym f ∙ a .byRows) ∙ sym (ap (everyRow (ruleAt T B deep) T row) n)
+
   -- The first is no rule.
   pub rows-stop : {row count deep : ℕ} (b : Bool) → 1 ≤ count → b ≡ false → RuleAt T B row deep b → AllRows T B row count deep false
   unfolding operandsOf itemsNesting
-  rows-stop {deep = deep} b l f a = record { is = λ vs x n. go l (rw f at a) x n }
+  rows-stop {count = count} {deep = deep} b l f a = record { byRows = rows-on count false l f a; is = λ vs x n. go l (rw f at a) x n }
     where
       none-first : (a : Option Rule) (b : Option Rules) → false ≡ isSome a → false ≡ isSome (a >>= λ r. b >>= λ rs. some (rule r rs))
       none-first none b e = refl
@@ -132,7 +158,7 @@ module _ {T B : Bytes} where
   pub rows-next : {row count deep : ℕ} (c : Bool) (next : ℕ) (r : Bool) → 1 ≤ count → c ≡ true → next ≡ nextRow T row → RuleAt T B row deep c
       → AllRows T B next (count - 1) deep r → AllRows T B row count deep r
   unfolding operandsOf itemsNesting
-  rows-next {deep = deep} c next b l f g a k = record { is = λ vs x n. go l (rw f at a) (rw g at k) x n }
+  rows-next {count = count} {deep = deep} c next b l f g a k = record { byRows = rw g at (k .byRows) ∙ rows-on count true l f a; is = λ vs x n. go l (rw f at a) (rw g at k) x n }
     where
       some-first : (a : Option Rule) (c : Option Rules) → true ≡ isSome a → b ≡ isSome c → b ≡ isSome (a >>= λ r. c >>= λ rs. some (rule r rs))
       some-first none c e f = clash cc

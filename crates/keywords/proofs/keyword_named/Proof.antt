@@ -21,10 +21,10 @@ keyword-at-requires : tie.Need-keyword-at-requires
 keyword-at-requires c κs = search needs
 
 returns : tie.Need-returns
-returns c = answered-at keywords refl refl (c .before .before .position-of .ensures) (c .enum-told .given .1) refl
+returns c = answered-at keywords (c .before .before .before .before .before .before .before .args .name .now) refl refl (c .before .before .position-of .ensures) (c .enum-told .given .1) refl
 
 returns-2 : tie.Need-returns-2
-returns-2 c = answered-at keywords refl refl (c .before .before .before .before .position-of .ensures) (c .before .before .i .given .1) (c .keyword-at .ensures)
+returns-2 c = answered-at keywords (c .before .before .before .before .before .before .before .before .before .args .name .now) refl refl (c .before .before .before .before .position-of .ensures) (c .before .before .i .given .1) (c .keyword-at .ensures)
 
 pub keyword-named-spec : {M : Type 1} → statement M
 keyword-named-spec =

@@ -8,7 +8,7 @@ rule-at-requires c κs = search needs
 
 returns : tie.Need-returns
 unfolding maxNesting
-returns c = record { is = λ v d n. c .rule-at .ensures .is v d n }
+returns c = record { byRows = c .rule-at .ensures .byRows; is = λ v d n. c .rule-at .ensures .is v d n }
 
 pub is-rule-spec : {M : Type 1} → statement M
 is-rule-spec = tie.close (tie.spec rule-at-requires returns)

@@ -21,10 +21,10 @@ type-at-requires : tie.Need-type-at-requires
 type-at-requires c κs = search needs
 
 returns : tie.Need-returns
-returns c = answered-at words refl refl (c .before .before .position-of .ensures) (c .enum-told .given .1) refl
+returns c = answered-at words (c .before .before .before .before .before .before .before .args .name .now) refl refl (c .before .before .position-of .ensures) (c .enum-told .given .1) refl
 
 returns-2 : tie.Need-returns-2
-returns-2 c = answered-at words refl refl (c .before .before .before .before .position-of .ensures) (c .before .before .i .given .1) (c .type-at .ensures)
+returns-2 c = answered-at words (c .before .before .before .before .before .before .before .before .before .args .name .now) refl refl (c .before .before .before .before .position-of .ensures) (c .before .before .i .given .1) (c .type-at .ensures)
 
 pub type-named-spec : {M : Type 1} → statement M
 type-named-spec =

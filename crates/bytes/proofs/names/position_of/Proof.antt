@@ -43,7 +43,7 @@ same-requires : tie.Need-same-requires Inv-loop μ-loop
 same-requires c κs = search needs
 
 returns-2 : tie.Need-returns-2 Inv-loop μ-loop
-returns-2 c = sought-found (c .before .before .before .before .before .before .loop .inv) (omega arith) (c .before .same .ensures) (c .if2 .taken)
+returns-2 c = sought-found (c .before .before .before .before .before .before .loop .inv) (omega arith) (c .before .before .before .if1 .left) (c .before .same .ensures) (c .if2 .taken)
 
 add-at : tie.Need-add-at Inv-loop μ-loop
 add-at c = omega (arith, c .before .before .before .before .before .before .loop .inv .inside)
@@ -55,7 +55,7 @@ loop-less : tie.Need-loop-less Inv-loop μ-loop
 loop-less c = omega arith
 
 loop-again : tie.Need-loop-again Inv-loop μ-loop
-loop-again c = sought-on (c .before .before .before .before .before .before .loop .inv) (omega arith) (c .before .same .ensures) (c .before .before .before .if1 .left) (c .if2 .left)
+loop-again c = sought-on (c .before .before .before .before .before .before .loop .inv) (omega arith) (c .before .before .before .if1 .left) (c .before .same .ensures) (c .if2 .left)
 
 returns-3 : tie.Need-returns-3 Inv-loop μ-loop
 returns-3 c = sought-all (c .before .loop .inv) (omega arith)

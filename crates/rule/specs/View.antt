@@ -1,29 +1,28 @@
--- Inner: what the private functions of the view give, on the rule's table T and strings B.
+-- View: what stands at a row of a rule's table T, with strings B, whatever these bytes are. Contract says what it is of a row that denotes a value.
 use mathlib.Core.Bool.{cond}
 use mathlib.Core.Option.{Option, none, some}
 use Prim.Native.Nat.{ℕ}
 use lib.Dec.{eqb, ltb}
 use Rattle.model.specs.Bytes.{Bytes}
-use Rattle.model.specs.Shape.{unitNamed}
-use Rattle.model.specs.Value.{object, Members}
+use Rattle.model.specs.Shape.{keywordNamed, unitNamed}
 use Rattle.model.specs.declared.TimeUnit.{TimeUnit}
 use Rattle.keywords.specs.declared.Keyword.{Keyword}
 use Rattle.keywords.specs.declared.Keyword.the-variants as Keywords
 use Rattle.keywords.specs.declared.Op.the-variants as Ops
+use Rattle.keywords.specs.Contract.{keywordFor}
 use Rattle.table.specs.declared.node.Node.{Node}
 use Rattle.table.specs.declared.node.Node.the-variants.{Null, False, True, Integer, String, Array, Object}
 use Rattle.table.specs.declared.node.Rows.{Rows}
 use Rattle.table.specs.declared.row.Span.{Span}
-use Rattle.table.specs.Denotes.{Denotes}
 use Rattle.table.specs.Node.{rows, nodeAt, nextRow, nameAt}
 use Rattle.table.specs.Strings.{bytesOf}
+use Rattle.rule.specs.declared.view.Literal.the-variants as Literals
 use Rattle.rule.specs.declared.view.Single.{Single}
 use Rattle.rule.specs.declared.view.Single.the-variants.{NotSingle, Member}
 use Rattle.rule.specs.declared.view.Shape.{Shape}
 use Rattle.rule.specs.declared.view.Shape.the-variants.{NotRule, Rule}
 use Rattle.rule.specs.declared.view.View.{View}
-use Rattle.rule.specs.declared.view.View.the-variants.{Var, If, And, Reduce, Apply}
-use Rattle.rule.specs.Contract.{Shaped}
+use Rattle.rule.specs.declared.view.View.the-variants.{Literal, Var, If, And, Reduce, Apply}
 
 -- ---- the single member
 abbrev pub singleOf : Bytes → Rows → Single
@@ -108,10 +107,36 @@ contentOn T B k (String s) = pathOn k s
 contentOn T B k (Array q) = operandsOn T B k q
 contentOn T B k (Object q) = NotRule
 
--- What an object has the shape of.
-pub record ObjectShapes (T B : Bytes) (q : Rows) (r : Shape) : Type 0 where
-  pub shaped : (ms : Members) → Denotes T B (object ms) (Object q) → Shaped T B (object ms) r
+-- ---- a row
+-- An object: by the keyword that its single member's name is, and that member's content.
+abbrev pub memberOn : Bytes → Bytes → Single → Shape
+memberOn T B NotSingle = NotRule
+memberOn T B (Member name content) = contentOn T B (keywordFor (keywordNamed (bytesOf B name))) content
+
+abbrev pub objectOn : Bytes → Bytes → Rows → Shape
+objectOn T B q = memberOn T B (singleOf T q)
 
 -- An array or object nests one deep at least.
 abbrev pub within : ℕ → Shape → Shape
 within deep s = cond (eqb deep 0) NotRule s
+
+abbrev pub nodeShape : Bytes → Bytes → ℕ → Node → Shape
+nodeShape T B deep Null = NotRule
+nodeShape T B deep False = Rule (Literal Literals.False)
+nodeShape T B deep True = Rule (Literal Literals.True)
+nodeShape T B deep (Integer n) = Rule (Literal (Literals.Integer n))
+nodeShape T B deep (String s) = Rule (Literal (Literals.String s))
+nodeShape T B deep (Array q) = within deep (Rule (Apply Ops.Array q))
+nodeShape T B deep (Object q) = within deep (objectOn T B q)
+
+-- What a row has the shape of, with so many nestings left.
+abbrev pub shapeAt : Bytes → Bytes → ℕ → ℕ → Shape
+shapeAt T B row deep = nodeShape T B deep (nodeAt T row)
+
+-- What is no rule is viewed as the literal false.
+abbrev pub viewOf : Shape → View
+viewOf NotRule = Literal Literals.False
+viewOf (Rule w) = w
+
+abbrev pub viewAt : Bytes → Bytes → ℕ → ℕ → View
+viewAt T B row deep = viewOf (shapeAt T B row deep)
