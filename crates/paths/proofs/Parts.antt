@@ -8,7 +8,7 @@ use native.Mathlib.Omega.{arith}
 use denote.Enum.Declared.{tagOf}
 use types.Run.{OneOf, miss}
 use Rattle.model.specs.Bytes.{Bytes, sameBytes}
-use Rattle.model.specs.Limits.{maxValues}
+use Rattle.model.specs.Laws.Widths.{values-below}
 use Rattle.model.specs.Option.{_>>=_}
 use Rattle.model.specs.Path.{indexOf, itemAt, memberNamed, part}
 use Rattle.model.specs.Value.{Value, array, Values, no-items, item, Members}
@@ -66,12 +66,11 @@ item-past (item v vs) (suc k) l = item-past vs k (omega arith)
 
 module _ {f T : Bytes} {q : Rows} where
   pub named-outside : IndexIs f Outside → ItemNamed f T q Null
-  unfolding maxValues
   named-outside (outside far) = record { denotes = λ B vs d. go vs d (indexOf f) far }
     where
       go : {B : Bytes} (vs : Values) → Denotes T B (array vs) (Array q) → (o : Option ℕ) → ((k : ℕ) → o ≡ some k → limit ≤ k) → Denotes T B (orNull (o >>= itemAt vs)) Null
       go vs d none l = denotes-null
-      go vs (denotes-array c m r) (some k) l = rw (item-past vs k (omega (arith, l k refl))) denotes-null
+      go vs (denotes-array c m r) (some k) l = rw (item-past vs k (omega (arith, values-below, l k refl))) denotes-null
 
   pub named-at : {k : ℕ} {r : Node} → IndexIs f (At k) → ItemAt k T q r → ItemNamed f T q r
   named-at (inside e) x = record { denotes = λ B vs d. rw e (x .denotes B vs d) }
