@@ -10,6 +10,7 @@ use Rattle.area.specs.Words.{word, wordAt}
 use Rattle.area.specs.Laws.{sets-append, take-sets, drop-sets-behind, wordAt-word, wordAt-append}
 use Rattle.model.specs.Bytes.{Bytes}
 use Rattle.model.specs.Limits.{maxTextBytes, maxValues}
+use Rattle.model.specs.Laws.Widths.{text-below}
 use Rattle.model.specs.Size.{itemsCount, membersCount}
 use Rattle.model.specs.Value.{Value, scalar, instant, array, object, Scalar, null, boolean, integer, string, memberCount}
 use Rattle.name_index.specs.Contract.{entry}
@@ -45,19 +46,19 @@ first-row (object ms) at used name = record { kind = 7; a = memberCount ms; b = 
 -- ---- the words of a row: the name's length and start
 module _ (kind : ℕ) (name : Label) (a b : ℕ) (rest : Bytes) (small : kind < 256) (short : name .size ≤ maxTextBytes) (start : name .start ≤ maxTextBytes) where
   pub row-size : wordAt (row kind name a b ++ rest) 0 / 256 ≡ name .size
-  unfolding row maxTextBytes
+  unfolding row
   row-size =
       ap (λ (bs : Bytes). wordAt bs 0 / 256) (append-assoc (word (kind + 256 * name .size)) (word (name .start) ++ (word a ++ word b)) rest)
-      ∙ ap (λ (x : ℕ). x / 256) (wordAt-word (kind + 256 * name .size) ((word (name .start) ++ (word a ++ word b)) ++ rest) (omega arith))
+      ∙ ap (λ (x : ℕ). x / 256) (wordAt-word (kind + 256 * name .size) ((word (name .start) ++ (word a ++ word b)) ++ rest) (omega (arith, text-below)))
       ∙ size-above kind (name .size) small
 
   pub row-start : wordAt (row kind name a b ++ rest) 4 ≡ name .start
-  unfolding row word maxTextBytes
+  unfolding row word
   row-start =
       ap (λ (bs : Bytes). wordAt bs 4) (append-assoc (word (kind + 256 * name .size)) (word (name .start) ++ (word a ++ word b)) rest
       ∙ ap (λ (bs : Bytes). word (kind + 256 * name .size) ++ bs) (append-assoc (word (name .start)) (word a ++ word b) rest))
       ∙ wordAt-append (word (kind + 256 * name .size)) (word (name .start) ++ ((word a ++ word b) ++ rest)) 0
-      ∙ wordAt-word (name .start) ((word a ++ word b) ++ rest) (omega arith)
+      ∙ wordAt-word (name .start) ((word a ++ word b) ++ rest) (omega (arith, text-below))
 
 -- ---- the rows of the table, and the index behind them
 module _ (T : Bytes) (at : ℕ) (bs : Bytes) (fits : at + length bs ≤ maxValues * rowBytes) where
@@ -74,7 +75,7 @@ unfolding rowsPart
 take-rows T n h = take-take n (maxValues * rowBytes) T h
 
 pub length-rowsPart : (T : Bytes) → tableBytes ≤ length T → length (rowsPart T) ≡ maxValues * rowBytes
-unfolding rowsPart rowBytes entryBytes maxValues
+unfolding rowsPart rowBytes entryBytes
 length-rowsPart T h = length-take-le (maxValues * rowBytes) T (omega arith)
 
 -- A row is four words one after another.

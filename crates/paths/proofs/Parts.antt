@@ -8,7 +8,7 @@ use native.Mathlib.Omega.{arith}
 use denote.Enum.Declared.{tagOf}
 use types.Run.{OneOf, miss}
 use Rattle.model.specs.Bytes.{Bytes, sameBytes}
-use Rattle.model.specs.Limits.{maxValues}
+use Rattle.model.specs.Laws.Widths.{values-below}
 use Rattle.model.specs.Option.{_>>=_}
 use Rattle.model.specs.Path.{indexOf, itemAt, memberNamed, part}
 use Rattle.model.specs.Value.{Value, array, Values, no-items, item, Members}
@@ -74,12 +74,11 @@ item-past (item v vs) (suc k) l = item-past vs k (omega arith)
 
 module _ {f T : Bytes} {q : Rows} where
   pub named-outside : Outside ≡ indexIn f → ItemNamed f T q Null
-  unfolding maxValues
   named-outside e = record { is = ap (itemOf T q) e; denotes = λ B vs d. far d (index-is f e) }
     where
       go : {B : Bytes} (vs : Values) → Denotes T B (array vs) (Array q) → (o : Option ℕ) → ((k : ℕ) → o ≡ some k → limit ≤ k) → Denotes T B (orNull (o >>= itemAt vs)) Null
       go vs d none l = denotes-null
-      go vs (denotes-array c m r) (some k) l = rw (item-past vs k (omega (arith, l k refl))) denotes-null
+      go vs (denotes-array c m r) (some k) l = rw (item-past vs k (omega (arith, values-below, l k refl))) denotes-null
 
       far : {B : Bytes} {vs : Values} → Denotes T B (array vs) (Array q) → IndexIs f Outside → Denotes T B (orNull (indexOf f >>= itemAt vs)) Null
       far {vs = vs} d (outside l) = go vs d (indexOf f) l

@@ -1,12 +1,16 @@
 -- What one byte decides.
-use mathlib.Core.Path.{_≡_, refl, sym, _∙_, subst⁻¹}
+use mathlib.Core.Path.{_≡_, refl, sym, ap, _∙_, subst⁻¹}
 use mathlib.Core.Bool.{Bool, true, false, false≢true}
+use mathlib.Core.List.{[], _∷_}
 use Prim.Native.Nat.{ℕ, _≤_, _<_}
-use borrow.Author.Tests.{eq-eqb, ne-eqb, lt-ltb, le-ltb, leb-false}
+use denote.Enum.Declared.{tagOf}
+use types.Run.{OneOf, miss}
+use borrow.Author.Tests.{eq-eqb, ne-eqb, lt-ltb, le-ltb, le-leb, lt-leb, leb-false}
 use lib.Dec.{eqb, leb}
 use lib.ListN.{length, getD}
 use Rattle.model.specs.Bytes.{Bytes}
 use Rattle.model.specs.Limits.{maxValues, maxNesting}
+use Rattle.syntax.proofs.Start.{the-type}
 use Rattle.syntax.specs.declared.Start.{Start}
 use Rattle.syntax.specs.declared.Start.the-variants.{NoValue, TooMuch, Literal, Minus, Digit, Quote, Bracket, Brace}
 use Rattle.syntax.specs.declared.Word.the-variants.{TrueWord, FalseWord, NullWord}
@@ -14,6 +18,7 @@ use Rattle.syntax.specs.declared.Separator.the-variants.{Comma, Close, Neither}
 use Rattle.syntax.specs.Read.{isPart}
 use Rattle.syntax.specs.Tokens.{isWhite, isDigit, isPoint, isE, counted, nested, startOf, separatorOf}
 use Rattle.scan.specs.Contract.{startAt, StartRoom, Started, separatorAt, Separated, standsAt, Stands}
+use Rattle.scan.specs.Inner.{tooMany, Begun}
 
 pub white-last : (b : ℕ) → (b ≡ 32 → ⊥) → (b ≡ 9 → ⊥) → (b ≡ 10 → ⊥) → eqb b 13 ≡ isWhite b
 unfolding isWhite
@@ -54,6 +59,31 @@ module _ (P : Start → Type 0) where
       go : (c : Bool) → leb maxNesting depth ≡ c → P (elim c [ true ↦ TooMuch | false ↦ x ])
       go true e = z
       go false e = h (leb-false maxNesting depth e)
+
+-- What begins a value is counted.
+pub begun : (depth b : ℕ) (x : Start) → tooMany x ≡ TooMuch → ((row : ℕ) → startOf row depth b ≡ counted row x) → {r : Start} → r ≡ x → Begun depth b r
+unfolding counted
+begun depth b x value is e = record {
+  few = λ row l. e ∙ sym (is row ∙ simp (counted, lt-leb maxValues row l));
+  many = λ row l. ap tooMany e ∙ value ∙ sym (is row ∙ simp (counted, le-leb maxValues row l));
+}
+
+pub nested-value : (depth : ℕ) (x : Start) → tooMany x ≡ TooMuch → tooMany (nested depth x) ≡ TooMuch
+nested-value depth x e = nested-room (λ (k : Start). tooMany k ≡ TooMuch) depth x refl (λ l. e)
+
+pub begun-none : {depth b : ℕ} → ((row : ℕ) → NoValue ≡ startOf row depth b) → Begun depth b NoValue
+begun-none is = record { few = λ row l. is row; many = λ row l. is row }
+
+-- Of those that are not NoValue.
+pub too-many-other : (k : Start) → OneOf (1 ∷ 2 ∷ 3 ∷ 4 ∷ 5 ∷ 6 ∷ 7 ∷ []) (tagOf the-type k) → TooMuch ≡ tooMany k
+too-many-other NoValue h = absurd (miss (1 ∷ 2 ∷ 3 ∷ 4 ∷ 5 ∷ 6 ∷ 7 ∷ []) 0 tt h)
+too-many-other TooMuch h = refl
+too-many-other (Literal w) h = refl
+too-many-other Minus h = refl
+too-many-other Digit h = refl
+too-many-other Quote h = refl
+too-many-other Bracket h = refl
+too-many-other Brace h = refl
 
 module _ (s : Bytes) (row depth at : ℕ) where
   abbrev Room : Start → Type 0

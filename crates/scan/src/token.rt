@@ -10,7 +10,7 @@ ghost use lib.ListN.{drop};
 ghost use Rattle.syntax.specs.Read as reading;
 ghost use Rattle.syntax.specs.Tokens as tokens;
 ghost use Rattle.scan.specs.Contract.{Skipped, Started, decimalOf, Separated, Stands, LiteralMeets};
-ghost use Rattle.scan.specs.Inner.{Compared};
+ghost use Rattle.scan.specs.Inner.{tooMany, Begun, Compared};
 
 // The offset after the white space at `at`.
 pub fn skip_white(text: &[u8], at: usize) -> usize
@@ -54,40 +54,51 @@ pub fn start(text: &[u8], at: usize, row: usize, depth: usize) -> Start
 fn start_of(row: usize, depth: usize, b: u8) -> Start
     ensures { λ r. ⌜ r ≡ tokens.startOf row depth b ⌝ }
 {
+    if row < MAX_VALUES {
+        return begins(depth, b);
+    }
+    too_many(begins(depth, b))
+}
+
+// What begins with `b`, where one more value may.
+fn begins(depth: usize, b: u8) -> Start
+    ensures { λ r. ⌜ Begun depth b r ⌝ }
+{
     if b == b'"' {
-        return counted(row, Start::Quote);
+        return Start::Quote;
     }
     if b == b'[' {
-        return counted(row, nested(depth, Start::Bracket));
+        return nested(depth, Start::Bracket);
     }
     if b == b'{' {
-        return counted(row, nested(depth, Start::Brace));
+        return nested(depth, Start::Brace);
     }
     if let Decimal::DecimalDigit(_) = decimal_of(b) {
-        return counted(row, Start::Digit);
+        return Start::Digit;
     }
     if b == b'-' {
-        return counted(row, Start::Minus);
+        return Start::Minus;
     }
     if b == b't' {
-        return counted(row, Start::Literal(Word::TrueWord));
+        return Start::Literal(Word::TrueWord);
     }
     if b == b'f' {
-        return counted(row, Start::Literal(Word::FalseWord));
+        return Start::Literal(Word::FalseWord);
     }
     if b == b'n' {
-        return counted(row, Start::Literal(Word::NullWord));
+        return Start::Literal(Word::NullWord);
     }
     Start::NoValue
 }
 
-fn counted(row: usize, kind: Start) -> Start
-    ensures { λ r. ⌜ r ≡ tokens.counted row kind ⌝ }
+// The same where no value may begin any more.
+fn too_many(kind: Start) -> Start
+    ensures { λ r. ⌜ r ≡ tooMany kind ⌝ }
 {
-    if MAX_VALUES <= row {
-        return Start::TooMuch;
+    match kind {
+        Start::NoValue => Start::NoValue,
+        _ => Start::TooMuch,
     }
-    kind
 }
 
 fn nested(depth: usize, kind: Start) -> Start

@@ -1,5 +1,6 @@
 -- Each way out is a law of All.
 use native.Mathlib.Omega.{arith}
+use Rattle.model.specs.Laws.Widths.{values-below}
 use Rattle.model.specs.Limits.{maxTextBytes, maxValues}
 use Rattle.syntax.specs.Layout.{rowBytes, entryBytes}
 use Rattle.json.proofs.All.{told, number-small, rows-few, law-short-table, law-short-strings, law-refused, law-done}
@@ -35,8 +36,7 @@ enum-known-s-2 : tie.Need-enum-known-s-2
 enum-known-s-2 c = search needs
 
 mul-clear-from : tie.Need-mul-clear-from
-unfolding maxValues
-mul-clear-from c = omega (arith, rows-few (told (c .before .before .before .before .before .before .before .before .read-text .ensures) (c .before .before .s2 .given .1)))
+mul-clear-from c = omega (arith, values-below, rows-few (told (c .before .before .before .before .before .before .before .before .read-text .ensures) (c .before .before .s2 .given .1)))
 
 clear-from-requires-3 : tie.Need-clear-from-requires-3
 clear-from-requires-3 c κs = search needs

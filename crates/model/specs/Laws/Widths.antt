@@ -17,6 +17,11 @@ pub cells-below : heapCells < 16777216
 unfolding heapCells
 cells-below = omega arith
 
+-- Nesting has no field: it is counted in a machine's number.
+pub nesting-below : maxNesting < 16777216
+unfolding maxNesting
+nesting-below = omega arith
+
 pub text-small : {n : ℕ} → n ≤ maxTextBytes → n < 16777216
 text-small h = omega (arith, text-below)
 

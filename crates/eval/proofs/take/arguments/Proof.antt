@@ -1,6 +1,6 @@
-use Rattle.model.specs.Limits.{heapCells}
 use native.Mathlib.Omega.{arith}
 use mathlib.Core.Path.{refl}
+use Rattle.model.specs.Laws.Widths.{cells-below}
 use Rattle.eval.proofs.Arguments.{asks-next, stack-room, applies}
 use borrow.Author.Needs.{needs}
 use Rattle.eval.proofs.take.arguments.Statement.{statement}
@@ -16,8 +16,7 @@ returns : tie.Need-returns
 returns c = asks-next (c .arguments-of .result) (omega (arith, c .before .before .if1 .taken)) (c .arguments-of .ensures)
 
 add-state : tie.Need-add-state
-unfolding heapCells
-add-state c = omega (arith, c .before .before .before .before .before .before .before .before .pre .within)
+add-state c = omega (arith, cells-below, c .before .before .before .before .before .before .before .before .pre .within)
 
 state-requires : tie.Need-state-requires
 state-requires c κs = search needs

@@ -1,6 +1,6 @@
-use Rattle.model.specs.Limits.{heapCells}
 use mathlib.Core.Path.{sym, _∙_}
 use native.Mathlib.Omega.{arith}
+use Rattle.model.specs.Laws.Widths.{cells-below}
 use Rattle.eval.proofs.Taken.{no-items-there, items-done, item-next, two-puts}
 use borrow.Author.Needs.{needs}
 use Rattle.eval.proofs.take.next_item.Statement.{statement}
@@ -37,8 +37,7 @@ compound-requires : tie.Need-compound-requires
 compound-requires c κs = search needs
 
 add-state : tie.Need-add-state
-unfolding heapCells
-add-state c = omega (arith, c .before .before .before .before .before .before .before .before .before .before .before .before .before .before .before .before .before .before .before .before .pre .fits, c .before .before .before .before .before .before .before .before .before .before .before .before .before .before .before .before .before .before .before .before .pre .within)
+add-state c = omega (arith, cells-below, c .before .before .before .before .before .before .before .before .before .before .before .before .before .before .before .before .before .before .before .before .pre .fits, c .before .before .before .before .before .before .before .before .before .before .before .before .before .before .before .before .before .before .before .before .pre .within)
 
 state-requires : tie.Need-state-requires
 state-requires c κs = search needs

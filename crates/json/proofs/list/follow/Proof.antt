@@ -3,7 +3,7 @@ use mathlib.Core.Path.{refl}
 use Prim.Native.Nat.{_<_}
 use native.Mathlib.Omega.{arith}
 use lib.ListN.{length}
-use Rattle.model.specs.Limits.{maxTextBytes, maxValues}
+use Rattle.model.specs.Laws.Widths.{text-below, values-below}
 use Rattle.json.specs.Inner.{failed, stopped}
 use Rattle.json.proofs.Values.{separated}
 use borrow.Author.Needs.{needs}
@@ -26,12 +26,10 @@ enum-told : tie.Need-enum-told
 enum-told c = search needs
 
 add-moved : tie.Need-add-moved
-unfolding maxTextBytes
-add-moved c = let l : c .before .before .before .skip-white .result < length (c .before .before .before .before .before .before .before .before .args .text .now) = (separated (c .before .before .separator .ensures) (c .enum-told .given .1)) .room in omega (arith, c .before .before .before .before .before .before .before .before .pre .short)
+add-moved c = let l : c .before .before .before .skip-white .result < length (c .before .before .before .before .before .before .before .before .args .text .now) = (separated (c .before .before .separator .ensures) (c .enum-told .given .1)) .room in omega (arith, text-below, c .before .before .before .before .before .before .before .before .pre .short)
 
 add-moved-2 : tie.Need-add-moved-2
-unfolding maxValues
-add-moved-2 c = omega (arith, c .before .before .before .before .before .before .before .before .pre)
+add-moved-2 c = omega (arith, values-below, c .before .before .before .before .before .before .before .before .pre)
 
 moved-requires : tie.Need-moved-requires
 moved-requires c κs = search needs
@@ -40,15 +38,13 @@ enum-told-2 : tie.Need-enum-told-2
 enum-told-2 c = search needs
 
 add-skip-white : tie.Need-add-skip-white
-unfolding maxTextBytes
-add-skip-white c = let l : c .before .before .before .skip-white .result < length (c .before .before .before .before .before .before .before .before .args .text .now) = (separated (c .before .before .separator .ensures) (c .enum-told2 .given .1)) .room in omega (arith, c .before .before .before .before .before .before .before .before .pre .short)
+add-skip-white c = let l : c .before .before .before .skip-white .result < length (c .before .before .before .before .before .before .before .before .args .text .now) = (separated (c .before .before .separator .ensures) (c .enum-told2 .given .1)) .room in omega (arith, text-below, c .before .before .before .before .before .before .before .before .pre .short)
 
 skip-white-requires-2 : tie.Need-skip-white-requires-2
 skip-white-requires-2 c κs = search needs
 
 add-moved-3 : tie.Need-add-moved-3
-unfolding maxValues
-add-moved-3 c = omega (arith, c .before .before .before .before .before .before .before .before .before .pre)
+add-moved-3 c = omega (arith, values-below, c .before .before .before .before .before .before .before .before .before .pre)
 
 moved-requires-2 : tie.Need-moved-requires-2
 moved-requires-2 c κs = search needs

@@ -2,7 +2,7 @@
 use Prim.Native.Nat.{_<_}
 use native.Mathlib.Omega.{arith}
 use lib.ListN.{length}
-use Rattle.model.specs.Limits.{maxTextBytes}
+use Rattle.model.specs.Laws.Widths.{text-below}
 use Rattle.json.proofs.Values.{string-end}
 use Rattle.json.proofs.Names.{law-no-name, law-name-chars, law-enter-room, law-repeated, law-no-colon, law-name}
 use borrow.Author.Tests.{not-true, not-false}
@@ -71,8 +71,7 @@ returns-3 : tie.Need-returns-3
 returns-3 c = law-no-colon (c .before .before .before .before .before .before .before .before .before .before .before .before .before .before .before .before .before .before .stands .ensures) (not-false _ (c .before .before .before .before .before .before .before .before .before .before .before .before .before .before .before .before .before .if1 .left)) (c .before .before .before .before .before .before .before .before .before .before .before .before .before .before .before .chars .ensures) (c .before .before .before .before .before .before .before .before .before .before .before .decoded2 .given .1) (c .before .before .before .before .before .before .before .before .before .before .before .before .before .before .before .before .before .before .before .before .before .before .pre) (c .before .before .before .before .before .before .before .enter .ensures) (c .before .before .before .before .if2 .left) (c .before .before .before .skip-white .ensures) (c .before .before .stands2 .ensures) (not-true _ (c .before .if3 .taken)) (c .no-name3 .ensures)
 
 add-skip-white-2 : tie.Need-add-skip-white-2
-unfolding maxTextBytes
-add-skip-white-2 c = let l : c .before .before .skip-white .result < length (c .before .before .before .before .before .before .before .before .before .before .before .before .before .before .before .before .before .before .before .before .before .args .text .now) = c .before .stands2 .ensures .room (not-false _ (c .if3 .left)) in omega (arith, c .before .before .before .before .before .before .before .before .before .before .before .before .before .before .before .before .before .before .before .before .before .pre .room .short)
+add-skip-white-2 c = let l : c .before .before .skip-white .result < length (c .before .before .before .before .before .before .before .before .before .before .before .before .before .before .before .before .before .before .before .before .before .args .text .now) = c .before .stands2 .ensures .room (not-false _ (c .if3 .left)) in omega (arith, text-below, c .before .before .before .before .before .before .before .before .before .before .before .before .before .before .before .before .before .before .before .before .before .pre .room .short)
 
 skip-white-requires-2 : tie.Need-skip-white-requires-2
 skip-white-requires-2 c κs = search needs

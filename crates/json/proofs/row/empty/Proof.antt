@@ -1,26 +1,23 @@
 -- The row that is stored.
 use mathlib.Core.Path.{ap}
 use native.Mathlib.Omega.{arith}
-use Rattle.model.specs.Limits.{maxTextBytes, maxValues}
+use Rattle.model.specs.Laws.Widths.{text-below, values-below}
 use borrow.Author.Needs.{needs}
 use Rattle.json.specs.declared.step.Step.the-variants.{Reached}
 use Rattle.json.proofs.row.empty.Statement.{statement}
 use Rattle.json.proofs.row.empty.Tie as tie
 
 add-put-row : tie.Need-add-put-row
-unfolding maxValues
-add-put-row c = omega arith
+add-put-row c = omega (arith, values-below)
 
 put-row-requires : tie.Need-put-row-requires
 put-row-requires c κs = search needs
 
 add-place : tie.Need-add-place
-unfolding maxTextBytes
-add-place c = omega arith
+add-place c = omega (arith, text-below)
 
 add-place-2 : tie.Need-add-place-2
-unfolding maxValues
-add-place-2 c = omega arith
+add-place-2 c = omega (arith, values-below)
 
 place-requires : tie.Need-place-requires
 place-requires c κs = search needs

@@ -1,51 +1,45 @@
 -- Four words one after another make the row.
 use native.Mathlib.Omega.{arith}
 use borrow.Author.Needs.{needs}
-use Rattle.model.specs.Limits.{maxTextBytes, maxValues}
+use Rattle.model.specs.Laws.Widths.{text-below, values-below}
 use Rattle.syntax.specs.Layout.{rowBytes, entryBytes}
 use Rattle.json.proofs.Rows.{four-words}
 use Rattle.json.proofs.row.put_row.Statement.{statement}
 use Rattle.json.proofs.row.put_row.Tie as tie
 
 mul-at : tie.Need-mul-at
-unfolding maxValues
-mul-at c = omega arith
+mul-at c = omega (arith, values-below)
 
 mul-put-word : tie.Need-mul-put-word
-unfolding maxTextBytes
-mul-put-word c = omega arith
+mul-put-word c = omega (arith, text-below)
 
 add-put-word : tie.Need-add-put-word
-unfolding maxTextBytes
-add-put-word c = omega arith
+add-put-word c = omega (arith, text-below)
 
 put-word-requires : tie.Need-put-word-requires
-unfolding maxValues rowBytes entryBytes
-put-word-requires c κs = omega arith
+unfolding rowBytes entryBytes
+put-word-requires c κs = omega (arith, values-below)
 
 add-put-word-2 : tie.Need-add-put-word-2
-unfolding maxValues
-add-put-word-2 c = omega arith
+add-put-word-2 c = omega (arith, values-below)
 
 put-word-requires-2 : tie.Need-put-word-requires-2
-unfolding maxValues rowBytes entryBytes
-put-word-requires-2 c κs = omega arith
+unfolding rowBytes entryBytes
+put-word-requires-2 c κs = omega (arith, values-below)
 
 add-put-word-3 : tie.Need-add-put-word-3
-unfolding maxValues
-add-put-word-3 c = omega arith
+add-put-word-3 c = omega (arith, values-below)
 
 put-word-requires-3 : tie.Need-put-word-requires-3
-unfolding maxValues rowBytes entryBytes
-put-word-requires-3 c κs = omega arith
+unfolding rowBytes entryBytes
+put-word-requires-3 c κs = omega (arith, values-below)
 
 add-put-word-4 : tie.Need-add-put-word-4
-unfolding maxValues
-add-put-word-4 c = omega arith
+add-put-word-4 c = omega (arith, values-below)
 
 put-word-requires-4 : tie.Need-put-word-requires-4
-unfolding maxValues rowBytes entryBytes
-put-word-requires-4 c κs = omega arith
+unfolding rowBytes entryBytes
+put-word-requires-4 c κs = omega (arith, values-below)
 
 same-length : tie.Need-same-length
 same-length c = search needs

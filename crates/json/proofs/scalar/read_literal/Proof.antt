@@ -1,6 +1,6 @@
 -- Each way out is a law of Values.
 use native.Mathlib.Omega.{arith}
-use Rattle.model.specs.Limits.{maxValues}
+use Rattle.model.specs.Laws.Widths.{values-below}
 use Rattle.json.proofs.Values.{kind-small, law-literal, law-literal-bad}
 use borrow.Author.Needs.{needs}
 use Rattle.json.proofs.scalar.read_literal.Statement.{statement}
@@ -22,8 +22,7 @@ put-row-requires : tie.Need-put-row-requires
 put-row-requires c κs = record { rows = c .before .before .before .before .before .before .before .before .pre .rows; table = c .before .before .before .before .before .before .before .before .pre .table; kinds = rw (c .kind-of .ensures) (kind-small (c .before .before .before .before .before .before .before .before .args .word)); label = c .before .before .before .before .before .before .before .before .pre .label }
 
 add-place : tie.Need-add-place
-unfolding maxValues
-add-place c = omega arith
+add-place c = omega (arith, values-below)
 
 place-requires : tie.Need-place-requires
 place-requires c κs = search needs

@@ -1,6 +1,6 @@
 -- Each way out is a law of Values.
 use native.Mathlib.Omega.{arith}
-use Rattle.model.specs.Limits.{maxValues}
+use Rattle.model.specs.Laws.Widths.{values-below}
 use Rattle.json.proofs.Values.{law-number, law-number-bad}
 use borrow.Author.Needs.{needs}
 use Rattle.json.proofs.scalar.read_number.Statement.{statement}
@@ -19,8 +19,7 @@ put-row-requires : tie.Need-put-row-requires
 put-row-requires c κs = search needs
 
 add-place : tie.Need-add-place
-unfolding maxValues
-add-place c = omega arith
+add-place c = omega (arith, values-below)
 
 place-requires : tie.Need-place-requires
 place-requires c κs = search needs

@@ -1,6 +1,6 @@
 -- Each way out is a law of Values.
 use native.Mathlib.Omega.{arith}
-use Rattle.model.specs.Limits.{maxTextBytes, maxValues}
+use Rattle.model.specs.Laws.Widths.{text-below, values-below}
 use Rattle.json.proofs.Values.{string-end, law-string, law-string-bad}
 use borrow.Author.Needs.{needs}
 use Rattle.json.proofs.scalar.read_string.Statement.{statement}
@@ -22,12 +22,10 @@ put-row-requires : tie.Need-put-row-requires
 put-row-requires c κs = search needs
 
 add-place : tie.Need-add-place
-unfolding maxTextBytes
-add-place c = omega (arith, string-end (c .before .before .before .before .before .before .before .before .before .chars .ensures) (c .before .before .before .before .before .decoded2 .given .1))
+add-place c = omega (arith, text-below, string-end (c .before .before .before .before .before .before .before .before .before .chars .ensures) (c .before .before .before .before .before .decoded2 .given .1))
 
 add-place-2 : tie.Need-add-place-2
-unfolding maxValues
-add-place-2 c = omega arith
+add-place-2 c = omega (arith, values-below)
 
 place-requires : tie.Need-place-requires
 place-requires c κs = search needs

@@ -4,7 +4,7 @@ use Prim.Native.Nat.{ℕ, _+_, _*_, _-_, _≤_, _<_}
 use native.Mathlib.Omega.{arith}
 use borrow.Author.Needs.{needs}
 use lib.ListN.{length}
-use Rattle.model.specs.Limits.{maxValues, maxNesting}
+use Rattle.model.specs.Laws.Widths.{nesting-below, values-below}
 use Rattle.json.proofs.Values.{started, breaks, closes, continued, law-none, law-much, law-word, law-minus, law-digit, law-quote, law-bracket, law-brace, law-array, law-array-empty, law-object, law-object-empty}
 use Rattle.json.proofs.Items.{ItemsInv, items-start, items-broken, items-closed, items-next, items-less}
 use Rattle.json.proofs.Members.{named-as, MembersInv, members-start, members-no-name, members-broken, members-closed, members-next, members-less}
@@ -247,12 +247,10 @@ array-returns : (t : ℕ) → array-lts.Need-returns (array-calls t) (array-at t
 array-returns t c = law-array-empty (c .before .before .before .before .before .before .before .before .before .before .args .depth) (c .before .before .before .before .before .before .skip-white .ensures) (c .before .before .before .before .before .stands .ensures) (c .before .before .before .before .if1 .taken) (c .before .before .before .before .before .before .before .before .before .before .pre .1 .0 .text) (c .before .before .before .before .before .before .before .before .before .before .pre .1 .1) (c .before .before .empty .ensures)
 
 array-add-all-items : (t : ℕ) → array-lts.Need-add-all-items (array-calls t) (array-at t) array.Post
-unfolding maxValues
-array-add-all-items t c = omega (arith, c .before .before .before .before .before .before .before .pre)
+array-add-all-items t c = omega (arith, values-below, c .before .before .before .before .before .before .before .pre)
 
 array-add-all-items-2 : (t : ℕ) → array-lts.Need-add-all-items-2 (array-calls t) (array-at t) array.Post
-unfolding maxNesting
-array-add-all-items-2 t c = omega (arith, c .before .before .before .before .before .before .before .before .pre)
+array-add-all-items-2 t c = omega (arith, nesting-below, c .before .before .before .before .before .before .before .before .pre)
 
 array-all-items-requires : (t : ℕ) → array-lts.Need-all-items-requires (array-calls t) (array-at t) array.Post
 array-all-items-requires t c κs = let l : c .before .before .before .before .skip-white .result ≤ length (c .before .before .before .before .before .before .before .before .args .text .now) = c .before .before .before .before .skip-white .ensures .inside (c .before .before .before .before .before .before .before .before .pre .1 .0 .place) in omega (arith, c .before .before .before .before .skip-white .ensures .on, c .before .before .before .before .before .before .before .before .pre)
@@ -285,12 +283,10 @@ object-returns : (t : ℕ) → object-lts.Need-returns (object-calls t) (object-
 object-returns t c = law-object-empty (c .before .before .before .before .before .before .before .before .before .before .args .depth) (c .before .before .before .before .before .before .skip-white .ensures) (c .before .before .before .before .before .stands .ensures) (c .before .before .before .before .if1 .taken) (c .before .before .before .before .before .before .before .before .before .before .pre .1 .0 .text) (c .before .before .before .before .before .before .before .before .before .before .pre .1 .1) (c .before .before .empty .ensures)
 
 object-add-all-members : (t : ℕ) → object-lts.Need-add-all-members (object-calls t) (object-at t) object.Post
-unfolding maxValues
-object-add-all-members t c = omega (arith, c .before .before .before .before .before .before .before .pre)
+object-add-all-members t c = omega (arith, values-below, c .before .before .before .before .before .before .before .pre)
 
 object-add-all-members-2 : (t : ℕ) → object-lts.Need-add-all-members-2 (object-calls t) (object-at t) object.Post
-unfolding maxNesting
-object-add-all-members-2 t c = omega (arith, c .before .before .before .before .before .before .before .before .pre)
+object-add-all-members-2 t c = omega (arith, nesting-below, c .before .before .before .before .before .before .before .before .pre)
 
 object-all-members-requires : (t : ℕ) → object-lts.Need-all-members-requires (object-calls t) (object-at t) object.Post
 object-all-members-requires t c κs = let l : c .before .before .before .before .skip-white .result ≤ length (c .before .before .before .before .before .before .before .before .args .text .now) = c .before .before .before .before .skip-white .ensures .inside (c .before .before .before .before .before .before .before .before .pre .1 .0 .place) in omega (arith, c .before .before .before .before .skip-white .ensures .on, c .before .before .before .before .before .before .before .before .pre)
