@@ -1,4 +1,4 @@
--- Laws for the proofs of the crate operate.
+-- Laws for the proofs of the crate operations.
 pub mod Block
 pub mod Operations
 pub mod Applied

@@ -1,4 +1,4 @@
--- Laws for the proofs of the crate kinds.
+-- Laws for the proofs of the crate type_check.
 pub mod Paths
 pub mod Operations
 pub mod Operand

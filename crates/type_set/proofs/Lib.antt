@@ -1,2 +1,2 @@
--- Laws for the proofs of the crate types.
+-- Laws for the proofs of the crate type_set.
 pub mod Sets
