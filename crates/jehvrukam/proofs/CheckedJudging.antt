@@ -14,7 +14,7 @@ use Rattle.eval.specs.declared.Answer as evaluating
 use Rattle.eval.specs.Evaluate.{Ready, Evaluates}
 use Rattle.sheet.specs.Contract.{Fits}
 use Rattle.pipeline.specs.declared.check.Checked.{Checked}
-use Rattle.pipeline.specs.declared.text.Stop as texts
+use Rattle.pipeline.specs.declared.text.Stop as pipeline
 use Rattle.pipeline.specs.Areas.{TextAreas, textAreas, holding, leftBy}
 use Rattle.pipeline.specs.Contract.{stopOf, leftAfter, wordsOf}
 use Rattle.pipeline.specs.Laws.Stages.{number-some, Passed, Stopped, CheckHeld, check-held, TextHeld, text-held, record-held, left-holding, left-sheet, left-denotes}
@@ -58,14 +58,14 @@ module _ (d : Bytes) (limit : ℕ) (T A S Z R B C O : Bytes) {c : Checked} (k : 
   as-long : {R′ B′ C′ O′ : Bytes} → AsLong R B R′ B′ → AsLong C O C′ O′ → checkedZeros (checkedAreasOf T A S Z R′ B′ C′ O′) ≡ checkedZeros lent
   as-long l m = λ i. parts (k .rule-sizes i) (k .sheet-sizes i) (long-text l i) (long-work m i)
 
-  stopping : {X : Type 0} (x : Stage X) (y : Stage CheckedTextsRead) {q : texts.Stop} {a′ : CheckedAreas} → ((p : Stopped x) → y ≡ refused (p .refusal) (p .which) (p .place)) → q ≡ stopOf x → (q .refusal ≡ 0 → ⊥) → checkedZeros a′ ≡ checkedZeros lent
+  stopping : {X : Type 0} (x : Stage X) (y : Stage CheckedTextsRead) {q : pipeline.Stop} {a′ : CheckedAreas} → ((p : Stopped x) → y ≡ refused (p .refusal) (p .which) (p .place)) → q ≡ stopOf x → (q .refusal ≡ 0 → ⊥) → checkedZeros a′ ≡ checkedZeros lent
       → Judges checkedZeros (evaluateCheckedAnswer lent limit y) lent (q .refusal) (checkedNumbersOf (q .which) (q .place) 0 0 0 0) a′
   stopping = stops checkedZeros (evaluateCheckedAnswer lent limit) lent (λ w p. checkedNumbersOf w p 0 0 0 0) (λ e w p. refl) (λ e w p. refl)
 
   pub check-stops : {o : CheckedOutcome} → (c .stop .refusal ≡ 0 → ⊥) → o ≡ checkedUnrun (c .stop) → Judges checkedZeros Whole lent (o .refusal) (checkedTold o) (checkedAreasOf T A S Z R B C O)
   check-stops n e = rw e (stopping (checkStage rule sheet) (evaluateCheckedStage rule sheet d) (λ p. rw (p .is)) (k .checks .stop) n (as-long (same-long R B) (same-long C O)))
 
-  module _ (zero : c .stop .refusal ≡ 0) {R′ B′ : Bytes} {q : texts.Stop} (g : ReadsLong (readAs recordText d) d (textAreas R B) q (textAreas R′ B′)) (l : AsLong R B R′ B′) where
+  module _ (zero : c .stop .refusal ≡ 0) {R′ B′ : Bytes} {q : pipeline.Stop} (g : ReadsLong (readAs recordText d) d (textAreas R B) q (textAreas R′ B′)) (l : AsLong R B R′ B′) where
     pub check-passes : Passed (checkStage rule sheet)
     check-passes = passes-stage (checkStage rule sheet) (k .checks .stop) zero
 

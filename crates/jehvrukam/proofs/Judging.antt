@@ -9,7 +9,7 @@ use Rattle.model.specs.Value.{Value}
 use Rattle.syntax.specs.Output.{writtenSize, writtenOutput}
 use Rattle.eval.specs.declared.Answer as evaluating
 use Rattle.eval.specs.Evaluate.{Ready, Evaluates}
-use Rattle.pipeline.specs.declared.text.Stop as texts
+use Rattle.pipeline.specs.declared.text.Stop as pipeline
 use Rattle.pipeline.specs.Areas.{textAreas, holding}
 use Rattle.pipeline.specs.Contract.{stopOf}
 use Rattle.pipeline.specs.Laws.Stages.{number-some, Passed, Stopped, text-held, record-held, left-holding}
@@ -32,21 +32,21 @@ as-long t r c = λ i. record { rule = long-text t i; «record» = long-text r i;
 both-read : (s d : Bytes) (x : TextRead Rule) (v : Value) → ruleStage s ≡ passed x → readAs recordText d ≡ passed v → evaluateStage s d ≡ passed (record { rule = x; «record» = v })
 both-read s d x v e f = rw (e, f)
 
-module _ (s d : Bytes) (limit : ℕ) (T A R B C O : Bytes) {T′ A′ : Bytes} {r : texts.Stop} (h : ReadsLong (ruleStage s) s (textAreas T A) r (textAreas T′ A′)) where
+module _ (s d : Bytes) (limit : ℕ) (T A R B C O : Bytes) {T′ A′ : Bytes} {r : pipeline.Stop} (h : ReadsLong (ruleStage s) s (textAreas T A) r (textAreas T′ A′)) where
   abbrev lent : Areas
   lent = areasOf T A R B C O
 
   abbrev Whole : Evaluated
   Whole = evaluateAnswer lent limit (evaluateStage s d)
 
-  stopping : {X : Type 0} (x : Stage X) (y : Stage TextsRead) {q : texts.Stop} {a′ : Areas} → ((p : Stopped x) → y ≡ refused (p .refusal) (p .which) (p .place)) → q ≡ stopOf x → (q .refusal ≡ 0 → ⊥) → zeros a′ ≡ zeros lent
+  stopping : {X : Type 0} (x : Stage X) (y : Stage TextsRead) {q : pipeline.Stop} {a′ : Areas} → ((p : Stopped x) → y ≡ refused (p .refusal) (p .which) (p .place)) → q ≡ stopOf x → (q .refusal ≡ 0 → ⊥) → zeros a′ ≡ zeros lent
       → Judges zeros (evaluateAnswer lent limit y) lent (q .refusal) (numbersOf (q .which) (q .place) 0 0) a′
   stopping = stops zeros (evaluateAnswer lent limit) lent (λ w p. numbersOf w p 0 0) (λ e w p. refl) (λ e w p. refl)
 
   pub rule-stops : {o : Outcome} → (r .refusal ≡ 0 → ⊥) → o ≡ unrun r → AsLong T A T′ A′ → Judges zeros Whole lent (o .refusal) (told o) (areasOf T′ A′ R B C O)
   rule-stops n e l = rw e (stopping (ruleStage s) (evaluateStage s d) (λ p. rw (p .is)) (h .stop) n (as-long l (same-long R B) (same-long C O)))
 
-  module _ (zero : r .refusal ≡ 0) {R′ B′ : Bytes} {q : texts.Stop} (g : ReadsLong (readAs recordText d) d (textAreas R B) q (textAreas R′ B′)) (l : AsLong T A T′ A′) (m : AsLong R B R′ B′) where
+  module _ (zero : r .refusal ≡ 0) {R′ B′ : Bytes} {q : pipeline.Stop} (g : ReadsLong (readAs recordText d) d (textAreas R B) q (textAreas R′ B′)) (l : AsLong T A T′ A′) (m : AsLong R B R′ B′) where
     pub rule-passes : Passed (ruleStage s)
     rule-passes = passes-stage (ruleStage s) (h .stop) zero
 

@@ -8,7 +8,7 @@ use Rattle.model.specs.Judgement.{ruleIn, sheetIn}
 use Rattle.syntax.specs.Entry.{tooShort}
 use Rattle.pipeline.specs.declared.check.Checked.{Checked}
 use Rattle.pipeline.specs.declared.fit.Fitted.{Fitted}
-use Rattle.pipeline.specs.declared.text.Stop as texts
+use Rattle.pipeline.specs.declared.text.Stop as pipeline
 use Rattle.pipeline.specs.Areas.{TextAreas, textAreas, zeroed, holding, leftBy}
 use Rattle.pipeline.specs.Contract.{stopOf, leftAfter, wordsOf, ChecksTexts, fitOf, FitsTexts}
 use Rattle.pipeline.specs.Laws.Stages.{number-some, text-held, record-held, left-holding, check-held, fits-held}
@@ -47,11 +47,11 @@ module _ (rule sheet : Bytes) (T A S Z : Bytes) (n : CheckNumbers) where
       judges x e =
           let stop-is : c .stop ≡ stopOf x = check-told .stop ∙ ap stopOf e in
           let words-are : c .words ≡ wordsOf x = check-told .words ∙ ap wordsOf e in
-          record { refusal = refusals x stop-is; numbers = (λ i. checkNumbersOf (stop-is i .which) (stop-is i .place) (words-are i)) ∙ numbers x; areas = λ f. areas x e (ap (λ (y : texts.Stop). y .refusal) (sym stop-is) ∙ f); sizes = λ i. checkParts (long-text l i) (long-text m i) }
+          record { refusal = refusals x stop-is; numbers = (λ i. checkNumbersOf (stop-is i .which) (stop-is i .place) (words-are i)) ∙ numbers x; areas = λ f. areas x e (ap (λ (y : pipeline.Stop). y .refusal) (sym stop-is) ∙ f); sizes = λ i. checkParts (long-text l i) (long-text m i) }
         where
           refusals : (x : Stage TextsChecked) → c .stop ≡ stopOf x → c .stop .refusal ≡ checkAnswer check-lent x .refusal
-          refusals (passed t) f = ap (λ (y : texts.Stop). y .refusal) f
-          refusals (refused k w p) f = ap (λ (y : texts.Stop). y .refusal) f
+          refusals (passed t) f = ap (λ (y : pipeline.Stop). y .refusal) f
+          refusals (refused k w p) f = ap (λ (y : pipeline.Stop). y .refusal) f
 
           numbers : (x : Stage TextsChecked) → checkNumbersOf (stopOf x .which) (stopOf x .place) (wordsOf x) ≡ checkAnswer check-lent x .numbers
           numbers (passed t) = refl
@@ -108,11 +108,11 @@ module _ (sheet record′ : Bytes) (S Z R B : Bytes) (n : FitsNumbers) where
       fits-judges x e =
           let stop-is : c .stop ≡ stopOf x = fit-told .stop ∙ ap stopOf e in
           let fit-is : c .fits ≡ fitOf x = fit-told .fit ∙ ap fitOf e in
-          record { refusal = refusals x stop-is; numbers = (λ i. fitsNumbersOf (stop-is i .which) (stop-is i .place) (yesOrNo (fit-is i))) ∙ numbers x; areas = λ f. areas x e (ap (λ (y : texts.Stop). y .refusal) (sym stop-is) ∙ f); sizes = λ i. fitsParts (long-text l i) (long-text m i) }
+          record { refusal = refusals x stop-is; numbers = (λ i. fitsNumbersOf (stop-is i .which) (stop-is i .place) (yesOrNo (fit-is i))) ∙ numbers x; areas = λ f. areas x e (ap (λ (y : pipeline.Stop). y .refusal) (sym stop-is) ∙ f); sizes = λ i. fitsParts (long-text l i) (long-text m i) }
         where
           refusals : (x : Stage TextsFitted) → c .stop ≡ stopOf x → c .stop .refusal ≡ fitsAnswer fits-lent x .refusal
-          refusals (passed t) f = ap (λ (y : texts.Stop). y .refusal) f
-          refusals (refused k w p) f = ap (λ (y : texts.Stop). y .refusal) f
+          refusals (passed t) f = ap (λ (y : pipeline.Stop). y .refusal) f
+          refusals (refused k w p) f = ap (λ (y : pipeline.Stop). y .refusal) f
 
           numbers : (x : Stage TextsFitted) → fitsNumbersOf (stopOf x .which) (stopOf x .place) (yesOrNo (fitOf x)) ≡ fitsAnswer fits-lent x .numbers
           numbers (passed t) = refl

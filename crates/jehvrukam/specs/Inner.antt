@@ -7,7 +7,7 @@ use lib.ListN.{length, replicate}
 use Rattle.model.specs.Bytes.{Bytes}
 use Rattle.eval.specs.declared.Answer as evaluating
 use Rattle.pipeline.specs.declared.check.Checked.{Checked}
-use Rattle.pipeline.specs.declared.text.Stop as texts
+use Rattle.pipeline.specs.declared.text.Stop as pipeline
 use Rattle.pipeline.specs.Areas.{TextAreas, zeroed}
 use Rattle.pipeline.specs.Laws.LongAreas.{ChecksLong}
 use Rattle.pipeline.specs.Texts.{evaluateCheckedStage}
@@ -47,13 +47,13 @@ abbrev pub told : Outcome → Numbers
 told o = numbersOf (o .which) (o .place) (o .steps) (o .size)
 
 -- A text that is refused before evaluation.
-abbrev pub unrun : texts.Stop → Outcome
+abbrev pub unrun : pipeline.Stop → Outcome
 unrun s = record { refusal = s .refusal; which = s .which; place = s .place; steps = 0; size = 0 }
 
 abbrev pub checkedTold : CheckedOutcome → CheckedNumbers
 checkedTold o = checkedNumbersOf (o .which) (o .place) (o .words) (yesOrNo (o .fits)) (o .steps) (o .size)
 
-abbrev pub checkedUnrun : texts.Stop → CheckedOutcome
+abbrev pub checkedUnrun : pipeline.Stop → CheckedOutcome
 checkedUnrun s = record { refusal = s .refusal; which = s .which; place = s .place; words = 0; fits = false; steps = 0; size = 0 }
 
 -- After evaluation: the types found and whether the record fits, with a refusal too.
