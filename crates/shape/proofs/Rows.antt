@@ -25,9 +25,10 @@ use Rattle.table.specs.declared.node.Node.the-variants.{Array}
 use Rattle.table.specs.declared.node.Rows.{Rows as RowsOf}
 use Rattle.table.specs.declared.row.Span.{Span}
 use Rattle.table.specs.Denotes.{Denotes, denotes-array, RowItems, no-row-items, row-item}
-use Rattle.table.specs.Node.{nodeAt, nextRow}
+use Rattle.table.specs.Laws.Every.{every-on}
+use Rattle.table.specs.Node.{nodeAt, nextRow, everyRow}
 use Rattle.table.specs.Strings.{bytesOf}
-use Rattle.shape.specs.Contract.{viewIsRule, shapeIsRule, everyRow, rulesBelow, ruleAt}
+use Rattle.shape.specs.Contract.{viewIsRule, shapeIsRule, rulesBelow, ruleAt}
 use Rattle.shape.specs.Inner.{RuleAt, AllRules}
 
 -- ---- the value in a row, by its shape
@@ -137,9 +138,7 @@ module _ {T B : Bytes} where
   -- By the first row and the others.
   rows-on : {row deep : ℕ} {b : Bool} (count : ℕ) (c : Bool) → 1 ≤ count → b ≡ c → RuleAt T B row deep b
       → (c && everyRow (ruleAt T B deep) T (nextRow T row) (count - 1)) ≡ everyRow (ruleAt T B deep) T row count
-  rows-on {row} {deep} count c l f a =
-      let n : count ≡ suc (count - 1) = omega arith in
-      ap (λ (t : Bool). t && everyRow (ruleAt T B deep) T (nextRow T row) (count - 1)) (sym f ∙ a .byRows) ∙ sym (ap (everyRow (ruleAt T B deep) T row) n)
+  rows-on {row} {deep} count c l f a = every-on (ruleAt T B deep) T row count l (sym f ∙ a .byRows)
 
   -- The first is no rule.
   pub rows-stop : {row count deep : ℕ} (b : Bool) → 1 ≤ count → b ≡ false → RuleAt T B row deep b → AllRows T B row count deep false

@@ -1,5 +1,5 @@
 -- Contract: what the shape check promises.
-use mathlib.Core.Bool.{Bool, true, false, _&&_}
+use mathlib.Core.Bool.{Bool, true, false}
 use mathlib.Core.Path.{_≡_}
 use Prim.Native.Nat.{ℕ, zero, suc, _≤_}
 use Rattle.model.specs.Bytes.{Bytes}
@@ -11,7 +11,7 @@ use Rattle.model.specs.Size.{nesting}
 use Rattle.model.specs.Value.{Value}
 use Rattle.table.specs.declared.node.Rows.{Rows}
 use Rattle.table.specs.Denotes.{Denotes}
-use Rattle.table.specs.Node.{nodeAt, nextRow}
+use Rattle.table.specs.Node.{nodeAt, everyRow}
 use Rattle.table.specs.Strings.{bytesOf}
 use Rattle.rule.specs.declared.view.Shape.{Shape}
 use Rattle.rule.specs.declared.view.Shape.the-variants.{NotRule, Rule}
@@ -38,11 +38,6 @@ viewIsRule B all (Apply op q) = all q
 abbrev pub shapeIsRule : Bytes → (Rows → Bool) → Shape → Bool
 shapeIsRule B all NotRule = false
 shapeIsRule B all (Rule w) = viewIsRule B all w
-
--- So many rows, from a row on.
-abbrev pub everyRow : (ℕ → Bool) → Bytes → ℕ → ℕ → Bool
-everyRow f T row zero = true
-everyRow f T row (suc n) = f row && everyRow f T (nextRow T row) n
 
 -- Whether all operands are rules, nested less deep than `deep`. With no nesting left no operation is seen, so that none is asked for.
 unfoldable pub rulesBelow : Bytes → Bytes → ℕ → Rows → Bool

@@ -3,7 +3,9 @@ use mathlib.Core.Path.{_≡_, refl, sym, ap, ap₂, _∙_}
 use mathlib.Core.Bool.{Bool, true, false, _||_, not, cond, or-assoc, or-false, or-comm}
 use mathlib.Core.List.{[], _∷_, _++_, append-nil}
 use mathlib.Core.Option.{Option, none, some}
-use Prim.Native.Nat.{_≤_}
+use Prim.Native.Nat.{suc, _-_, _≤_}
+use native.Mathlib.Omega.{arith}
+use borrow.Author.Tests.{ne-eqb}
 use Rattle.model.specs.Bytes.{Bytes}
 use Rattle.model.specs.Lists.{any}
 use Rattle.model.specs.Option.{_>>=_, when}
@@ -20,7 +22,7 @@ use Rattle.table.specs.declared.node.Rows.{Rows}
 use Rattle.table.specs.declared.row.Span.{Span}
 use Rattle.table.specs.Denotes.{Denotes, denotes-string, denotes-array}
 use Rattle.table.specs.Laws.Denotes.{ArrayParts}
-use Rattle.table.specs.Node.{nodeAt, tailOf}
+use Rattle.table.specs.Node.{nodeAt, nextRow, tailOf}
 use Rattle.table.specs.Strings.{bytesOf}
 use Rattle.type_set.specs.declared.set.TypeSet.{TypeSet}
 use Rattle.text_types.specs.declared.TypeAnswer.{TypeAnswer}
@@ -30,19 +32,20 @@ use Rattle.text_types.specs.Contract.{typeOf}
 use Rattle.type_set.specs.Contract.{setOf, typesIn}
 use Rattle.sheet.specs.declared.content.Content.{Content}
 use Rattle.sheet.specs.declared.content.Content.the-variants.{NotTypes, Types as Listed}
+use Rattle.sheet.specs.ByRows.{typeIn, withType, thenTypes, collectIn}
 use Rattle.sheet.specs.Contract.{contentOf, Contains}
-use Rattle.sheet.specs.Inner.{NamesType, withType, joined, Collects, ListsWords}
-use Rattle.sheet.proofs.Nodes.{NoString, NoArray, no-string, no-array}
+use Rattle.sheet.specs.Inner.{NamesType, joined, Collects, ListsWords}
+use Rattle.sheet.proofs.Nodes.{NoString, NoArray, no-string, no-array, names-no-type, lists-no-types}
 
 -- ---- the type that an item names
 pub string-names : {Z : Bytes} {s : Span} {r : TypeAnswer} → typeOf r ≡ typeNamed (bytesOf Z s) → NamesType Z (String s) r
-string-names {Z} {s} {r} e = record { is = λ S. go }
+string-names {Z} {s} {r} e = record { byRows = e; is = λ S. go }
   where
     go : {S : Bytes} (v : Value) → Denotes S Z v (String s) → typeOf r ≡ (asString v >>= typeNamed)
     go v (denotes-string l) = e ∙ ap typeNamed (sym (l .is))
 
 pub names-none : {Z : Bytes} (n : Node) → NoString n → NamesType Z n Unknown
-names-none {Z} n k = record { is = λ S. go }
+names-none {Z} n k = record { byRows = names-no-type Z n k; is = λ S. go }
   where
     go : {S : Bytes} (v : Value) → Denotes S Z v n → none ≡ (asString v >>= typeNamed)
     go (scalar null) d = refl
@@ -87,11 +90,6 @@ set-more s a ts =
     })
 
 -- ---- the types of a set and of the items that follow
--- What follows from the set, if there is one.
-abbrev thenTypes : Content → (TypeSet → Content) → Content
-thenTypes NotTypes f = NotTypes
-thenTypes (Listed s) f = f s
-
 -- The types of a first item, if it names one, and of those that follow.
 abbrev first-and : Option Ty → Option Types → Option Types
 first-and o later = o >>= (λ a. later >>= (λ ts. when (not (isIn ts a)) (some (a ∷ ts))))
@@ -125,9 +123,17 @@ bind-on : {A B C : Type 0} (o : Option A) (f : A → Option B) (g : B → Option
 bind-on none f g = refl
 bind-on (some a) f g = refl
 
+-- By the first row and the others.
+first-row : (S Z : Bytes) (s : TypeSet) (q : Rows) {n : Node} {a : TypeAnswer} {c : Content} → 1 ≤ q .count → n ≡ nodeAt S (q .first) → NamesType Z n a → c ≡ withType s (typeOf a)
+    → thenTypes c (λ t. collectIn S Z t (nextRow S (q .first)) (q .count - 1)) ≡ collectIn S Z s (q .first) (q .count)
+first-row S Z s q l i x e =
+    let m : q .count ≡ suc (q .count - 1) = omega arith in
+    ap (λ (x : Content). thenTypes x (λ t. collectIn S Z t (nextRow S (q .first)) (q .count - 1))) (e ∙ ap (withType s) (x .byRows ∙ ap (typeIn Z) i))
+    ∙ sym (ap (collectIn S Z s (q .first)) m)
+
 module _ {S Z : Bytes} (s : TypeSet) {q : Rows} where
   pub collect-end : q .count ≡ 0 → Collects S Z s q (Listed s)
-  collect-end e = record { is = no-item (λ vs. Listed s ≡ joined s (typesOf vs)) e (ap Listed (sym (set-of-types s) ∙ ap setOf (sym (append-nil (typesIn s))))) }
+  collect-end e = record { byRows = rw e; is = no-item (λ vs. Listed s ≡ joined s (typesOf vs)) e (ap Listed (sym (set-of-types s) ∙ ap setOf (sym (append-nil (typesIn s))))) }
 
   module _ (more-items : 1 ≤ q .count) {n : Node} {a : TypeAnswer} {c : Content} (is-node : n ≡ nodeAt S (q .first)) (is-type : NamesType Z n a) (is-set : c ≡ withType s (typeOf a)) where
     first-word : (v : Value) (vs : Values) → ArrayParts S Z v vs q → thenTypes c (λ t. joined t (typesOf vs)) ≡ joined s (typesOf (item v vs))
@@ -138,10 +144,10 @@ module _ {S Z : Bytes} (s : TypeSet) {q : Rows} where
         ∙ ap (joined s) (bind-on (asString v) typeNamed (λ k. first-and (some k) (typesOf vs)))
 
     pub collect-stops : c ≡ NotTypes → Collects S Z s q NotTypes
-    collect-stops e = record { is = some-item (λ vs. NotTypes ≡ joined s (typesOf vs)) more-items (λ v vs p. rw e at (first-word v vs p)) }
+    collect-stops e = record { byRows = rw e at (first-row S Z s q more-items is-node is-type is-set); is = some-item (λ vs. NotTypes ≡ joined s (typesOf vs)) more-items (λ v vs p. rw e at (first-word v vs p)) }
 
     pub collect-on : {t : Rows} (next : TypeSet) → c ≡ Listed next → t ≡ tailOf S q → (r : Content) → Collects S Z next t r → Collects S Z s q r
-    collect-on next e f r x = record { is = some-item (λ vs. r ≡ joined s (typesOf vs)) more-items (λ v vs p. x .is vs (rw f (p .rest)) ∙ rw e at (first-word v vs p)) }
+    collect-on next e f r x = record { byRows = rw f at (x .byRows) ∙ rw e at (first-row S Z s q more-items is-node is-type is-set); is = some-item (λ vs. r ≡ joined s (typesOf vs)) more-items (λ v vs p. x .is vs (rw f (p .rest)) ∙ rw e at (first-word v vs p)) }
 
 -- ---- none, or some
 none-in : (ts : Types) → any (isIn []) ts ≡ false
@@ -170,23 +176,23 @@ some-types v vs = go (asString v)
 
 module _ {S Z : Bytes} {q : Rows} where
   pub no-words : q .count ≡ 0 → ListsWords S Z q NotTypes
-  no-words e = record { is = no-item (λ vs. NotTypes ≡ contentOf (contentTypes (array vs))) e refl }
+  no-words e = record { byRows = rw e; is = no-item (λ vs. NotTypes ≡ contentOf (contentTypes (array vs))) e refl }
 
   pub some-words : {r : Content} → 1 ≤ q .count → Collects S Z (setOf []) q r → ListsWords S Z q r
-  some-words {r} l x = record { is = λ vs d. some-item (λ vs. r ≡ joined (setOf []) (typesOf vs) → r ≡ contentOf (contentTypes (array vs))) l go vs d (x .is vs d) }
+  some-words {r} l x = record { byRows = rw (ne-eqb (q .count) 0 (λ e. omega arith)) (x .byRows); is = λ vs d. some-item (λ vs. r ≡ joined (setOf []) (typesOf vs) → r ≡ contentOf (contentTypes (array vs))) l go vs d (x .is vs d) }
     where
       go : (v : Value) (vs : Values) → ArrayParts S Z v vs q → r ≡ joined (setOf []) (typesOf (item v vs)) → r ≡ contentOf (contentTypes (array (item v vs)))
       go v vs p e = e ∙ joined-none (typesOf (item v vs)) ∙ ap contentOf (sym (some-types v vs))
 
   pub words-content : {r : Content} → ListsWords S Z q r → Contains S Z (Array q) r
-  words-content {r} x = record { is = go }
+  words-content {r} x = record { byRows = x .byRows; is = go }
     where
       go : (v : Value) → Denotes S Z v (Array q) → r ≡ contentOf (contentTypes v)
       go v (denotes-array {vs = vs} c m d) = x .is vs (denotes-array c m d)
 
 -- Only an array lists types.
 pub no-content : {S Z : Bytes} (n : Node) → NoArray n → Contains S Z n NotTypes
-no-content {S} {Z} n k = record { is = go }
+no-content {S} {Z} n k = record { byRows = lists-no-types S Z n k; is = go }
   where
     go : (v : Value) → Denotes S Z v n → NotTypes ≡ contentOf (contentTypes v)
     go (scalar x) d = refl

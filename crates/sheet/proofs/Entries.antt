@@ -18,8 +18,9 @@ use Rattle.table.specs.Denotes.{Denotes}
 use Rattle.table.specs.Node.{nodeAt}
 use Rattle.type_set.specs.declared.set.TypeSet.{TypeSet}
 use Rattle.sheet.specs.declared.content.Content.{Content}
+use Rattle.sheet.specs.ByRows.{contentIn, typesListed}
 use Rattle.sheet.specs.Contract.{contentOf, Contains, HoldsSheet}
-use Rattle.sheet.specs.Inner.{typesListed, ListsTypes}
+use Rattle.sheet.specs.Inner.{ListsTypes}
 use Rattle.sheet.proofs.Checking.{no-sheet}
 use Rattle.sheet.proofs.Nodes.{NoObject}
 
@@ -80,4 +81,4 @@ split name v ms s e =
 
 -- The types of the member in a row.
 pub lists-types : {S Z : Bytes} {row : ℕ} {n : Node} {c : Content} {r : TypeSet} → n ≡ nodeAt S row → Contains S Z n c → r ≡ typesListed c → ListsTypes S Z row r
-lists-types i x e = record { is = λ v ts d f. e ∙ ap typesListed (x .is v (rw i d) ∙ ap contentOf f) }
+lists-types {S} {Z} i x e = record { byRows = e ∙ ap typesListed (x .byRows ∙ ap (contentIn S Z) i); is = λ v ts d f. e ∙ ap typesListed (x .is v (rw i d) ∙ ap contentOf f) }

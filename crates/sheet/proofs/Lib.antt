@@ -1,5 +1,6 @@
 -- Laws for the proofs of sheet.
 pub mod Nodes
+pub mod Rows
 pub mod Contents
 pub mod Paths
 pub mod Checking

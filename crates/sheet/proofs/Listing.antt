@@ -2,7 +2,8 @@
 use mathlib.Core.Path.{_≡_, refl, sym, ap, _∙_}
 use mathlib.Core.Bool.{Bool, true, false, cond}
 use mathlib.Core.Option.{some}
-use Prim.Native.Nat.{_≤_}
+use Prim.Native.Nat.{suc, _-_, _≤_}
+use native.Mathlib.Omega.{arith}
 use Rattle.model.specs.Bytes.{Bytes, sameBytes}
 use Rattle.model.specs.Lists.{find}
 use Rattle.model.specs.Option.{orElse}
@@ -16,14 +17,15 @@ use Rattle.table.specs.declared.node.Node.{Node}
 use Rattle.table.specs.declared.node.Node.the-variants.{Object}
 use Rattle.table.specs.declared.node.Rows.{Rows}
 use Rattle.table.specs.Laws.Denotes.{ObjectParts}
-use Rattle.table.specs.Node.{nodeAt, nameAt, tailOf}
+use Rattle.table.specs.Node.{nodeAt, nextRow, nameAt, tailOf}
 use Rattle.table.specs.Strings.{bytesOf}
 use Rattle.type_set.specs.declared.set.TypeSet.{TypeSet}
 use Rattle.type_set.specs.Contract.{setOf}
+use Rattle.sheet.specs.ByRows.{nameIn, typesAt, typesAmong, listedFor}
 use Rattle.sheet.specs.Contract.{ListsFor}
 use Rattle.sheet.specs.Inner.{ListsTypes, ListsAmong}
 use Rattle.sheet.proofs.Entries.{made, not-made, no-entries, Split, split}
-use Rattle.sheet.proofs.Nodes.{NoObject}
+use Rattle.sheet.proofs.Nodes.{NoObject, of-other}
 use Rattle.sheet.proofs.Paths.{same-texts}
 
 -- ---- the first entry, or a later one
@@ -39,12 +41,19 @@ first-listed t name v ms s q e x =
     ∙ either (sameBytes t name) q (x .types) (x .later)
 
 -- ---- the loop
+-- By the first row's name, and the other rows.
+first-row : (S Z t : Bytes) (q : Rows) {b : Bool} → 1 ≤ q .count → b ≡ sameBytes t (nameIn S Z (q .first))
+    → cond b (typesAt S Z (q .first)) (typesAmong S Z t (nextRow S (q .first)) (q .count - 1)) ≡ typesAmong S Z t (q .first) (q .count)
+first-row S Z t q l e =
+    let m : q .count ≡ suc (q .count - 1) = omega arith in
+    ap (λ (x : Bool). cond x (typesAt S Z (q .first)) (typesAmong S Z t (nextRow S (q .first)) (q .count - 1))) e ∙ sym (ap (typesAmong S Z t (q .first)) m)
+
 abbrev Lists : Bytes → TypeSet → Members → Type 0
 Lists t r ms = (s : Sheet) (q : Path) → entriesOf ms ≡ some s → pathOf t ≡ some q → r ≡ setOf (varTypes (outside s) q)
 
 module _ {S Z : Bytes} (t : Bytes) {q : Rows} where
   pub none-listed : {r : TypeSet} → q .count ≡ 0 → r ≡ setOf anyOfRecord → ListsAmong S Z t q r
-  none-listed {r} n e = record { is = no-member (Lists t r) n (λ s p f g. e ∙ ap (λ (z : Sheet). setOf (varTypes (outside z) p)) (no-entries s f)) }
+  none-listed {r} n e = record { byRows = rw n e; is = no-member (Lists t r) n (λ s p f g. e ∙ ap (λ (z : Sheet). setOf (varTypes (outside z) p)) (no-entries s f)) }
 
   module _ (more : 1 ≤ q .count) {b : Bool} {name : Bytes} (is-test : b ≡ sameBytes t name) (is-name : name ≡ bytesOf Z (nameAt S (q .first))) where
     -- What is listed, by whether the first entry's path is this one.
@@ -56,6 +65,7 @@ module _ {S Z : Bytes} (t : Bytes) {q : Rows} where
 
     pub path-listed : {r : TypeSet} → b ≡ true → ListsTypes S Z (q .first) r → ListsAmong S Z t q r
     path-listed {r} e x = record {
+      byRows = x .byRows ∙ rw e at (first-row S Z t q more (is-test ∙ ap (sameBytes t) is-name));
       is = some-member (Lists t r) more (λ n v ms y s p f g.
           let z = split n v ms s f in
           x .is v (z .types) (y .head) (z .is-types) ∙ ap setOf (sym (rw e at (first-entry n v ms y s p g z))));
@@ -63,6 +73,7 @@ module _ {S Z : Bytes} (t : Bytes) {q : Rows} where
 
     pub listed-on : {u : Rows} → b ≡ false → u ≡ tailOf S q → (r : TypeSet) → ListsAmong S Z t u r → ListsAmong S Z t q r
     listed-on e i r x = record {
+      byRows = rw i at (x .byRows) ∙ rw e at (first-row S Z t q more (is-test ∙ ap (sameBytes t) is-name));
       is = some-member (Lists t r) more (λ n v ms y s p f g.
           let z = split n v ms s f in
           x .is ms (rw i (y .rest)) (z .later) p (z .is-later) g ∙ ap setOf (sym (rw e at (first-entry n v ms y s p g z))));
@@ -70,8 +81,8 @@ module _ {S Z : Bytes} (t : Bytes) {q : Rows} where
 
 -- ---- the whole sheet
 module _ {S Z t : Bytes} {n : Node} {r : TypeSet} (loaded : n ≡ nodeAt S 0) where
-  pub lists-nothing : NoObject n → ListsFor S Z t r
-  lists-nothing k = record { is = λ s p holds e. not-made holds loaded k }
+  pub lists-nothing : NoObject n → r ≡ setOf anyOfRecord → ListsFor S Z t r
+  lists-nothing k e = record { byRows = e ∙ of-other (setOf anyOfRecord) (λ q. typesAmong S Z t (q .first) (q .count)) n k ∙ ap (listedFor S Z t) loaded; is = λ s p holds e. not-made holds loaded k }
 
   pub lists-for : {q : Rows} → n ≡ Object q → ListsAmong S Z t q r → ListsFor S Z t r
-  lists-for e x = record { is = λ s p holds f. let y = made holds loaded e in x .is (y .all) (y .denotes) s p (y .entries) f }
+  lists-for e x = record { byRows = x .byRows ∙ ap (listedFor S Z t) (sym e ∙ loaded); is = λ s p holds f. let y = made holds loaded e in x .is (y .all) (y .denotes) s p (y .entries) f }

@@ -1,3 +1,4 @@
 -- A sheet where it was read.
+pub mod ByRows
 pub mod Contract
 pub mod Inner

@@ -15,8 +15,9 @@ use text_types::is_date;
 use text_types::is_day;
 use type_set::set::TypeSet;
 ghost use mathlib.Core.Path.{_≡_};
+ghost use Rattle.sheet.specs.ByRows.{kindOf, stringBelongs};
 ghost use Rattle.sheet.specs.Contract.{Belongs};
-ghost use Rattle.sheet.specs.Inner.{kindOf, AllOfKind, stringBelongs, ArrayBelongs};
+ghost use Rattle.sheet.specs.Inner.{AllOfKind, ArrayBelongs};
 
 // The kind of a value's row.
 fn kind_of(n: Node) -> usize

@@ -12,8 +12,9 @@ use table::string::bytes_of;
 ghost use mathlib.Core.Path.{_≡_};
 ghost use Rattle.model.specs.Option.{isSome};
 ghost use Rattle.model.specs.Sheet.{entryPath};
+ghost use Rattle.sheet.specs.ByRows.{isListed};
 ghost use Rattle.sheet.specs.Contract.{ChecksSheet};
-ghost use Rattle.sheet.specs.Inner.{isListed, ChecksEntry, ChecksEntries, ChecksObject};
+ghost use Rattle.sheet.specs.Inner.{ChecksEntry, ChecksEntries, ChecksObject};
 
 // "Each name is a non-empty `var` path"
 fn is_listed_path(text: &[u8]) -> bool

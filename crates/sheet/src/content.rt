@@ -15,8 +15,9 @@ ghost use mathlib.Core.List.{[]};
 ghost use mathlib.Core.Path.{_≡_};
 ghost use Rattle.text_types.specs.Contract.{typeOf};
 ghost use Rattle.type_set.specs.Contract.{setOf};
+ghost use Rattle.sheet.specs.ByRows.{withType};
 ghost use Rattle.sheet.specs.Contract.{Contains};
-ghost use Rattle.sheet.specs.Inner.{NamesType, withType, Collects, ListsWords};
+ghost use Rattle.sheet.specs.Inner.{NamesType, Collects, ListsWords};
 
 // A set of types, or that a content is none.
 pub enum Content {

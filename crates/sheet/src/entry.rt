@@ -5,7 +5,8 @@ use table::node::node_at;
 use type_set::set::TypeSet;
 use type_set::set::none;
 ghost use mathlib.Core.Path.{_≡_};
-ghost use Rattle.sheet.specs.Inner.{typesListed, ListsTypes};
+ghost use Rattle.sheet.specs.ByRows.{typesListed};
+ghost use Rattle.sheet.specs.Inner.{ListsTypes};
 
 // The types of a content; none where it lists none.
 fn types_of(c: Content) -> TypeSet

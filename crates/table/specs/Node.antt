@@ -1,6 +1,6 @@
 -- Node: the value in a row of a table, its name, and the row after it (docs/LAYOUT.md).
-use mathlib.Core.Bool.{cond}
-use Prim.Native.Nat.{ℕ, _+_, _-_, _/_}
+use mathlib.Core.Bool.{Bool, true, _&&_, cond}
+use Prim.Native.Nat.{ℕ, zero, suc, _+_, _-_, _/_}
 use lib.Dec.{eqb, ltb}
 use lib.ListN.{length}
 use Rattle.model.specs.Bytes.{Bytes}
@@ -44,3 +44,8 @@ nameAt T i = rowAt T i .name
 -- The values after the first.
 abbrev pub tailOf : Bytes → Rows → Rows
 tailOf T q = rows (nextRow T (q .first)) (q .count - 1)
+
+-- A test of so many values, one after the other, from a row on.
+abbrev pub everyRow : (ℕ → Bool) → Bytes → ℕ → ℕ → Bool
+everyRow f T row zero = true
+everyRow f T row (suc n) = f row && everyRow f T (nextRow T row) n

@@ -2,6 +2,7 @@
 pub mod Paths
 pub mod Operations
 pub mod Operand
+pub mod Rows
 pub mod All
 pub mod Three
 pub mod Views

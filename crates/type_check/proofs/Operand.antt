@@ -12,7 +12,8 @@ use Rattle.type_set.specs.Contract.{setOf}
 use Rattle.type_check.specs.declared.env.Scope.{Scope}
 use Rattle.type_check.specs.declared.found.Found.{Found}
 use Rattle.type_check.specs.declared.found.Found.the-variants.{NotAccepted, Types as Accepted}
-use Rattle.type_check.specs.Inner.{Stands, acceptedAs, Finds}
+use Rattle.type_check.specs.ByRows.{acceptedAs}
+use Rattle.type_check.specs.Inner.{Stands, Finds}
 
 -- Types are found: the rule is accepted, and they are its own.
 pub record Accepts (ρ : Rule) (e : ModelEnv) (t : TypeSet) : Type 0 where

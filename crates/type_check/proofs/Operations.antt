@@ -18,7 +18,8 @@ use Rattle.type_set.specs.Contract.{setOf, typesIn}
 use Rattle.type_set.specs.Laws.Set.{union-set, passes-set}
 use Rattle.type_check.specs.declared.found.Found.the-variants.{Types as Accepted}
 use Rattle.type_check.specs.declared.operation.Operands.{Operands}
-use Rattle.type_check.specs.Inner.{acceptedAs, foundBy, allFoundBy, passAs, passingAs, arrayBy, memberBy, allOf, noOperands, oneMore, operandsAfter, branchesBy, andBy, operationOn, operationBy}
+use Rattle.type_check.specs.ByRows.{acceptedAs, passAs, passingAs, arrayBy, memberBy, allOf, noOperands, oneMore, branchesBy, andBy, operationOn, operationBy}
+use Rattle.type_check.specs.Inner.{foundBy, allFoundBy, operandsAfter}
 
 -- ---- the types of operands
 -- The operands with these types.

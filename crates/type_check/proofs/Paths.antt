@@ -2,7 +2,7 @@
 use mathlib.Core.Bool.{Bool, true, false, cond}
 use mathlib.Core.List.{[], _∷_}
 use mathlib.Core.Option.{some}
-use mathlib.Core.Path.{_≡_, refl, _∙_}
+use mathlib.Core.Path.{_≡_, refl, sym, ap, _∙_}
 use Prim.Native.Nat.{ℕ, _+_, _-_, _≤_}
 use native.Mathlib.Omega.{arith}
 use borrow.Author.Tests.{eq-eqb, ne-eqb}
@@ -24,7 +24,8 @@ use Rattle.type_set.specs.declared.set.TypeSet.{TypeSet}
 use Rattle.type_set.specs.Contract.{setOf}
 use Rattle.type_check.specs.declared.env.Env.{Env}
 use Rattle.type_check.specs.declared.env.Env.the-variants.{Outside, Lambda}
-use Rattle.type_check.specs.Inner.{Stands, stands-outside, stands-in-lambda, VarTypes, partBy, firstBy, lambdaBy}
+use Rattle.type_check.specs.ByRows.{partBy, firstBy, lambdaBy, varBy}
+use Rattle.type_check.specs.Inner.{Stands, stands-outside, stands-in-lambda, VarTypes}
 
 -- ---- the first fragment, and the others
 -- Where the first one ends.
@@ -93,14 +94,14 @@ lambda-is (x ∷ s) q cur acc e =
 -- ---- a variable
 module _ {S Z p : Bytes} {env : Env} {r : TypeSet} where
   pub var-outside : env ≡ Outside → ListsFor S Z p r → VarTypes S Z p env r
-  var-outside e l = record { is = λ m q s h. go e m q s h }
+  var-outside e l = record { byRows = l .byRows ∙ ap (varBy S Z p) (sym e); is = λ m q s h. go e m q s h }
     where
       go : {env : Env} → env ≡ Outside → (m : ModelEnv) (q : Path) → Stands S Z env m → pathOf p ≡ some q → r ≡ setOf (varTypes m q)
       go e m q (stands-outside {s = sheet} k) h = l .is sheet q k h
       go e m q (stands-in-lambda c a) h = clash cc
 
   pub var-in-lambda : {c a : TypeSet} → env ≡ Lambda c a → r ≡ lambdaBy p c a → VarTypes S Z p env r
-  var-in-lambda {c} {a} e l = record { is = λ m q s h. go e m q s h }
+  var-in-lambda {c} {a} e l = record { byRows = l ∙ ap (varBy S Z p) (sym e); is = λ m q s h. go e m q s h }
     where
       go : {env : Env} → env ≡ Lambda c a → (m : ModelEnv) (q : Path) → Stands S Z env m → pathOf p ≡ some q → r ≡ setOf (varTypes m q)
       go e m q (stands-outside k) h = clash cc

@@ -24,6 +24,7 @@ use type_set::set::items_of;
 use type_set::set::only;
 use type_set::set::passes;
 ghost use Rattle.model.specs.Rule.{if, reduce};
+ghost use Rattle.type_check.specs.ByRows.{ifBy, reduceBy};
 ghost use Rattle.type_check.specs.Contract.{Checks};
 ghost use Rattle.type_check.specs.Inner.{Finds, FindsThree, FindsAll};
 
@@ -99,7 +100,7 @@ fn find_if(
     q: Rows,
     s: Scope,
 ) -> Found
-    ensures { λ r. ⌜ FindsThree if (now («rule_table» .entry)) (now («rule_strings» .entry)) (now («sheet_table» .entry)) (now («sheet_strings» .entry)) q s r ⌝ }
+    ensures { λ r. ⌜ FindsThree if ifBy (now («rule_table» .entry)) (now («rule_strings» .entry)) (now («sheet_table» .entry)) (now («sheet_strings» .entry)) q s r ⌝ }
 {
     let row = q.first;
     let guard = find(rule_table, rule_strings, sheet_table, sheet_strings, row, s);
@@ -119,7 +120,7 @@ fn find_reduce(
     q: Rows,
     s: Scope,
 ) -> Found
-    ensures { λ r. ⌜ FindsThree reduce (now («rule_table» .entry)) (now («rule_strings» .entry)) (now («sheet_table» .entry)) (now («sheet_strings» .entry)) q s r ⌝ }
+    ensures { λ r. ⌜ FindsThree reduce reduceBy (now («rule_table» .entry)) (now («rule_strings» .entry)) (now («sheet_table» .entry)) (now («sheet_strings» .entry)) q s r ⌝ }
 {
     let row = q.first;
     let found = find(rule_table, rule_strings, sheet_table, sheet_strings, row, s);

@@ -8,7 +8,8 @@ use type_set::set::any_value;
 use type_set::set::only;
 ghost use mathlib.Core.Path.{_≡_};
 ghost use Prim.Native.Nat.{_≤_};
-ghost use Rattle.type_check.specs.Inner.{innerOf, partBy, lambdaBy, VarTypes};
+ghost use Rattle.type_check.specs.ByRows.{partBy, lambdaBy};
+ghost use Rattle.type_check.specs.Inner.{innerOf, VarTypes};
 
 // Outside every lambda, or in one: the types of `current`, and of `accumulator`.
 pub enum Env {

@@ -18,7 +18,7 @@ ghost use mathlib.Core.Path.{_≡_};
 ghost use Rattle.model.specs.TypeCheck.{domainType};
 ghost use Rattle.model.specs.declared.Ty.the-variants.{Null, String};
 ghost use Rattle.type_set.specs.Contract.{setOf};
-ghost use Rattle.type_check.specs.Inner.{literalBy, acceptedAs, allOf, noOperands, oneMore, passesAs, memberBy, arrayBy, branchesBy, andBy, operationBy};
+ghost use Rattle.type_check.specs.ByRows.{literalBy, acceptedAs, allOf, noOperands, oneMore, passesAs, memberBy, arrayBy, branchesBy, andBy, operationBy};
 
 // The types of some operands: those that any but the last has, and the last's.
 pub struct Operands {

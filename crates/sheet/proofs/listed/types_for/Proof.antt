@@ -13,7 +13,7 @@ any-of-record-requires : tie.Need-any-of-record-requires
 any-of-record-requires c κs = search needs
 
 returns : tie.Need-returns
-returns c = lists-nothing (c .before .before .node-at .ensures) (c .before .match .keys2)
+returns c = lists-nothing (c .before .before .node-at .ensures) (c .before .match .keys2) (c .any-of-record .ensures)
 
 types-among-requires : tie.Need-types-among-requires
 types-among-requires c κs = search needs
