@@ -4,5 +4,6 @@ pub mod Bits
 pub mod Trie
 pub mod Slots
 pub mod Contract
+pub mod Table
 pub mod Inner
 pub mod Laws

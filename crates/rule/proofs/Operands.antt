@@ -226,7 +226,7 @@ module _ {T B : Bytes} where
   bare : {a b : Value} {vs : Values} {q : Rows} → Denotes T B (array (item a (item b vs))) (Array q) → Bare T B a b vs q
   unfolding itemCount
   bare {a} {q = q} (denotes-array e f (row-item l t m (row-item l′ t′ m′ r))) = record {
-    only = denotes-array {vs = item a no-items} {q = firstOf q} refl (omega (arith, two-values)) (row-item {vs = no-items} l t m (no-row-items {row = nextRow T (q .first)} l′));
+    only = denotes-array {vs = item a no-items} {q = firstOf q} refl (omega (arith, two-values)) (row-item {vs = no-items} l t m (no-row-items {row = nextRow T (q .first)} (omega arith)));
     second = m′;
     rest = r;
   }

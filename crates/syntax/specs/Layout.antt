@@ -5,7 +5,7 @@ use mathlib.Core.List.{[], _∷_, _++_}
 use Prim.Native.Nat.{ℕ, suc, _+_, _*_, _-_, _/_, _%_}
 use lib.Dec.{leb}
 use lib.IntN.{ℤ, pos, negsuc}
-use lib.ListN.{length, replicate}
+use lib.ListN.{length, replicate, take}
 use Rattle.area.specs.Words.{word}
 use Rattle.model.specs.Bytes.{Bytes}
 use Rattle.model.specs.Limits.{maxTextBytes, maxValues}
@@ -103,6 +103,10 @@ unfoldable mutual
 -- Bytes at the start of an area of n bytes, and zeros after them.
 unfoldable pub padded : ℕ → Bytes → Bytes
 padded n bs = bs ++ replicate (n - length bs) 0
+
+-- The rows of a table, without what lies behind them: work room during a call, zero afterwards.
+unfoldable pub rowsPart : Bytes → Bytes
+rowsPart T = take (maxValues * rowBytes) T
 
 abbrev pub tableOf : Value → ℕ → Bytes
 tableOf v n = padded n (rowsOf v 0 0 unnamed)

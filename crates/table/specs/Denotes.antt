@@ -36,10 +36,10 @@ mutual
   -- The items of an array, from a row on.
   pub data RowItems (T B : Bytes) : ℕ → Values → Type 0 where
     no-row-items : {row : ℕ} → row ≤ maxValues → RowItems T B row no-items
-    row-item : {row : ℕ} {v : Value} {vs : Values} → row ≤ maxValues → row < length T / rowBytes → Denotes T B v (nodeAt T row) → RowItems T B (nextRow T row) vs → RowItems T B row (item v vs)
+    row-item : {row : ℕ} {v : Value} {vs : Values} → row < maxValues → row < length T / rowBytes → Denotes T B v (nodeAt T row) → RowItems T B (nextRow T row) vs → RowItems T B row (item v vs)
 
   -- The members of an object.
   pub data RowMembers (T B : Bytes) : ℕ → Members → Type 0 where
     no-row-members : {row : ℕ} → row ≤ maxValues → RowMembers T B row no-members
-    row-member : {row : ℕ} {n : Bytes} {v : Value} {ms : Members} → row ≤ maxValues → row < length T / rowBytes → n ≡ bytesOf B (nameAt T row) → Denotes T B v (nodeAt T row)
+    row-member : {row : ℕ} {n : Bytes} {v : Value} {ms : Members} → row < maxValues → row < length T / rowBytes → n ≡ bytesOf B (nameAt T row) → Denotes T B v (nodeAt T row)
         → RowMembers T B (nextRow T row) ms → RowMembers T B row (member n v ms)

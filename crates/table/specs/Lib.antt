@@ -3,6 +3,8 @@ pub mod Row
 pub mod Node
 pub mod Strings
 pub mod Denotes
+pub mod WasRead
+pub mod Placed
 pub mod Contract
 pub mod Main
 pub mod Laws

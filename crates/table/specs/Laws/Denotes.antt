@@ -48,7 +48,7 @@ module _ {T B : Bytes} where
 -- ---- parts
 -- The first item and the others.
 pub record ArrayParts (T B : Bytes) (v : Value) (vs : Values) (q : Rows) : Type 0 where
-  pub inside : q .first ≤ maxValues
+  pub inside : q .first < maxValues
   pub head : Denotes T B v (nodeAt T (q .first))
   pub rest : Denotes T B (array vs) (Array (tailOf T q))
 
@@ -76,8 +76,8 @@ module _ {T B : Bytes} {q : Rows} where
 -- ---- rows are those of a text
 pub items-row : {T B : Bytes} {row : ℕ} {vs : Values} → RowItems T B row vs → row ≤ maxValues
 items-row (no-row-items b) = b
-items-row (row-item b t m r) = b
+items-row (row-item b t m r) = omega arith
 
 pub members-row : {T B : Bytes} {row : ℕ} {ms : Members} → RowMembers T B row ms → row ≤ maxValues
 members-row (no-row-members b) = b
-members-row (row-member b t n m r) = b
+members-row (row-member b t n m r) = omega arith

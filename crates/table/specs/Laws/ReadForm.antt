@@ -164,7 +164,7 @@ module _ (T B : Bytes) where
         let l = length-append (stringsOf v) (itemStrings vs) in
         let r = value-read v i used unnamed (and-l (bounded v) _ w) (and-l (instantFree v) _ c) (omega arith) (omega arith) unnamed-short
         (front rows others s) (front (stringsOf v) (itemStrings vs) b) in
-        row-item {row = i} {vs = vs} (omega arith) (there i (valueCount v) rows others s (length-rows v i used unnamed) (count-positive v)) (r .denotes)
+        row-item {row = i} {vs = vs} (omega (arith, count-positive v)) (there i (valueCount v) rows others s (length-rows v i used unnamed) (count-positive v)) (r .denotes)
         (rw (r .next)
         (items-read vs (i + valueCount v) (used + length (stringsOf v)) (and-r (bounded v) _ w) (and-r (instantFree v) _ c) (omega arith) (omega arith)
         (behind i (valueCount v) rows others s (length-rows v i used unnamed)) (back (stringsOf v) (itemStrings vs) b)))
@@ -181,7 +181,7 @@ module _ (T B : Bytes) where
         let b′ = back n (stringsOf v ++ memberStrings ms) b in
         let r = value-read v i (used + length n) name (and-l (bounded v) _ w) (and-l (instantFree v) _ c) (omega arith) (omega arith) (record { start-short = omega arith; size-short = omega arith })
         (front rows others s) (front (stringsOf v) (memberStrings ms) b′) in
-        row-member {row = i} {n = n} {ms = ms} (omega arith) (there i (valueCount v) rows others s (length-rows v i (used + length n) name) (count-positive v)) (rw (r .label) (part-stands n (front n (stringsOf v ++ memberStrings ms) b))) (r .denotes)
+        row-member {row = i} {n = n} {ms = ms} (omega (arith, count-positive v)) (there i (valueCount v) rows others s (length-rows v i (used + length n) name) (count-positive v)) (rw (r .label) (part-stands n (front n (stringsOf v ++ memberStrings ms) b))) (r .denotes)
         (rw (r .next)
         (members-read ms (i + valueCount v) (used + length n + length (stringsOf v)) (and-r (bounded v) _ w) (and-r (instantFree v) _ c) (omega arith) (omega arith)
         (behind i (valueCount v) rows others s (length-rows v i (used + length n) name)) (back (stringsOf v) (memberStrings ms) b′)))
