@@ -2,3 +2,6 @@
 pub mod Denotes
 pub mod Every
 pub mod ReadForm
+pub mod WasRead
+pub mod Standing
+pub mod Inside
