@@ -5,3 +5,4 @@ pub mod ReadForm
 pub mod WasRead
 pub mod Standing
 pub mod Inside
+pub mod Placed
