@@ -1,31 +1,17 @@
 -- Inside: each row of a value holds the value itself or a part of it, at any depth.
 use mathlib.Core.Path.{_≡_, refl, sym, subst}
 use mathlib.Core.Bool.{Bool, true, false}
-use Prim.Native.Nat.{ℕ, suc, _+_, _≤_, _<_}
+use Prim.Native.Nat.{ℕ, _+_, _≤_, _<_}
 use native.Mathlib.Omega.{arith}
 use borrow.Author.Tests.{ltb-true, ltb-false}
 use lib.Dec.{ltb}
 use Rattle.model.specs.Bytes.{Bytes}
 use Rattle.model.specs.Size.{valueCount, itemsCount, membersCount}
 use Rattle.model.specs.Value.{Value, scalar, instant, array, object, Values, no-items, item, Members, no-members, member}
+use Rattle.table.specs.Part.{Part, here, in-array, in-object, PartOfItems, in-item, later-item, PartOfMembers, in-member, later-member}
 use Rattle.table.specs.Laws.Standing.{Standing, StandingItems, StandingMembers, array-items, object-members, item-first, item-rest, member-first, member-rest}
 
 -- ---- parts
--- The value w, at row r, is the value at row i itself, or in an item or member of it.
-mutual
-  pub data Part (r : ℕ) (w : Value) : ℕ → Value → Type 0 where
-    here : {i : ℕ} {v : Value} → r ≡ i → w ≡ v → Part r w i v
-    in-array : {i : ℕ} {vs : Values} → PartOfItems r w (i + 1) vs → Part r w i (array vs)
-    in-object : {i : ℕ} {ms : Members} → PartOfMembers r w (i + 1) ms → Part r w i (object ms)
-
-  pub data PartOfItems (r : ℕ) (w : Value) : ℕ → Values → Type 0 where
-    in-item : {i : ℕ} {v : Value} {vs : Values} → Part r w i v → PartOfItems r w i (item v vs)
-    later-item : {i : ℕ} {v : Value} {vs : Values} → PartOfItems r w (i + valueCount v) vs → PartOfItems r w i (item v vs)
-
-  pub data PartOfMembers (r : ℕ) (w : Value) : ℕ → Members → Type 0 where
-    in-member : {i : ℕ} {n : Bytes} {v : Value} {ms : Members} → Part r w i v → PartOfMembers r w i (member n v ms)
-    later-member : {i : ℕ} {n : Bytes} {v : Value} {ms : Members} → PartOfMembers r w (i + valueCount v) ms → PartOfMembers r w i (member n v ms)
-
 -- A property of values at rows (with one of items and one of members) that goes over to parts.
 pub record Inherited (P : ℕ → Value → Type 0) (Q : ℕ → Values → Type 0) (R : ℕ → Members → Type 0) : Type 0 where
   pub items : (i : ℕ) (vs : Values) → P i (array vs) → Q (i + 1) vs

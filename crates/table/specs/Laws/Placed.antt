@@ -7,20 +7,21 @@ use lib.Dec.{eqb, ltb}
 use lib.ListN.{length}
 use Rattle.model.specs.Bytes.{Bytes}
 use Rattle.model.specs.Limits.{maxValues}
-use Rattle.model.specs.Size.{valueCount, itemsCount, membersCount}
-use Rattle.model.specs.Value.{Value, array, object}
-use Rattle.syntax.specs.Layout.{rowBytes}
+use Rattle.model.specs.Size.{valueCount}
+use Rattle.model.specs.Value.{Value, array, object, Values, Members, memberCount}
+use Rattle.syntax.specs.Layout.{itemCount, rowBytes}
 use Rattle.syntax.specs.Laws.Layout.{count-positive}
 use Rattle.table.specs.declared.node.Node.{Node}
 use Rattle.table.specs.declared.node.Node.the-variants.{Null, False, True, Integer, String, Array, Object}
 use Rattle.table.specs.declared.node.Rows.{Rows}
 use Rattle.table.specs.declared.row.Row.{Row}
 use Rattle.table.specs.Denotes.{Denotes, denotes-array, denotes-object}
-use Rattle.table.specs.Node.{nodeOf, nodeAt, nextRow}
+use Rattle.table.specs.Node.{rows, nodeOf, nodeAt, nextRow}
+use Rattle.table.specs.Part.{Part}
 use Rattle.table.specs.Placed.{Placed, rowAfter}
 use Rattle.table.specs.Row.{rowAt}
 use Rattle.table.specs.WasRead.{WasRead}
-use Rattle.table.specs.Laws.Inside.{Holding, Inside, inside, by-order}
+use Rattle.table.specs.Laws.Inside.{inside, by-order}
 use Rattle.table.specs.Laws.Standing.{Standing, root-stands, array-items, object-members, denoted, next, items-after, members-after}
 use Rattle.table.specs.Laws.WasRead.{behind-null, behind-next}
 
@@ -66,6 +67,24 @@ module _ {T B : Bytes} where
   object-end : {v : Value} {i : ℕ} {q : Rows} → Denotes T B v (Object q) → Standing T B v i → rowAfter T (i + 1) (q .count) ≡ i + valueCount v
   unfolding valueCount
   object-end {i = i} (denotes-object {ms = ms} e f r) s = ap (rowAfter T (i + 1)) e ∙ members-after ms (i + 1) (object-members s) ∙ omega arith
+
+-- ---- the node of an array or object that stands
+module _ {T B : Bytes} where
+  array-is : (i : ℕ) {vs : Values} {n : Node} → nodeAt T i ≡ n → Denotes T B (array vs) n → nodeAt T i ≡ Array (rows (i + 1) (itemCount vs))
+  array-is i e (denotes-array {vs = vs} {q = q} c f r) =
+      let a = array-first T i q e in
+      e ∙ (λ j. Array (record { first = a j; count = c j }))
+
+  pub array-node : {vs : Values} {i : ℕ} → Standing T B (array vs) i → nodeAt T i ≡ Array (rows (i + 1) (itemCount vs))
+  array-node {i = i} s = array-is i refl (denoted s)
+
+  object-is : (i : ℕ) {ms : Members} {n : Node} → nodeAt T i ≡ n → Denotes T B (object ms) n → nodeAt T i ≡ Object (rows (i + 1) (memberCount ms))
+  object-is i e (denotes-object {ms = ms} {q = q} c f r) =
+      let a = object-first T i q e in
+      e ∙ (λ j. Object (record { first = a j; count = c j }))
+
+  pub object-node : {ms : Members} {i : ℕ} → Standing T B (object ms) i → nodeAt T i ≡ Object (rows (i + 1) (memberCount ms))
+  object-node {i = i} s = object-is i refl (denoted s)
 
 -- Null has none.
 abbrev hasParts : Node → ℕ
@@ -116,3 +135,21 @@ module _ {T B : Bytes} where
         items = λ row q k. row-placed w row k .items q;
         members = λ row q k. row-placed w row k .members q;
       }
+
+-- ---- an object in a row of a read table is a part of its value
+pub record ObjectInside (T B : Bytes) (v : Value) (row : ℕ) (q : Rows) : Type 0 where
+  pub members : Members
+  pub part : Part row (object members) 0 v
+  pub standing : Standing T B (object members) row
+  pub first : q .first ≡ row + 1
+  pub count : q .count ≡ memberCount members
+
+module _ {T B : Bytes} {v : Value} where
+  object-of : {w : Value} {row : ℕ} {q : Rows} → Denotes T B w (Object q) → nodeAt T row ≡ Object q → Part row w 0 v → Standing T B w row → ObjectInside T B v row q
+  object-of {row = row} (denotes-object {ms = ms} {q = q} c f r) e p s = record { members = ms; part = p; standing = s; first = object-first T row q e; count = c }
+
+  pub object-inside : WasRead T B v → (row : ℕ) (q : Rows) → row < maxValues → nodeAt T row ≡ Object q → ObjectInside T B v row q
+  object-inside w row q k e =
+      by-order row (valueCount v)
+      (λ h. let x = inside row v 0 (root-stands w) (omega arith) (omega arith) in object-of (subst (Denotes T B (x .value)) e (denoted (x .standing))) e (x .part) (x .standing))
+      (λ h. let p = ap hasParts (sym (behind-null w row h k) ∙ e) in absurd (omega arith))

@@ -1,7 +1,7 @@
 -- Standing: a value in the rows of a table from one on, and its parts in the rows behind that one.
-use mathlib.Core.Path.{_≡_, refl, sym, ap, _∙_}
+use mathlib.Core.Path.{_≡_, ap, _∙_}
 use mathlib.Core.List.{_++_}
-use Prim.Native.Nat.{ℕ, suc, _+_, _*_, _/_, _≤_, _<_}
+use Prim.Native.Nat.{ℕ, _+_, _*_, _≤_, _<_}
 use native.Mathlib.Omega.{arith}
 use lib.Dec as dec
 use lib.ListN.{length, length-append}
@@ -17,17 +17,13 @@ use Rattle.syntax.specs.Laws.Sound.{sound}
 use Rattle.syntax.specs.Laws.Stands.{Stands, front, back, part-stands, behind}
 use Rattle.syntax.specs.Laws.StringsFit.{strings-small}
 use Rattle.syntax.specs.Laws.WellFormed.{read-well-formed}
-use Rattle.table.specs.declared.node.Node.{Node}
-use Rattle.table.specs.declared.node.Node.the-variants.{Array, Object}
-use Rattle.table.specs.declared.node.Rows.{Rows}
 use Rattle.table.specs.Denotes.{Denotes, RowItems, RowMembers}
 use Rattle.table.specs.Node.{rows, nodeAt, nextRow, nameAt}
 use Rattle.table.specs.Placed.{rowAfter}
-use Rattle.table.specs.Row.{span}
 use Rattle.table.specs.Strings.{bytesOf}
 use Rattle.table.specs.WasRead.{WasRead}
 use Rattle.table.specs.Laws.ReadForm.{Short, unnamed-short, Stored, value-read, items-read, members-read}
-use Rattle.table.specs.Laws.WasRead.{rows-stand, strings-stand}
+use Rattle.table.specs.Laws.WasRead.{was-read-stands, was-read-strings}
 
 -- ---- what stands from a row on
 -- A value, with the rows of all that it holds, as reading writes them; and its strings.
@@ -76,8 +72,8 @@ module _ {T B : Bytes} where
         few = omega (arith, sound (w .text) v (w .reads) .0 .few);
         short = omega (arith, strings-small (w .text) v (w .reads));
         named = unnamed-short;
-        table = rows-stand w;
-        strings = strings-stand w;
+        table = was-read-stands w;
+        strings = was-read-strings w;
       }
 
   -- ---- parts
@@ -193,6 +189,12 @@ module _ {T B : Bytes} where
 
   pub next : {v : Value} {i : ℕ} → Standing T B v i → nextRow T i ≡ i + valueCount v
   next s = stored s .next
+
+  pub was-read-denotes : {v : Value} → WasRead T B v → Denotes T B v (nodeAt T 0)
+  was-read-denotes w = denoted (root-stands w)
+
+  pub root-end : {v : Value} → WasRead T B v → nextRow T 0 ≡ valueCount v
+  root-end w = next (root-stands w) ∙ omega arith
 
   pub row-inside : {v : Value} {i : ℕ} → Standing T B v i → i < maxValues
   row-inside {v} s = omega (arith, s .few, count-positive v)

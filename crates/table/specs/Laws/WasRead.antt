@@ -1,27 +1,27 @@
 -- WasRead: the rows of a table go by its rows' part alone; in the rows of a read table stands its value, and behind the value are zeros.
 use mathlib.Core.Path.{_≡_, refl, sym, ap, _∙_}
-use mathlib.Core.Bool.{true, cond}
-use mathlib.Core.List.{[], _∷_, _++_, append-assoc}
+use mathlib.Core.Bool.{true}
+use mathlib.Core.List.{_++_, append-assoc}
 use Prim.Native.Nat.{ℕ, zero, suc, _+_, _*_, _-_, _/_, _≤_, _<_}
 use native.Mathlib.Omega.{arith}
 use borrow.Author.Tests.{lt-ltb}
 use lib.Dec.{ltb}
 use lib.ListN.{length, getD, take, drop, replicate, length-append, length-replicate, take-append-drop}
-use lib.Seq.{take-append-add}
-use Rattle.area.specs.Words.{wordAt}
-use Rattle.area.specs.Laws.{wordAt-same, wordAt-take, wordAt-append}
+use lib.Seq.{take-append-add, drop-append-add}
+use Rattle.area.specs.Words.{wordAt, zeroFrom}
+use Rattle.area.specs.Laws.{wordAt-take, wordAt-append}
 use Rattle.model.specs.Bytes.{Bytes}
-use Rattle.model.specs.Limits.{maxTextBytes, maxValues}
+use Rattle.model.specs.Limits.{maxValues}
 use Rattle.model.specs.Size.{valueCount}
 use Rattle.model.specs.Value.{Value}
-use Rattle.syntax.specs.Layout.{rowBytes, entryBytes, padded, rowsOf, rowsPart, stringsOf, tableBytes, tableOf, unnamed}
+use Rattle.syntax.specs.Layout.{rowBytes, entryBytes, padded, rowsOf, rowsPart, stringsOf, tableOf, unnamed}
 use Rattle.syntax.specs.Laws.Layout.{length-rows}
 use Rattle.syntax.specs.Laws.Sound.{sound}
 use Rattle.syntax.specs.Laws.Stands.{Stands, starts}
 use Rattle.table.specs.declared.node.Node.the-variants.{Null}
 use Rattle.table.specs.declared.row.Row.{Row}
-use Rattle.table.specs.Node.{nodeOf, nodeAt, nextRow, nameAt}
-use Rattle.table.specs.Row.{noRow, numbersAt, rowAt}
+use Rattle.table.specs.Node.{nodeAt, nextRow, nameAt}
+use Rattle.table.specs.Row.{noRow, rowAt}
 use Rattle.table.specs.WasRead.{WasRead}
 
 -- ---- tables of the same rows
@@ -56,8 +56,8 @@ module _ {T′ T : Bytes} (same : SameRows T′ T) (row : ℕ) (inside : row < m
   pub name-same : nameAt T′ row ≡ nameAt T row
   name-same = ap (λ (r : Row). r .name) row-same
 
-pub was-read-same : {T′ T B : Bytes} {v : Value} → SameRows T′ T → WasRead T B v → WasRead T′ B v
-was-read-same {v = v} same w =
+pub was-read-same : {T′ T B : Bytes} {v : Value} → WasRead T B v → SameRows T′ T → WasRead T′ B v
+was-read-same {v = v} w same =
     record {
       text = w .text;
       reads = w .reads;
@@ -75,6 +75,11 @@ zeros-get (suc n) (suc i) = zeros-get n i
 zeros-word : (n at : ℕ) → wordAt (replicate n 0) at ≡ 0
 unfolding wordAt
 zeros-word n at = simp zeros-get
+
+zeros-drop : (n k : ℕ) → _≡_ {A = Bytes} (drop n (replicate k 0)) (replicate (k - n) 0)
+zeros-drop zero k = let e : k ≡ k - 0 = omega arith in ap (λ (m : ℕ). replicate m 0) e
+zeros-drop (suc n) zero = let e : 0 ≡ 0 - suc n = omega arith in ap (λ (m : ℕ). replicate m 0) e
+zeros-drop (suc n) (suc k) = let e : k - n ≡ suc k - suc n = omega arith in zeros-drop n k ∙ ap (λ (m : ℕ). replicate m 0) e
 
 -- ---- a read table
 module _ {T B : Bytes} {v : Value} (w : WasRead T B v) where
@@ -98,9 +103,9 @@ module _ {T B : Bytes} {v : Value} (w : WasRead T B v) where
   same-clear : SameRows T clear
   same-clear = record { rows = w .rows; size = sym clear-length }
 
-  pub rows-stand : Stands T 0 written
+  pub was-read-stands : Stands T 0 written
   unfolding padded rowBytes entryBytes rowsPart
-  rows-stand =
+  was-read-stands =
       let n = maxValues * 16 in
       let m = n - length written in
       let zeros : Bytes = replicate (length T - length written) 0 in
@@ -112,8 +117,21 @@ module _ {T B : Bytes} {v : Value} (w : WasRead T B v) where
         inside = omega (arith, written-length, values-few, w .size);
       }
 
-  pub strings-stand : Stands B 0 (stringsOf v)
-  strings-stand = starts B (stringsOf v) (length B) (w .strings)
+  pub was-read-strings : Stands B 0 (stringsOf v)
+  was-read-strings = starts B (stringsOf v) (length B) (w .strings)
+
+  -- With its work room cleared it is as the layout says.
+  pub was-read-cleared : zeroFrom (maxValues * rowBytes) T ≡ tableOf v (length T)
+  unfolding padded rowBytes entryBytes rowsPart zeroFrom
+  was-read-cleared =
+      let n = maxValues * 16 in
+      let m = n - length written in
+      let k = length T - length written in
+      let e : length written + m ≡ n = omega (arith, written-length, values-few) in
+      let f : k - m ≡ length T - n = omega (arith, written-length, values-few, w .size) in
+      let d : drop n clear ≡ replicate (length T - n) 0 =
+      ap (λ (j : ℕ). drop j clear) (sym e) ∙ drop-append-add written (replicate k 0) m ∙ zeros-drop m k ∙ ap (λ (j : ℕ). replicate j 0) f in
+      ap (λ (bs : Bytes). bs ++ replicate (length T - n) 0) (w .rows) ∙ sym (ap (λ (bs : Bytes). take n clear ++ bs) d) ∙ take-append-drop n clear
 
   -- ---- behind the value
   module _ (row : ℕ) (behind : valueCount v ≤ row) (inside : row < maxValues) where
