@@ -2,6 +2,7 @@
 use mathlib.Core.Path.{_≡_}
 use mathlib.Core.Bool.{Bool, false}
 use mathlib.Core.List.{List, [], _∷_, _++_}
+use mathlib.Core.Logic.{_⊎_}
 use Prim.Native.Nat.{ℕ, _+_, _*_, _-_, _/_, _≤_, _<_}
 use lib.ListN.{length, take, drop}
 use Rattle.area.specs.Words.{wordAt}
@@ -40,6 +41,11 @@ unfoldable pub Between : ℕ → ℕ → List Entry → Type 0
 Between first row [] = Unit {0}
 Between first row (e ∷ es) = (first ≤ e .row) × (e .row < row) × Between first row es
 
+-- A row is that of one of the members.
+abbrev pub HasRow : List Entry → ℕ → Type 0
+HasRow [] r = ⊥
+HasRow (e ∷ es) r = (r ≡ e .row) ⊎ HasRow es r
+
 -- The members by their slots.
 unfoldable pub slots : List Entry → List (ℕ × Bytes)
 slots [] = []
@@ -57,11 +63,14 @@ pub record EnterRoom (T A : Bytes) (first row start len : ℕ) : Type 0 where
   pub strings : start + len ≤ length A
   pub short : start + len ≤ maxTextBytes
 
--- What `names::enter(table, strings, first, row, start, len) -> bool` promises.
+-- What `names::enter(table, strings, first, row, start, len) -> bool` promises. The entries of all rows stay but for those of the members and of the new one.
 pub record Entered (T A : Bytes) (first row start len : ℕ) (b : Bool) (T′ : Bytes) : Type 0 where
   pub size : length T′ ≡ length T
   pub rows : take (maxValues * 16) T′ ≡ take (maxValues * 16) T
   pub kept : (r : ℕ) → 1 ≤ r → r < first → entry T′ r ≡ entry T r
+  pub others :
+      (es : List Entry) → Indexed T first es → Named T A es → Between first row es → (row ≡ first → es ≡ []) → (es ≡ [] → row ≡ first)
+      → (r : ℕ) → 1 ≤ r → (HasRow es r → ⊥) → (r ≡ row → ⊥) → entry T′ r ≡ entry T r
   pub run :
       (es : List Entry) → Indexed T first es → Named T A es → Between first row es → (row ≡ first → es ≡ []) → (es ≡ [] → row ≡ first)
       → (b ≡ any (sameBytes (part A start len)) (namesOf es)) × (b ≡ false → Indexed T′ first (es ++ (record { row = row; name = part A start len } ∷ [])))
