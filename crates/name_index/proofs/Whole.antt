@@ -129,7 +129,7 @@ first-entered T A first row start len p T′ room e ep s =
 
 -- ---- any other member
 
-tree-of : (T : Bytes) (first row : ℕ) (ms : List (ℕ × Bytes)) → Within first row ms → (row ≡ first → ⊥) → Indexed T first ms → Tree T first ms
+pub tree-of : (T : Bytes) (first row : ℕ) (ms : List (ℕ × Bytes)) → Within first row ms → (row ≡ first → ⊥) → Indexed T first ms → Tree T first ms
 unfolding Indexed
 tree-of T first row [] w h i = absurd (h (w .some refl))
 tree-of T first row (m ∷ ms) w h i = i
@@ -148,10 +148,10 @@ module _ (T A new : Bytes) (first row : ℕ) (less : first < row) (ms : List (�
   there : Leaf (found new (t .trie) .0) (found new (t .trie) .1) (t .trie)
   there = found-leaf new (t .trie)
 
-  has-there : Has ms (found new (t .trie) .0) (found new (t .trie) .1)
+  pub has-there : Has ms (found new (t .trie) .0) (found new (t .trie) .1)
   has-there = t .leaves (found new (t .trie) .0) (found new (t .trie) .1) there
 
-  found-link : (at x : ℕ) → Descended T new first row 4294967296 at → x ≡ wordAt T at → x ≡ found new (t .trie) .0 * 2
+  pub found-link : (at x : ℕ) → Descended T new first row 4294967296 at → x ≡ wordAt T at → x ≡ found new (t .trie) .0 * 2
   found-link at x d ex =
       let r = d .run (omega arith) (t .trie) (t .holds) (t .ordered) between in
       let a = above [] 0 (r .walk) (t .ordered) in
@@ -171,13 +171,19 @@ module _ (T A new : Bytes) (first row : ℕ) (less : first < row) (ms : List (�
       (f (found new (t .trie) .0) e (within .rows (found new (t .trie) .0) (found new (t .trie) .1) has-there .1)
       (named .inside (found new (t .trie) .0) (found new (t .trie) .1) has-there))
 
+  -- A member of the new name is the one there.
+  pub is-found : (r : ℕ) (m : Bytes) → Has ms r m → new ≡ m → (found new (t .trie) .0 ≡ r) × (found new (t .trie) .1 ≡ m)
+  is-found r m h e =
+      let g : found new (t .trie) ≡ (r, m) = ap (λ (z : Bytes). found z (t .trie)) e ∙ member-found [] 0 (t .trie) (t .ordered) r m (t .members r m h) in
+      (ap (λ (z : ℕ × Bytes). z .0) g, ap (λ (z : ℕ × Bytes). z .1) g)
+
   known : new ≡ found new (t .trie) .1 → true ≡ among new (names ms)
   known e = sym (among-true new ms (found new (t .trie) .0) (found new (t .trie) .1) has-there e)
 
   module _ (c : ℕ) (crit : Critical new (found new (t .trie) .1) c) where
     unknown : false ≡ among new (names ms)
     unknown = sym (among-false new ms (λ r m h e. crit .differ (ap (λ (z : Bytes). bitAt z c)
-        (e ∙ sym (member-found [] 0 (t .trie) (t .ordered) r m (t .members r m h)) ∙ ap (λ (z : Bytes). found z (t .trie) .1) (sym e)))))
+        (e ∙ sym (is-found r m h e .1)))))
 
     module _ (at turn : ℕ) (T′ : Bytes) (d : Descended T new first row c at) (et : turn ≡ side (bitAt new c)) (f : Forked T at row c turn T′)
         (below : row < maxValues) (room : maxValues * 28 ≤ length T) where

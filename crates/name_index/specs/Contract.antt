@@ -1,6 +1,6 @@
--- Contract: what `enter` asks and promises, by the rows of members. That the index is a trie (specs/Trie.antt, specs/Slots.antt) is no concern of its callers.
+-- Contract: what `enter` asks and promises, and what `find` promises, by the rows of members. That the index is a trie (specs/Trie.antt, specs/Slots.antt) is no concern of its callers.
 use mathlib.Core.Path.{_≡_}
-use mathlib.Core.Bool.{Bool, false}
+use mathlib.Core.Bool.{Bool, false, cond}
 use mathlib.Core.List.{List, [], _∷_, _++_}
 use mathlib.Core.Logic.{_⊎_}
 use Prim.Native.Nat.{ℕ, _+_, _*_, _-_, _/_, _≤_, _<_}
@@ -9,6 +9,9 @@ use Rattle.area.specs.Words.{wordAt}
 use Rattle.model.specs.Bytes.{Bytes, sameBytes}
 use Rattle.model.specs.Limits.{maxValues, maxTextBytes}
 use Rattle.model.specs.Lists.{any}
+use Rattle.syntax.specs.Layout.{tableBytes}
+use Rattle.name_index.specs.declared.find.Found.{Found}
+use Rattle.name_index.specs.declared.find.Found.the-variants.{Nowhere, At}
 use Rattle.name_index.specs.Slots as Slots
 
 -- n bytes of an area from x on
@@ -74,3 +77,14 @@ pub record Entered (T A : Bytes) (first row start len : ℕ) (b : Bool) (T′ : 
   pub run :
       (es : List Entry) → Indexed T first es → Named T A es → Between first row es → (row ≡ first → es ≡ []) → (es ≡ [] → row ≡ first)
       → (b ≡ any (sameBytes (part A start len)) (namesOf es)) × (b ≡ false → Indexed T′ first (es ++ (record { row = row; name = part A start len } ∷ [])))
+
+-- Where the first member of a name stands.
+abbrev pub firstNamed : Bytes → List Entry → Found
+firstNamed n [] = Nowhere
+firstNamed n (e ∷ es) = cond (sameBytes n (e .name)) (At (e .row)) (firstNamed n es)
+
+-- What `find::find(table, strings, first, name) -> Found` promises: that member, of those that the table's entries index.
+pub record Finds (T A : Bytes) (first : ℕ) (n : Bytes) (r : Found) : Type 0 where
+  pub is :
+      (es : List Entry) → 1 ≤ first → tableBytes ≤ length T → Indexed T first es → Named T A es → Between first maxValues es → (es ≡ [] → ⊥)
+      → r ≡ firstNamed n es

@@ -19,7 +19,7 @@ unfolding slots
 indexed-empty T first = record { trie = indexed-none T (first - 1) }
 
 -- Members between two rows have slots between those of the rows.
-slots-between : (first row : ℕ) (es : List Entry) → 1 ≤ first → Between first row es → (r : ℕ) (n : Bytes) → Slots.Has (slots es) r n → (first - 1 ≤ r) × (r < row - 1)
+pub slots-between : (first row : ℕ) (es : List Entry) → 1 ≤ first → Between first row es → (r : ℕ) (n : Bytes) → Slots.Has (slots es) r n → (first - 1 ≤ r) × (r < row - 1)
 unfolding slots Between
 slots-between first row [] l b r n h = absurd h
 slots-between first row (e ∷ es) l b r n (inl h) = (omega (arith, b .0, h .0), omega (arith, b .0, b .1, h .0))
@@ -64,7 +64,7 @@ indexed-frame {first} {es} bound l i b h =
     indexed-members-frame bound l i b (λ r g. let k = has-between first bound es b r g in h r (k .0) (k .1))
 
 -- ---- from slots to rows
-slots-named : (T A : Bytes) (first row : ℕ) (es : List Entry) → 1 ≤ first → Between first row es → Named T A es → Slots.Named T A (slots es)
+pub slots-named : (T A : Bytes) (first row : ℕ) (es : List Entry) → 1 ≤ first → Between first row es → Named T A es → Slots.Named T A (slots es)
 unfolding slots Between Named
 slots-named T A first row es l b h = record { inside = λ r n g. inside es b h r n g; name = λ r n g. name es b h r n g }
   where
