@@ -3,3 +3,4 @@ pub mod Table
 pub mod Bits
 pub mod Steps
 pub mod Whole
+pub mod Found

@@ -151,7 +151,7 @@ module _ (T T′ : Bytes) (at row c turn j : ℕ) (d β : Bool) (f : Forked T at
       ∙ ap (λ (e : Bytes). sets e (side β) (word (row * 2))) (entry-in T (word c) row 0 first-word))
 
   -- Its entries.
-  entry-else : (k : ℕ) → (k ≡ row → ⊥) → (k ≡ j → ⊥) → entry T′ k ≡ entry T k
+  pub entry-else : (k : ℕ) → (k ≡ row → ⊥) → (k ≡ j → ⊥) → entry T′ k ≡ entry T k
   entry-else k h g =
       ap (λ (e : Bytes). entry e k) is-made ∙ entry-other made (word (row * 2 + 1)) j (side d) k (room-word d (row * 2 + 1)) g ∙ made-else k h
 

@@ -1,5 +1,5 @@
 -- Laws of tries: walks in them, and what is grafted where a walk ends. Over plain values.
-use mathlib.Core.Path.{_≡_, refl, sym, ap, _∙_, subst}
+use mathlib.Core.Path.{_≡_, refl, sym, ap, ap₂, _∙_, subst}
 use mathlib.Core.Bool.{Bool, true, false, not}
 use mathlib.Core.Logic.{_⊎_, inl, inr, ⊎-elim}
 use Prim.Native.Nat.{ℕ, _+_, _*_, _<_, _≤_}
@@ -59,12 +59,12 @@ leaf-agrees p from (leaf q n) o r m l i h = o i h ∙ ap (λ (x : Bytes). bitAt 
 leaf-agrees p from (node k c t) o r m l i h =
     o .3 (l .0) i h ∙ leaf-agrees (o .2 (l .0)) (c + 1) (t (l .0)) (o .6 (l .0)) r m (l .1) i (omega arith)
 
--- A name that is there is found.
-pub member-found : (p : Bytes) (from : ℕ) (t : Trie) → Ordered p from t → (r : ℕ) (m : Bytes) → Leaf r m t → found m t .1 ≡ m
-member-found p from (leaf q n) o r m l = sym (l .1)
+-- A member that is there is found by its name.
+pub member-found : (p : Bytes) (from : ℕ) (t : Trie) → Ordered p from t → (r : ℕ) (m : Bytes) → Leaf r m t → found m t ≡ (r, m)
+member-found p from (leaf q n) o r m l = ap₂ (λ (x : ℕ) (y : Bytes). (x, y)) (sym (l .0)) (sym (l .1))
 member-found p from (node k c t) o r m l =
     let e : l .0 ≡ bitAt m c = sym (o .5 (l .0)) ∙ leaf-agrees (o .2 (l .0)) (c + 1) (t (l .0)) (o .6 (l .0)) r m (l .1) c (omega arith) in
-    ap (λ (b : Bool). found m (t b) .1) (sym e) ∙ member-found (o .2 (l .0)) (c + 1) (t (l .0)) (o .6 (l .0)) r m (l .1)
+    ap (λ (b : Bool). found m (t b)) (sym e) ∙ member-found (o .2 (l .0)) (c + 1) (t (l .0)) (o .6 (l .0)) r m (l .1)
 
 -- ---- walks
 

@@ -22,7 +22,7 @@ use Rattle.name_index.specs.Slots.{Has, names, among, Named, Within, pla
 use Rattle.name_index.specs.Inner.{Told, ToldOf, Reached, Descended, Stopped, forked, Forked}
 use Rattle.name_index.specs.Laws.Slots.{has-old, has-new, has-cases, among-true, among-false}
 use Rattle.name_index.proofs.Trie.{found, found-leaf, member-found, walk-found, walk-leaf, walk-node, walk-end, walk-apart, walk-outside, graft, leaf-graft, node-graft, graft-leaf, leaf-stays, above, apart-graft, holds-graft, fork, ordered-fork, node-fork, leaf-fork, fork-leaf, fork-stays, apart-fork, Linked, holds-fork}
-use Rattle.name_index.proofs.Table.{entry-word, entry-before, entry-behind, turn-small, forked-linked}
+use Rattle.name_index.proofs.Table.{entry-word, entry-before, entry-behind, entry-other, entry-else, turn-small, forked-linked}
 use Rattle.name_index.proofs.Steps.{Between}
 
 -- ---- what stays
@@ -92,11 +92,26 @@ module _ (T n : Bytes) (first row p : ℕ) (e : row ≡ first) (ep : p ≡ place
   unfolding first-table place
   first-framed = framed-word T T first row (p + 4) (row * 2) (framed-none T first row) (omega arith) (omega arith)
 
+  first-others : (k : ℕ) → (k ≡ row → ⊥) → entry first-table k ≡ entry T k
+  unfolding first-table
+  first-others k h =
+      ap (λ (z : ℕ). entry (sets T (z + 4) (word (row * 2))) k) ep
+      ∙ entry-other T (word (row * 2)) first 4 k (rw length-word (omega arith)) (λ g. h (g ∙ sym e))
+
 entered : (T A : Bytes) (first row start len : ℕ) (b : Bool) (T′ : Bytes) → Framed T first row T′
+    → ((ms : List (ℕ × Bytes)) → Indexed T first ms → Named T A ms → Within first row ms
+    → (k : ℕ) → ((n : Bytes) → Has ms k n → ⊥) → (k ≡ row → ⊥) → entry T′ k ≡ entry T k)
     → ((ms : List (ℕ × Bytes)) → Indexed T first ms → Named T A ms → Within first row ms
     → (b ≡ among (part A start len) (names ms)) × (b ≡ false → Indexed T′ first (ms ++ ((row, part A start len) ∷ []))))
     → Entered T A first row start len b T′
-entered T A first row start len b T′ f g = record { size = f .size; rows = f .rows; kept = f .kept; later = f .later; run = g }
+entered T A first row start len b T′ f o g = record {
+  size = f .size;
+  rows = f .rows;
+  kept = f .kept;
+  later = f .later;
+  others = o;
+  run = g;
+}
 
 pub first-entered : (T A : Bytes) (first row start len p : ℕ) (T′ : Bytes) → Room T A first row start len → row ≡ first → p ≡ place first
     → T′ ≡ sets T (p + 4) (word (row * 2)) → Entered T A first row start len false T′
@@ -104,6 +119,7 @@ unfolding first-table Indexed
 first-entered T A first row start len p T′ room e ep s =
     entered T A first row start len false T′
     (subst (Framed T first row) (sym s) (first-framed T (part A start len) first row p e ep (room .below) (room .table)))
+    (λ ms i n w k f h. ap (λ (t : Bytes). entry t k) s ∙ first-others T (part A start len) first row p e ep (room .below) (room .table) k h)
     (λ ms i n w. subst (λ (l : List (ℕ × Bytes)). (false ≡ among (part A start len) (names l)) × (false ≡ false → Indexed T′ first (l ++ ((row, part A start len) ∷ []))))
     (sym (w .none e)) (
       refl,
@@ -113,7 +129,7 @@ first-entered T A first row start len p T′ room e ep s =
 
 -- ---- any other member
 
-tree-of : (T : Bytes) (first row : ℕ) (ms : List (ℕ × Bytes)) → Within first row ms → (row ≡ first → ⊥) → Indexed T first ms → Tree T first ms
+pub tree-of : (T : Bytes) (first row : ℕ) (ms : List (ℕ × Bytes)) → Within first row ms → (row ≡ first → ⊥) → Indexed T first ms → Tree T first ms
 unfolding Indexed
 tree-of T first row [] w h i = absurd (h (w .some refl))
 tree-of T first row (m ∷ ms) w h i = i
@@ -132,10 +148,10 @@ module _ (T A new : Bytes) (first row : ℕ) (less : first < row) (ms : List (�
   there : Leaf (found new (t .trie) .0) (found new (t .trie) .1) (t .trie)
   there = found-leaf new (t .trie)
 
-  has-there : Has ms (found new (t .trie) .0) (found new (t .trie) .1)
+  pub has-there : Has ms (found new (t .trie) .0) (found new (t .trie) .1)
   has-there = t .leaves (found new (t .trie) .0) (found new (t .trie) .1) there
 
-  found-link : (at x : ℕ) → Descended T new first row 4294967296 at → x ≡ wordAt T at → x ≡ found new (t .trie) .0 * 2
+  pub found-link : (at x : ℕ) → Descended T new first row 4294967296 at → x ≡ wordAt T at → x ≡ found new (t .trie) .0 * 2
   found-link at x d ex =
       let r = d .run (omega arith) (t .trie) (t .holds) (t .ordered) between in
       let a = above [] 0 (r .walk) (t .ordered) in
@@ -155,13 +171,19 @@ module _ (T A new : Bytes) (first row : ℕ) (less : first < row) (ms : List (�
       (f (found new (t .trie) .0) e (within .rows (found new (t .trie) .0) (found new (t .trie) .1) has-there .1)
       (named .inside (found new (t .trie) .0) (found new (t .trie) .1) has-there))
 
+  -- A member of the new name is the one there.
+  pub is-found : (r : ℕ) (m : Bytes) → Has ms r m → new ≡ m → (found new (t .trie) .0 ≡ r) × (found new (t .trie) .1 ≡ m)
+  is-found r m h e =
+      let g : found new (t .trie) ≡ (r, m) = ap (λ (z : Bytes). found z (t .trie)) e ∙ member-found [] 0 (t .trie) (t .ordered) r m (t .members r m h) in
+      (ap (λ (z : ℕ × Bytes). z .0) g, ap (λ (z : ℕ × Bytes). z .1) g)
+
   known : new ≡ found new (t .trie) .1 → true ≡ among new (names ms)
   known e = sym (among-true new ms (found new (t .trie) .0) (found new (t .trie) .1) has-there e)
 
   module _ (c : ℕ) (crit : Critical new (found new (t .trie) .1) c) where
     unknown : false ≡ among new (names ms)
     unknown = sym (among-false new ms (λ r m h e. crit .differ (ap (λ (z : Bytes). bitAt z c)
-        (e ∙ sym (member-found [] 0 (t .trie) (t .ordered) r m (t .members r m h)) ∙ ap (λ (z : Bytes). found z (t .trie) .1) (sym e)))))
+        (e ∙ sym (is-found r m h e .1)))))
 
     module _ (at turn : ℕ) (T′ : Bytes) (d : Descended T new first row c at) (et : turn ≡ side (bitAt new c)) (f : Forked T at row c turn T′)
         (below : row < maxValues) (room : maxValues * 28 ≤ length T) where
@@ -174,6 +196,18 @@ module _ (T A new : Bytes) (first row : ℕ) (less : first < row) (ms : List (�
       linked : Linked T T′ (r .row) (r .turn) row c (bitAt new c)
       linked =
           forked-linked T T′ at row c turn (r .row) (r .turn) (bitAt new c) f (r .is) et j-less below room (crit .small)
+
+      -- The entry that holds the link is a member's.
+      has-link : (m : Bytes) × Has ms (r .row) m
+      has-link = ⊎-elim
+          (λ e. (t .root .0, subst (λ (z : ℕ). Has ms z (t .root .0)) (sym (e .0)) (t .root .1)))
+          (λ h. let g = t .nodes (r .row) h in (g .1, g .2))
+          (walk-end (r .walk))
+
+      others : (k : ℕ) → ((m : Bytes) → Has ms k m → ⊥) → (k ≡ row → ⊥) → entry T′ k ≡ entry T k
+      others k g h =
+          entry-else T T′ at row c turn (r .row) (r .turn) (bitAt new c) f (r .is) et j-less below room (crit .small) k h
+          (λ e. g (has-link .0) (subst (λ (z : ℕ). Has ms z (has-link .0)) (sym e) (has-link .1)))
 
       fresh : (i : ℕ) → Node i (t .trie) → i ≡ row → ⊥
       fresh i h e = omega (arith, between i h)
@@ -223,7 +257,7 @@ module _ (T A : Bytes) (first row start len : ℕ) (room : Room T A first row st
 
   pub same-entered : ToldOf T A (end .link) row (part A start len) Same → Entered T A first row start len true T
   same-entered told =
-      entered T A first row start len true T (framed-none T first row)
+      entered T A first row start len true T (framed-none T first row) (λ ms i n w k f h. refl)
       (λ ms i n w.
       let t = tree-of T first row ms w other i in (
         known T A (part A start len) first row less ms t n w
@@ -236,6 +270,10 @@ module _ (T A : Bytes) (first row start len : ℕ) (room : Room T A first row st
   fork-entered c at turn T′ told d et f =
       let q = turn-small (bitAt (part A start len) c) turn et in
       entered T A first row start len false T′ (framed-forked T T′ first row at c turn f (room .order) (d .low) (d .high) (q .0) (q .1))
+      (λ ms i n w k g h.
+      let t = tree-of T first row ms w other i in
+      let crit = compared T A (part A start len) first row less ms t n w (end .link) (Differ c) (found-link T A (part A start len) first row less ms t n w (end .at) (end .link) down (stopped .link)) told in
+      others T A (part A start len) first row less ms t n w c crit at turn T′ d et f (room .below) (room .table) k g h)
       (λ ms i n w.
       let t = tree-of T first row ms w other i in
       let crit = compared T A (part A start len) first row less ms t n w (end .link) (Differ c) (found-link T A (part A start len) first row less ms t n w (end .at) (end .link) down (stopped .link)) told in (

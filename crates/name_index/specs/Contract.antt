@@ -1,13 +1,17 @@
--- Contract: what `enter` asks and promises, by the rows of members. That the index is a trie (specs/Trie.antt, specs/Slots.antt) is no concern of its callers.
+-- Contract: what `enter` asks and promises, and what `find` promises, by the rows of members. That the index is a trie (specs/Trie.antt, specs/Slots.antt) is no concern of its callers.
 use mathlib.Core.Path.{_≡_}
-use mathlib.Core.Bool.{Bool, false}
+use mathlib.Core.Bool.{Bool, false, cond}
 use mathlib.Core.List.{List, [], _∷_, _++_}
+use mathlib.Core.Logic.{_⊎_}
 use Prim.Native.Nat.{ℕ, _+_, _*_, _-_, _/_, _≤_, _<_}
 use lib.ListN.{length, take, drop}
 use Rattle.area.specs.Words.{wordAt}
 use Rattle.model.specs.Bytes.{Bytes, sameBytes}
 use Rattle.model.specs.Limits.{maxValues, maxTextBytes}
 use Rattle.model.specs.Lists.{any}
+use Rattle.syntax.specs.Layout.{tableBytes}
+use Rattle.name_index.specs.declared.find.Found.{Found}
+use Rattle.name_index.specs.declared.find.Found.the-variants.{Nowhere, At}
 use Rattle.name_index.specs.Slots as Slots
 
 -- n bytes of an area from x on
@@ -40,6 +44,11 @@ unfoldable pub Between : ℕ → ℕ → List Entry → Type 0
 Between first row [] = Unit {0}
 Between first row (e ∷ es) = (first ≤ e .row) × (e .row < row) × Between first row es
 
+-- A row is that of one of the members.
+abbrev pub HasRow : List Entry → ℕ → Type 0
+HasRow [] r = ⊥
+HasRow (e ∷ es) r = (r ≡ e .row) ⊎ HasRow es r
+
 -- The members by their slots.
 unfoldable pub slots : List Entry → List (ℕ × Bytes)
 slots [] = []
@@ -57,11 +66,25 @@ pub record EnterRoom (T A : Bytes) (first row start len : ℕ) : Type 0 where
   pub strings : start + len ≤ length A
   pub short : start + len ≤ maxTextBytes
 
--- What `names::enter(table, strings, first, row, start, len) -> bool` promises.
+-- What `names::enter(table, strings, first, row, start, len) -> bool` promises. The entries of all rows stay but for those of the members and of the new one.
 pub record Entered (T A : Bytes) (first row start len : ℕ) (b : Bool) (T′ : Bytes) : Type 0 where
   pub size : length T′ ≡ length T
   pub rows : take (maxValues * 16) T′ ≡ take (maxValues * 16) T
   pub kept : (r : ℕ) → 1 ≤ r → r < first → entry T′ r ≡ entry T r
+  pub others :
+      (es : List Entry) → Indexed T first es → Named T A es → Between first row es → (row ≡ first → es ≡ []) → (es ≡ [] → row ≡ first)
+      → (r : ℕ) → 1 ≤ r → (HasRow es r → ⊥) → (r ≡ row → ⊥) → entry T′ r ≡ entry T r
   pub run :
       (es : List Entry) → Indexed T first es → Named T A es → Between first row es → (row ≡ first → es ≡ []) → (es ≡ [] → row ≡ first)
       → (b ≡ any (sameBytes (part A start len)) (namesOf es)) × (b ≡ false → Indexed T′ first (es ++ (record { row = row; name = part A start len } ∷ [])))
+
+-- Where the first member of a name stands.
+abbrev pub firstNamed : Bytes → List Entry → Found
+firstNamed n [] = Nowhere
+firstNamed n (e ∷ es) = cond (sameBytes n (e .name)) (At (e .row)) (firstNamed n es)
+
+-- What `find::find(table, strings, first, name) -> Found` promises: that member, of those that the table's entries index.
+pub record Finds (T A : Bytes) (first : ℕ) (n : Bytes) (r : Found) : Type 0 where
+  pub is :
+      (es : List Entry) → 1 ≤ first → tableBytes ≤ length T → Indexed T first es → Named T A es → Between first maxValues es → (es ≡ [] → ⊥)
+      → r ≡ firstNamed n es

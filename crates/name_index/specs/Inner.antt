@@ -1,15 +1,18 @@
 -- Inner: what the functions below `enter` promise.
 use mathlib.Core.Path.{_≡_}
-use mathlib.Core.Bool.{Bool, false}
+use mathlib.Core.Bool.{Bool, false, cond}
 use mathlib.Core.List.{[]}
 use Prim.Native.Nat.{ℕ, _+_, _*_, _-_, _/_, _%_, _^_, _<_, _≤_}
 use lib.ListN.{length, getD}
 use lib.Seq.{sets}
-use Rattle.model.specs.Bytes.{Bytes}
+use Rattle.model.specs.Bytes.{Bytes, sameBytes}
+use Rattle.model.specs.Limits.{maxValues}
 use Rattle.area.specs.Words.{word, wordAt}
 use Rattle.name_index.specs.declared.Compared.{Compared}
 use Rattle.name_index.specs.declared.Compared.the-variants.{Same, Differ}
 use Rattle.name_index.specs.declared.Ended.{Ended}
+use Rattle.name_index.specs.declared.find.Found.{Found}
+use Rattle.name_index.specs.declared.find.Found.the-variants.{Nowhere, At}
 use Rattle.name_index.specs.Bits.{part, Critical}
 use Rattle.name_index.specs.Trie.{Trie, Node, Ordered, Walk, Ends}
 use Rattle.name_index.specs.Slots.{nameStart, nameLength, place, side, Holds}
@@ -41,6 +44,13 @@ ToldOf T A link row n r =
     → Told n (part A (nameStart T q) (nameLength T q)) r
 
 -- ---- going down
+
+-- A name of `len` bytes at `start` may lead through the entries from `first` up to `row`.
+pub record WalkRoom (T A : Bytes) (first row start len : ℕ) : Type 0 where
+  pub table : maxValues * 28 ≤ length T
+  pub order : first < row
+  pub below : row < maxValues
+  pub inside : start + len ≤ length A
 
 -- The link at which a walk in a trie ends.
 pub record Reached (T n : Bytes) (stop first : ℕ) (t : Trie) (at : ℕ) : Type 0 where
@@ -88,3 +98,11 @@ forked T at row rank turn =
 pub record Forked (T : Bytes) (at row rank turn : ℕ) (T′ : Bytes) : Type 0 where
   pub is : T′ ≡ forked T at row rank turn
   pub old : wordAt T at < 4294967296
+
+-- ---- finding a member
+
+-- The row of a slot, if the name in it is this one.
+pub record NamedSlot (T A : Bytes) (slot : ℕ) (n : Bytes) (r : Found) : Type 0 where
+  pub is :
+      slot + 1 < maxValues → nameStart T slot + nameLength T slot ≤ length A
+      → r ≡ cond (sameBytes n (part A (nameStart T slot) (nameLength T slot))) (At (slot + 1)) Nowhere

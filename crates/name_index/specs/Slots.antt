@@ -94,12 +94,14 @@ pub record Room (T A : Bytes) (first row start len : ℕ) : Type 0 where
   pub inside : start + len ≤ length A
   pub short : start + len ≤ maxTextBytes
 
--- Rows stay as they are, and so do the entries before `first` and behind `row`. The answer tells whether the name is
+-- Rows stay as they are, and so do the entries before `first`, behind `row`, and of slots that are no member's. The answer tells whether the name is
 -- among those of the members so far; if it is not, the index is then that of these and the new one.
 pub record Entered (T A : Bytes) (first row start len : ℕ) (b : Bool) (T′ : Bytes) : Type 0 where
   pub size : length T′ ≡ length T
   pub rows : take (maxValues * 16) T′ ≡ take (maxValues * 16) T
   pub kept : (k : ℕ) → k < first → entry T′ k ≡ entry T k
   pub later : (k : ℕ) → row < k → entry T′ k ≡ entry T k
+  pub others : (ms : List (ℕ × Bytes)) → Indexed T first ms → Named T A ms → Within first row ms
+      → (k : ℕ) → ((n : Bytes) → Has ms k n → ⊥) → (k ≡ row → ⊥) → entry T′ k ≡ entry T k
   pub run : (ms : List (ℕ × Bytes)) → Indexed T first ms → Named T A ms → Within first row ms
       → (b ≡ among (part A start len) (names ms)) × (b ≡ false → Indexed T′ first (ms ++ ((row, part A start len) ∷ [])))

@@ -7,8 +7,11 @@ ghost use Rattle.name_index.specs.Bits.{part, symbolAt, bitAt};
 ghost use Rattle.name_index.specs.Contract.{EnterRoom};
 ghost use Rattle.name_index.specs.Contract as index;
 ghost use Rattle.name_index.specs.Slots.{place, side, Room, Entered};
-ghost use Rattle.name_index.specs.Inner.{Common, Highest, Told, ToldOf, Descended, Stopped, NoNode, IsNode, RankOf, Forked};
+ghost use Rattle.name_index.specs.Inner.{Common, Highest, Told, ToldOf, WalkRoom, Descended, Stopped, NoNode, IsNode, RankOf, Forked};
 ghost use Rattle.area.specs.Words.{wordAt};
+
+pub mod find;
+
 use area::get_word;
 use area::put_word;
 use model::MAX_VALUES;
@@ -114,7 +117,7 @@ fn descend(
     len: usize,
     stop: usize,
 ) -> Ended
-    requires { ⌜ Room (now table) (now strings) first row start len × (first < row) ⌝ }
+    requires { ⌜ WalkRoom (now table) (now strings) first row start len ⌝ }
     ensures { λ r. ⌜ Stopped (now (table .entry)) (part (now (strings .entry)) start len) first row stop r ⌝ }
 {
     let mut at = entry_at(first) + 4;

@@ -15,18 +15,18 @@ abbrev μ-loop : tie.MeasureT-loop
 μ-loop table strings first row start len stop at₀ link₀ from₀ at link from = 4294967296 - from
 
 entry-at-requires : tie.Need-entry-at-requires Inv-loop μ-loop
-entry-at-requires c κs = omega (arith, c .before .before .pre .0 .below, c .before .before .pre .0 .order)
+entry-at-requires c κs = omega (arith, c .before .before .pre .below, c .before .before .pre .order)
 
 add-at : tie.Need-add-at Inv-loop μ-loop
 unfolding place
-add-at c = omega (arith, values-below, c .entry-at .ensures, c .before .before .before .pre .0 .below, c .before .before .before .pre .0 .order)
+add-at c = omega (arith, values-below, c .entry-at .ensures, c .before .before .before .pre .below, c .before .before .before .pre .order)
 
 get-word-requires : tie.Need-get-word-requires Inv-loop μ-loop
 unfolding place
-get-word-requires c κs = omega (arith, c .entry-at .ensures, c .before .before .before .pre .1, c .before .before .before .pre .0 .below, c .before .before .before .pre .0 .table)
+get-word-requires c κs = omega (arith, c .entry-at .ensures, c .before .before .before .pre .order, c .before .before .before .pre .below, c .before .before .before .pre .table)
 
 loop-holds : tie.Need-loop-holds Inv-loop μ-loop
-loop-holds c = going-first (c .before .before .before .before .args .table .now) (part (c .before .before .before .before .args .strings .now) (c .before .before .before .before .args .start) (c .before .before .before .before .args .len)) (c .before .before .before .before .args .first) (c .before .before .before .before .args .row) (c .before .before .before .before .args .stop) (c .before .entry-at .result) (c .get-word .result) (c .before .before .before .before .pre .1) (c .before .entry-at .ensures) (c .get-word .ensures .0)
+loop-holds c = going-first (c .before .before .before .before .args .table .now) (part (c .before .before .before .before .args .strings .now) (c .before .before .before .before .args .start) (c .before .before .before .before .args .len)) (c .before .before .before .before .args .first) (c .before .before .before .before .args .row) (c .before .before .before .before .args .stop) (c .before .entry-at .result) (c .get-word .result) (c .before .before .before .before .pre .order) (c .before .entry-at .ensures) (c .get-word .ensures .0)
 
 node-of-requires : tie.Need-node-of-requires Inv-loop μ-loop
 node-of-requires c κs = tt
@@ -35,11 +35,11 @@ returns : tie.Need-returns Inv-loop μ-loop
 returns c = done-none (c .before .before .before .before .before .before .before .args .table .now) (part (c .before .before .before .before .before .before .before .args .strings .now) (c .before .before .before .before .before .before .before .args .start) (c .before .before .before .before .before .before .before .args .len)) (c .before .before .before .before .before .before .before .args .first) (c .before .before .before .before .before .before .before .args .row) (c .before .before .before .before .before .before .before .args .stop) (c .before .before .loop .at) (c .before .before .loop .from) (c .before .before .loop .link) (c .before .before .loop .inv) (c .before .node-of .ensures .0 (c .if1 .taken))
 
 entry-at-requires-2 : tie.Need-entry-at-requires-2 Inv-loop μ-loop
-entry-at-requires-2 c κs = omega (arith, c .before .before .before .before .before .before .before .pre .0 .below, c .before .node-of .ensures .1 (c .if1 .left) .3)
+entry-at-requires-2 c κs = omega (arith, c .before .before .before .before .before .before .before .pre .below, c .before .node-of .ensures .1 (c .if1 .left) .3)
 
 rank-of-requires : tie.Need-rank-of-requires Inv-loop μ-loop
 unfolding place
-rank-of-requires c κs = omega (arith, c .entry-at2 .ensures, c .before .before .before .before .before .before .before .before .pre .0 .below, c .before .before .before .before .before .before .before .before .pre .0 .table, c .before .before .node-of .ensures .1 (c .before .if1 .left) .3)
+rank-of-requires c κs = omega (arith, c .entry-at2 .ensures, c .before .before .before .before .before .before .before .before .pre .below, c .before .before .before .before .before .before .before .before .pre .table, c .before .before .node-of .ensures .1 (c .before .if1 .left) .3)
 
 returns-2 : tie.Need-returns-2 Inv-loop μ-loop
 returns-2 c = done-rank (c .before .before .before .before .before .before .before .before .before .before .args .table .now) (part (c .before .before .before .before .before .before .before .before .before .before .args .strings .now) (c .before .before .before .before .before .before .before .before .before .before .args .start) (c .before .before .before .before .before .before .before .before .before .before .args .len)) (c .before .before .before .before .before .before .before .before .before .before .args .first) (c .before .before .before .before .before .before .before .before .before .before .args .row) (c .before .before .before .before .before .before .before .before .before .before .args .stop) (c .before .before .before .before .before .loop .at) (c .before .before .before .before .before .loop .from) (c .before .before .before .before .before .loop .link) (c .before .before .before .before .before .loop .inv) (c .before .before .before .before .node-of .result) (c .before .before .entry-at2 .result) ((c .before .before .before .before .node-of .ensures .1 (c .before .before .before .if1 .left)) .0) (c .before .before .entry-at2 .ensures) (c .before .rank-of .ensures .1 (omega arith))
@@ -48,15 +48,15 @@ add-from : tie.Need-add-from Inv-loop μ-loop
 add-from c = omega (arith, (c .before .rank-of .ensures .0 (omega arith)) .2)
 
 turn-requires : tie.Need-turn-requires Inv-loop μ-loop
-turn-requires c κs = c .before .before .before .before .before .before .before .before .before .before .pre .0 .inside
+turn-requires c κs = c .before .before .before .before .before .before .before .before .before .before .pre .inside
 
 add-at-2 : tie.Need-add-at-2 Inv-loop μ-loop
 unfolding place
-add-at-2 c = omega (arith, values-below, c .before .before .before .before .entry-at2 .ensures, c .before .before .before .before .before .before .before .before .before .before .before .before .pre .0 .below, (c .before .before .before .before .before .before .node-of .ensures .1 (c .before .before .before .before .before .if1 .left)) .3)
+add-at-2 c = omega (arith, values-below, c .before .before .before .before .entry-at2 .ensures, c .before .before .before .before .before .before .before .before .before .before .before .before .pre .below, (c .before .before .before .before .before .before .node-of .ensures .1 (c .before .before .before .before .before .if1 .left)) .3)
 
 get-word-requires-2 : tie.Need-get-word-requires-2 Inv-loop μ-loop
 unfolding place
-get-word-requires-2 c κs = omega (arith, c .before .before .before .before .entry-at2 .ensures, c .before .before .before .before .before .before .before .before .before .before .before .before .pre .0 .below, c .before .before .before .before .before .before .before .before .before .before .before .before .pre .0 .table, (c .before .before .before .before .before .before .node-of .ensures .1 (c .before .before .before .before .before .if1 .left)) .3)
+get-word-requires-2 c κs = omega (arith, c .before .before .before .before .entry-at2 .ensures, c .before .before .before .before .before .before .before .before .before .before .before .before .pre .below, c .before .before .before .before .before .before .before .before .before .before .before .before .pre .table, (c .before .before .before .before .before .before .node-of .ensures .1 (c .before .before .before .before .before .if1 .left)) .3)
 
 returns-3 : tie.Need-returns-3 Inv-loop μ-loop
 returns-3 c = done-none (c .before .before .before .before .before .before .before .before .before .before .before .before .before .before .args .table .now) (part (c .before .before .before .before .before .before .before .before .before .before .before .before .before .before .args .strings .now) (c .before .before .before .before .before .before .before .before .before .before .before .before .before .before .args .start) (c .before .before .before .before .before .before .before .before .before .before .before .before .before .before .args .len)) (c .before .before .before .before .before .before .before .before .before .before .before .before .before .before .args .first) (c .before .before .before .before .before .before .before .before .before .before .before .before .before .before .args .row) (c .before .before .before .before .before .before .before .before .before .before .before .before .before .before .args .stop) (c .before .before .before .before .before .before .entry-at2 .result + 4) (c .before .before .before .before .before .rank-of .result + 1) (c .before .get-word2 .result) (going-side (c .before .before .before .before .before .before .before .before .before .before .before .before .before .before .args .table .now) (part (c .before .before .before .before .before .before .before .before .before .before .before .before .before .before .args .strings .now) (c .before .before .before .before .before .before .before .before .before .before .before .before .before .before .args .start) (c .before .before .before .before .before .before .before .before .before .before .before .before .before .before .args .len)) (c .before .before .before .before .before .before .before .before .before .before .before .before .before .before .args .first) (c .before .before .before .before .before .before .before .before .before .before .before .before .before .before .args .row) (c .before .before .before .before .before .before .before .before .before .before .before .before .before .before .args .stop) (c .before .before .before .before .before .before .before .before .before .loop .at) (c .before .before .before .before .before .before .before .before .before .loop .from) (c .before .before .before .before .before .before .before .before .before .loop .link) (c .before .before .before .before .before .before .before .before .before .loop .inv) (c .before .before .before .before .before .before .before .before .node-of .result) (c .before .before .before .before .before .before .before .before .node-of .ensures .1 (c .before .before .before .before .before .before .before .if1 .left)) (c .before .before .before .before .before .before .entry-at2 .result) (c .before .before .before .before .before .before .entry-at2 .ensures) (c .before .before .before .before .before .rank-of .result) (c .before .before .before .before .before .rank-of .ensures .0 (omega arith)) (omega arith) (c .before .before .before .turn .result) 4 (c .before .get-word2 .result) (c .before .before .before .turn .ensures) (c .before .before .if3 .taken) (c .before .get-word2 .ensures .0)) (λ l h. omega arith)
@@ -69,11 +69,11 @@ loop-again c = going-side (c .before .before .before .before .before .before .be
 
 add-at-3 : tie.Need-add-at-3 Inv-loop μ-loop
 unfolding place
-add-at-3 c = omega (arith, values-below, c .before .before .before .before .entry-at2 .ensures, c .before .before .before .before .before .before .before .before .before .before .before .before .pre .0 .below, (c .before .before .before .before .before .before .node-of .ensures .1 (c .before .before .before .before .before .if1 .left)) .3)
+add-at-3 c = omega (arith, values-below, c .before .before .before .before .entry-at2 .ensures, c .before .before .before .before .before .before .before .before .before .before .before .before .pre .below, (c .before .before .before .before .before .before .node-of .ensures .1 (c .before .before .before .before .before .if1 .left)) .3)
 
 get-word-requires-3 : tie.Need-get-word-requires-3 Inv-loop μ-loop
 unfolding place
-get-word-requires-3 c κs = omega (arith, c .before .before .before .before .entry-at2 .ensures, c .before .before .before .before .before .before .before .before .before .before .before .before .pre .0 .below, c .before .before .before .before .before .before .before .before .before .before .before .before .pre .0 .table, (c .before .before .before .before .before .before .node-of .ensures .1 (c .before .before .before .before .before .if1 .left)) .3)
+get-word-requires-3 c κs = omega (arith, c .before .before .before .before .entry-at2 .ensures, c .before .before .before .before .before .before .before .before .before .before .before .before .pre .below, c .before .before .before .before .before .before .before .before .before .before .before .before .pre .table, (c .before .before .before .before .before .before .node-of .ensures .1 (c .before .before .before .before .before .if1 .left)) .3)
 
 loop-less-2 : tie.Need-loop-less-2 Inv-loop μ-loop
 loop-less-2 c = omega (arith, (c .before .before .before .before .rank-of .ensures .0 (omega arith)))

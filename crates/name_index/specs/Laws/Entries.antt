@@ -10,22 +10,49 @@ use Rattle.area.specs.Words.{wordAt}
 use Rattle.model.specs.Bytes.{Bytes, sameBytes}
 use Rattle.model.specs.Lists.{any}
 use Rattle.name_index.specs.Bits.{part}
-use Rattle.name_index.specs.Contract.{entry, Entry, namesOf, Named, Between, slots, Indexed, EnterRoom, Entered}
+use Rattle.name_index.specs.Contract.{entry, Entry, namesOf, Named, Between, HasRow, slots, Indexed, EnterRoom, Entered}
 use Rattle.name_index.specs.Slots as Slots
-use Rattle.name_index.specs.Laws.Slots.{indexed-none, indexed-kept}
+use Rattle.name_index.specs.Laws.Slots.{indexed-none, indexed-same}
 
 pub indexed-empty : (T : Bytes) (first : ℕ) → Indexed T first []
 unfolding slots
 indexed-empty T first = record { trie = indexed-none T (first - 1) }
 
 -- Members between two rows have slots between those of the rows.
-slots-between : (first row : ℕ) (es : List Entry) → 1 ≤ first → Between first row es → (r : ℕ) (n : Bytes) → Slots.Has (slots es) r n → (first - 1 ≤ r) × (r < row - 1)
+pub slots-between : (first row : ℕ) (es : List Entry) → 1 ≤ first → Between first row es → (r : ℕ) (n : Bytes) → Slots.Has (slots es) r n → (first - 1 ≤ r) × (r < row - 1)
 unfolding slots Between
 slots-between first row [] l b r n h = absurd h
 slots-between first row (e ∷ es) l b r n (inl h) = (omega (arith, b .0, h .0), omega (arith, b .0, b .1, h .0))
 slots-between first row (e ∷ es) l b r n (inr h) = slots-between first row es l (b .2) r n h
 
--- The index goes by the entries of its members alone.
+-- A slot that a member has, by its row.
+slot-row : (first row : ℕ) (es : List Entry) → 1 ≤ first → Between first row es → (k : ℕ) (n : Bytes) → Slots.Has (slots es) k n → HasRow es (k + 1)
+unfolding slots Between
+slot-row first row [] l b k n h = absurd h
+slot-row first row (e ∷ es) l b k n (inl h) = inl (omega (arith, b .0, h .0))
+slot-row first row (e ∷ es) l b k n (inr h) = inr (slot-row first row es l (b .2) k n h)
+
+-- The index goes by the entries of its members alone, whatever lies between them.
+pub indexed-members-frame :
+    {T T′ : Bytes} {first : ℕ} {es : List Entry} (bound : ℕ)
+    → 1 ≤ first
+    → Indexed T first es
+    → Between first bound es
+    → ((r : ℕ) → HasRow es r → entry T′ r ≡ entry T r)
+    → Indexed T′ first es
+indexed-members-frame {T} {T′} {first} {es} bound l i b h = record {
+  trie = indexed-same T T′ (first - 1) (slots es)
+      (λ k n g. let e : k + 1 - 1 ≡ k = omega arith in subst (λ (x : ℕ). Slots.entry T′ x ≡ Slots.entry T x) e (h (k + 1) (slot-row first bound es l b k n g)))
+      (i .trie);
+}
+
+has-between : (first row : ℕ) (es : List Entry) → Between first row es → (r : ℕ) → HasRow es r → (first ≤ r) × (r < row)
+unfolding Between
+has-between first row [] b r h = absurd h
+has-between first row (e ∷ es) b r (inl h) = (omega (arith, b .0), omega (arith, b .1))
+has-between first row (e ∷ es) b r (inr h) = has-between first row es (b .2) r h
+
+-- So it stays where all entries between the bounds do.
 pub indexed-frame :
     {T T′ : Bytes} {first : ℕ} {es : List Entry} (bound : ℕ)
     → 1 ≤ first
@@ -33,13 +60,11 @@ pub indexed-frame :
     → Between first bound es
     → ((r : ℕ) → first ≤ r → r < bound → entry T′ r ≡ entry T r)
     → Indexed T′ first es
-indexed-frame {T} {T′} {first} {es} bound l i b h = record {
-  trie = indexed-kept T T′ (first - 1) (bound - 1) (slots es) (λ r n g. slots-between first bound es l b r n g .1)
-      (λ k lo hi. let e : k + 1 - 1 ≡ k = omega arith in subst (λ (x : ℕ). Slots.entry T′ x ≡ Slots.entry T x) e (h (k + 1) (omega arith) (omega arith))) (i .trie);
-}
+indexed-frame {first} {es} bound l i b h =
+    indexed-members-frame bound l i b (λ r g. let k = has-between first bound es b r g in h r (k .0) (k .1))
 
 -- ---- from slots to rows
-slots-named : (T A : Bytes) (first row : ℕ) (es : List Entry) → 1 ≤ first → Between first row es → Named T A es → Slots.Named T A (slots es)
+pub slots-named : (T A : Bytes) (first row : ℕ) (es : List Entry) → 1 ≤ first → Between first row es → Named T A es → Slots.Named T A (slots es)
 unfolding slots Between Named
 slots-named T A first row es l b h = record { inside = λ r n g. inside es b h r n g; name = λ r n g. name es b h r n g }
   where
@@ -107,6 +132,10 @@ by-rows {T} {A} {first} {row} {start} {len} {b} {T′} m s = record {
   size = s .size;
   rows = s .rows;
   kept = λ r lo hi. s .kept (r - 1) (omega arith);
+  others = λ es i n w none some r lo f h.
+      s .others (slots es) (i .trie) (slots-named T A first row es (m .member) w n) (slots-within first row es (m .member) (m .order) w none some) (r - 1)
+      (λ x g. f (subst (HasRow es) (omega arith) (slot-row first row es (m .member) w (r - 1) x g)))
+      (λ e. h (omega (arith, m .member, m .order)));
   run = λ es i n w none some.
       let g = s .run (slots es) (i .trie) (slots-named T A first row es (m .member) w n) (slots-within first row es (m .member) (m .order) w none some) in (
         g .0 ∙ ap (any (sameBytes (part A start len))) (slots-names es),

@@ -76,13 +76,13 @@ holds-same T T′ (node m c t) k b e f h =
     let g = f m (inl refl) in
     (rw e (h .0), rw g (h .1), λ s. holds-same T T′ (t s) m s g (λ i x. f i (inr (s, x))) (h .2 s))
 
--- It goes by the entries of its members' rows alone.
-tree-kept : (T T′ : Bytes) (first bound : ℕ) (ms : List (ℕ × Bytes)) → ((r : ℕ) (n : Bytes) → Has ms r n → r < bound)
-    → ((k : ℕ) → first ≤ k → k < bound → entry T′ k ≡ entry T k) → Tree T first ms → Tree T′ first ms
-tree-kept T T′ first bound ms below same t = record {
+-- It goes by the entries of its members alone.
+tree-same : (T T′ : Bytes) (first : ℕ) (ms : List (ℕ × Bytes)) → ((k : ℕ) (n : Bytes) → Has ms k n → entry T′ k ≡ entry T k)
+    → Tree T first ms → Tree T′ first ms
+tree-same T T′ first ms same t = record {
   trie = t .trie;
-  holds = holds-same T T′ (t .trie) first false (same first (omega arith) (below first (t .root .0) (t .root .1)))
-      (λ i x. let g = t .nodes i x in same i (omega (arith, g .0)) (below i (g .1) (g .2))) (t .holds);
+  holds = holds-same T T′ (t .trie) first false (same first (t .root .0) (t .root .1))
+      (λ i x. let g = t .nodes i x in same i (g .1) (g .2)) (t .holds);
   apart = t .apart;
   ordered = t .ordered;
   root = t .root;
@@ -91,8 +91,8 @@ tree-kept T T′ first bound ms below same t = record {
   members = t .members;
 }
 
-pub indexed-kept : (T T′ : Bytes) (first bound : ℕ) (ms : List (ℕ × Bytes)) → ((r : ℕ) (n : Bytes) → Has ms r n → r < bound)
-    → ((k : ℕ) → first ≤ k → k < bound → entry T′ k ≡ entry T k) → Indexed T first ms → Indexed T′ first ms
+pub indexed-same : (T T′ : Bytes) (first : ℕ) (ms : List (ℕ × Bytes)) → ((k : ℕ) (n : Bytes) → Has ms k n → entry T′ k ≡ entry T k)
+    → Indexed T first ms → Indexed T′ first ms
 unfolding Indexed
-indexed-kept T T′ first bound [] below same h = tt
-indexed-kept T T′ first bound (m ∷ ms) below same h = tree-kept T T′ first bound (m ∷ ms) below same h
+indexed-same T T′ first [] same h = tt
+indexed-same T T′ first (m ∷ ms) same h = tree-same T T′ first (m ∷ ms) same h
