@@ -174,6 +174,8 @@ void add_dear_inputs()
     add("492 shifts by 9999 years", reduce("[1,2,3,4]", list_of(shift, 123), "0"), "0");
     add("992 paths to the last of 1,022 items", for_copies(2, apply("and", list_of(var("current.1021"), 496))),
         list_of("1", 1022));
+    add("992 paths to the last of 511 items with parts",
+        for_copies(2, apply("and", list_of(var("current.510"), 496))), list_of("[1]", 511));
     add("992 paths to the last of 1,023 members",
         for_copies(2, apply("and", list_of(var("current." + alike(1022)), 496))), members_alike(1023));
 
