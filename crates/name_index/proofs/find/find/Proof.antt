@@ -1,51 +1,39 @@
+-- A search whose way down no rank stops ends at the leaf that decides.
 use Rattle.name_index.proofs.Found.{finds-no-member, finds-outside, finds-short, finds}
 use Rattle.model.specs.Limits.{maxValues}
 use native.Mathlib.Omega.{arith}
 use borrow.Author.Needs.{needs}
 use Rattle.name_index.proofs.find.find.Statement.{statement}
 use Rattle.name_index.proofs.find.find.Tie as tie
-use Rattle.name_index.proofs.find.find.Reads as reads
-use Rattle.name_index.proofs.find.find.Lts as lts
-use Rattle.name_index.proofs.descend.Reads as descend-reads
-use Rattle.name_index.proofs.find.named.Reads as named-reads
 
--- src/find.rt:24:9
 returns : tie.Need-returns
 returns c = finds-no-member (c .if1 .taken)
 
--- src/find.rt:27:9
 returns-2 : tie.Need-returns-2
 unfolding maxValues
 returns-2 c = finds-outside (c .if2 .taken)
 
--- src/find.rt:29:22
 mul-if3 : tie.Need-mul-if3
 mul-if3 c = search needs
 
--- src/find.rt:30:9
 returns-3 : tie.Need-returns-3
 unfolding maxValues
 returns-3 c = finds-short (c .if3 .taken)
 
--- src/find.rt:32:36
 sub-descend : tie.Need-sub-descend
 sub-descend c = search needs
 
--- src/find.rt:32:47
 sub-descend-2 : tie.Need-sub-descend-2
 sub-descend-2 c = search needs
 
--- src/find.rt:32:9
 descend-requires : tie.Need-descend-requires
 unfolding maxValues
 descend-requires c κs = record { table = c .if3 .left; order = omega (arith, c .before .before .if1 .left); below = omega arith; inside = omega arith }
 
--- src/find.rt:33:5
 named-requires : tie.Need-named-requires
 unfolding maxValues
 named-requires c κs = c .before .before .if3 .left
 
--- src/find.rt:20:1
 returns-4 : tie.Need-returns-4
 unfolding maxValues
 returns-4 c = finds (c .before .before .descend .result) (omega arith) (c .before .before .descend .ensures) (c .named .ensures)

@@ -1,82 +1,62 @@
+-- The words of the row say where its name lies.
 use Rattle.name_index.proofs.Found.{slot-outside, name-outside, name-same, name-other}
 use Rattle.model.specs.Limits.{maxValues}
 use native.Mathlib.Omega.{arith}
 use borrow.Author.Needs.{needs}
 use Rattle.name_index.proofs.find.named.Statement.{statement}
 use Rattle.name_index.proofs.find.named.Tie as tie
-use Rattle.name_index.proofs.find.named.Reads as reads
-use Rattle.name_index.proofs.find.named.Lts as lts
-use Rattle.area.proofs.get_word.Reads as get-word-reads
-use Rattle.bytes.proofs.same.Reads as same-reads
 
--- src/find.rt:41:8
 sub-if1 : tie.Need-sub-if1
 sub-if1 c = search needs
 
--- src/find.rt:42:9
 returns : tie.Need-returns
 unfolding maxValues
 returns c = slot-outside (omega arith)
 
--- src/find.rt:44:32
 mul-get-word : tie.Need-mul-get-word
 mul-get-word c = search needs
 
--- src/find.rt:44:32
 add-get-word : tie.Need-add-get-word
 add-get-word c = search needs
 
--- src/find.rt:44:16
 get-word-requires : tie.Need-get-word-requires
 unfolding maxValues
 get-word-requires c κs = omega (arith, c .before .before .before .before .pre)
 
--- src/find.rt:45:33
 mul-get-word-2 : tie.Need-mul-get-word-2
 mul-get-word-2 c = search needs
 
--- src/find.rt:45:33
 add-get-word-2 : tie.Need-add-get-word-2
 add-get-word-2 c = search needs
 
--- src/find.rt:45:9
 get-word-requires-2 : tie.Need-get-word-requires-2
 unfolding maxValues
 get-word-requires-2 c κs = omega (arith, c .before .before .before .before .before .pre)
 
--- src/find.rt:46:15
 add-end : tie.Need-add-end
 add-end c = search needs
 
--- src/find.rt:48:9
 returns-2 : tie.Need-returns-2
 returns-2 c = name-outside _ _ _ _ _ _ (c .before .before .get-word .ensures .0) (c .before .get-word2 .ensures .0) (c .if2 .taken)
 
--- src/find.rt:50:19
 sub-same : tie.Need-sub-same
 sub-same c = search needs
 
--- src/find.rt:50:19
 part-same-start : tie.Need-part-same-start
 part-same-start c = search needs
 
--- src/find.rt:50:19
 part-same-end : tie.Need-part-same-end
 part-same-end c = search needs
 
--- src/find.rt:50:8
 same-requires : tie.Need-same-requires
 same-requires c κs = search needs
 
--- src/find.rt:51:26
 add-t16 : tie.Need-add-t16
 add-t16 c = search needs
 
--- src/find.rt:51:9
 returns-3 : tie.Need-returns-3
 returns-3 c = name-same _ _ _ _ _ _ (c .before .before .before .before .before .get-word .ensures .0) (c .before .before .before .before .get-word2 .ensures .0) _ (c .before .same .ensures) (c .if3 .taken)
 
--- src/find.rt:37:1
 returns-4 : tie.Need-returns-4
 returns-4 c = name-other _ _ _ _ _ _ (c .before .before .before .before .before .get-word .ensures .0) (c .before .before .before .before .get-word2 .ensures .0) _ (c .before .same .ensures) (c .if3 .left)
 
