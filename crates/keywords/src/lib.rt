@@ -1,10 +1,16 @@
 // The names of operations and units (01, Shape of a rule).
 use bytes::names::Position;
 use bytes::names::position_of;
+use bytes::same;
 use model::Comparison;
 use model::Domain;
 use model::TimeUnit;
+ghost use mathlib.Core.Bool.{cond};
+ghost use mathlib.Core.List.{[], _∷_};
+ghost use mathlib.Core.Option.{none};
 ghost use mathlib.Core.Path.{_≡_};
+ghost use lib.ListN.{length};
+ghost use Rattle.model.specs.Bytes.{sameBytes};
 ghost use Rattle.model.specs.Shape.{keywords, keywordNamed, units, unitNamed};
 ghost use Rattle.bytes.specs.Names.{entryAt};
 ghost use Rattle.keywords.specs.Contract.{keywordOf, unitOf};
@@ -95,16 +101,91 @@ fn keyword_at(i: usize) -> Keyword
     }
 }
 
-// The keyword of this name.
+// The keyword at a place of 01's table, if this name is the word there.
+fn spelled(name: &[u8], word: &[u8], i: usize) -> Keyword
+    ensures { λ r. ⌜ keywordOf r ≡ cond (sameBytes (now (name .entry)) (now (word .entry))) (entryAt keywords i) none ⌝ }
+{
+    if same(name, word) {
+        return keyword_at(i);
+    }
+    Keyword::NoKeyword
+}
+
+// The keyword whose name is one byte.
+fn of_one_byte(a: u8) -> Keyword
+    ensures { λ r. ⌜ keywordOf r ≡ keywordNamed (a ∷ []) ⌝ }
+{
+    match a {
+        b'+' => keyword_at(5),
+        b'>' => keyword_at(7),
+        b'<' => keyword_at(8),
+        b'!' => keyword_at(15),
+        _ => Keyword::NoKeyword,
+    }
+}
+
+// The keyword whose name is two bytes.
+fn of_two_bytes(a: u8, b: u8) -> Keyword
+    ensures { λ r. ⌜ keywordOf r ≡ keywordNamed (a ∷ b ∷ []) ⌝ }
+{
+    if b == b'=' {
+        return match a {
+            b'>' => keyword_at(9),
+            b'<' => keyword_at(10),
+            _ => Keyword::NoKeyword,
+        };
+    }
+    if a != b'i' {
+        return Keyword::NoKeyword;
+    }
+    match b {
+        b'f' => keyword_at(1),
+        b'n' => keyword_at(4),
+        _ => Keyword::NoKeyword,
+    }
+}
+
+// The keyword whose name is three bytes. The first byte leaves one word.
+fn of_three_bytes(name: &[u8]) -> Keyword
+    requires { ⌜ length (now name) ≡ 3 ⌝ }
+    ensures { λ r. ⌜ keywordOf r ≡ keywordNamed (now (name .entry)) ⌝ }
+{
+    match name[0] {
+        b'v' => spelled(name, b"var", 0),
+        b'=' => spelled(name, b"===", 3),
+        b'a' => spelled(name, b"and", 6),
+        _ => Keyword::NoKeyword,
+    }
+}
+
+// The keyword whose name is six bytes.
+fn of_six_bytes(name: &[u8]) -> Keyword
+    requires { ⌜ length (now name) ≡ 6 ⌝ }
+    ensures { λ r. ⌜ keywordOf r ≡ keywordNamed (now (name .entry)) ⌝ }
+{
+    match name[0] {
+        b'r' => spelled(name, b"reduce", 2),
+        b'b' => spelled(name, b"before", 12),
+        _ => Keyword::NoKeyword,
+    }
+}
+
+// The keyword of this name. Few words have the same length.
 pub fn keyword_named(name: &[u8]) -> Keyword
     ensures { λ r. ⌜ keywordOf r ≡ keywordNamed (now (name .entry)) ⌝ }
 {
-    let names =
-        b"var if reduce === in + and > < >= <= after before not-after not-before ! dccDateOfBirth plusTime extractFromUVCI ";
-    let sizes = [3, 2, 6, 3, 2, 1, 3, 1, 1, 2, 2, 5, 6, 9, 10, 1, 14, 8, 15];
-    match position_of(names, &sizes, name) {
-        Position::Nowhere => Keyword::NoKeyword,
-        Position::At(i) => keyword_at(i),
+    match name.len() {
+        1 => of_one_byte(name[0]),
+        2 => of_two_bytes(name[0], name[1]),
+        3 => of_three_bytes(name),
+        5 => spelled(name, b"after", 11),
+        6 => of_six_bytes(name),
+        8 => spelled(name, b"plusTime", 17),
+        9 => spelled(name, b"not-after", 13),
+        10 => spelled(name, b"not-before", 14),
+        14 => spelled(name, b"dccDateOfBirth", 16),
+        15 => spelled(name, b"extractFromUVCI", 18),
+        _ => Keyword::NoKeyword,
     }
 }
 
