@@ -17,7 +17,7 @@ use Rattle.scan.specs.declared.Fault.{Fault}
 use Rattle.scan.specs.Contract.{faultOf, Skipped}
 use Rattle.scan.specs.Laws.{white-by, ended-in, ended-end}
 use Rattle.syntax.specs.Entry.{ReadAnswer, tooShort, readInto, readEntry}
-use Rattle.syntax.specs.Layout.{rowBytes, tableBytes, stringsBytes, unnamed, rowsOf, stringsOf, padded}
+use Rattle.syntax.specs.Layout.{rowBytes, rowsPart, tableBytes, stringsBytes, unnamed, rowsOf, stringsOf, padded}
 use Rattle.syntax.specs.Laws.Layout.{length-rows}
 use Rattle.syntax.specs.Read.{Parsed, then, _>>=_, white, value, ended, text, Read, done, refuse, answer, read}
 use Rattle.json.specs.declared.Answer.{Answer}
@@ -27,7 +27,7 @@ use Rattle.json.specs.declared.step.Step.the-variants.{Reached, Failed}
 use Rattle.json.specs.declared.TextStep.{TextStep}
 use Rattle.json.specs.declared.TextStep.the-variants.{Whole, NoText}
 use Rattle.json.specs.Contract.{answerOf, AllRead}
-use Rattle.json.specs.Inner.{rowsPart, valueForm, ValueRead, TextWrote, TextMeets, TextRead}
+use Rattle.json.specs.Inner.{valueForm, ValueRead, TextWrote, TextMeets, TextRead}
 use Rattle.json.proofs.Rows.{take-rows, length-rowsPart}
 use Rattle.json.proofs.Form.{Got, got-at, gone-at, read-as}
 use Rattle.json.proofs.Items.{bare}
@@ -95,6 +95,7 @@ module _ {s T A : Bytes} where
                     text = w .text ∙ zero-add _;
                     table = w .table;
                     area = w .area;
+                    index = w .index;
                     few = safe .rows;
                     fits = omega (arith, safe);
                   });

@@ -1,4 +1,5 @@
 pub mod Rows
+pub mod Index
 pub mod Form
 pub mod Values
 pub mod Loop
