@@ -6,4 +6,5 @@ pub mod Loop
 pub mod Items
 pub mod Names
 pub mod Members
+pub mod Indexed
 pub mod All
