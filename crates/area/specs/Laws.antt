@@ -5,9 +5,9 @@ use Prim.Native.Nat.{ℕ, suc, _+_, _*_, _-_, _/_, _%_, _≤_, _<_}
 use native.Mathlib.Omega.{arith}
 use native.Mathlib.Nat.{add-zero, add-suc, suc-add, add-assoc, div-div-eq-div-mul, div-add-mod', mod-eq-of-lt}
 use native.Mathlib.Numerals.{add-one}
-use lib.ListN.{length, getD, take, drop, set, replicate, length-append, length-take, length-set, length-replicate, List·getD-append}
+use lib.ListN.{length, getD, take, drop, set, replicate, length-append, length-take, length-drop, length-set, take-append-drop, length-replicate, List·getD-append}
 use lib.Seq.{sets, sets-eq, set-comm, drop-at, take-at, length-take-le, length-sets, getD-drop, getD-take, getD-set-other, getD-append-add, take-all, take-set-le, take-set-lt, take-suc-set, drop-set-lt, drop-set-add, take-append-seam}
-use Rattle.area.specs.Words.{word, wordAt, zeroFrom}
+use Rattle.area.specs.Words.{word, wordAt, zeroBetween, zeroFrom}
 
 -- ---- runs of stores
 
@@ -172,3 +172,29 @@ unfolding zeroFrom
 zeroFrom-more n d h =
     let e : length d - n ≡ suc (length d - suc n) = omega arith in
     rw (add-one, length-set, take-suc-set d n 0 h, e) (append-assoc (take n d) (0 ∷ []) (replicate (length d - suc n) 0))
+
+-- ---- zeros between two places
+
+pub zeroBetween-none : (n m : ℕ) (d : List ℕ) → m - (m - length d) ≤ n → zeroBetween n m d ≡ d
+unfolding zeroBetween
+zeroBetween-none n m d h =
+    ap (λ (e : List ℕ). e ++ drop m d) (zeroFrom-none n (take m d) (let k = length-take m d in omega arith)) ∙ take-append-drop m d
+
+pub zeroBetween-more : (n m : ℕ) (d : List ℕ) → n < m → n < length d → zeroBetween (n + 1) m (set d n 0) ≡ zeroBetween n m d
+unfolding zeroBetween
+zeroBetween-more n m d l h =
+    (λ i. zeroFrom (n + 1) (take-set-lt m d n 0 l i) ++ drop-set-lt m d n 0 l i)
+    ∙ ap (λ (e : List ℕ). e ++ drop m d) (zeroFrom-more n (take m d) (let k = length-take m d in omega arith))
+
+pub length-zeroBetween : (n m : ℕ) (d : List ℕ) → length (zeroBetween n m d) ≡ length d
+unfolding zeroBetween
+length-zeroBetween n m d = simp (length-append, length-zeroFrom, length-take, length-drop) (omega arith)
+
+-- In front of the second place, and behind it.
+pub take-zeroBetween : (n m : ℕ) (d : List ℕ) → m ≤ length d → take m (zeroBetween n m d) ≡ zeroFrom n (take m d)
+unfolding zeroBetween
+take-zeroBetween n m d h = take-at (zeroFrom n (take m d)) (drop m d) m (length-zeroFrom n (take m d) ∙ length-take-le m d h)
+
+pub drop-zeroBetween : (n m : ℕ) (d : List ℕ) → m ≤ length d → drop m (zeroBetween n m d) ≡ drop m d
+unfolding zeroBetween
+drop-zeroBetween n m d h = drop-at (zeroFrom n (take m d)) (drop m d) m (length-zeroFrom n (take m d) ∙ length-take-le m d h)

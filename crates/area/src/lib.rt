@@ -1,9 +1,9 @@
 // Areas of bytes that a caller lends: clearing one, and numbers of four bytes in one.
 ghost use mathlib.Core.Path.{_≡_};
-ghost use Prim.Native.Nat.{_+_, _≤_, _<_};
+ghost use Prim.Native.Nat.{_+_, _-_, _≤_, _<_};
 ghost use lib.ListN.{length};
 ghost use lib.Seq.{sets};
-ghost use Rattle.area.specs.Contract.{word, wordAt, zeroFrom};
+ghost use Rattle.area.specs.Contract.{word, wordAt, zeroBetween, zeroFrom};
 
 // Zeros from `from` on.
 pub fn clear_from(d: &mut [u8], from: usize)
@@ -14,6 +14,27 @@ pub fn clear_from(d: &mut [u8], from: usize)
         d[i] = 0;
         i += 1;
     }
+}
+
+// Zeros from `from` up to `to`, or to the end.
+pub fn clear_between(d: &mut [u8], from: usize, to: usize)
+    ensures { λ _. ⌜ now (d .exit) ≡ zeroBetween from to (now (d .entry)) ⌝ }
+{
+    let end = lesser(to, d.len());
+    let mut at = from;
+    while at < end {
+        d[at] = 0;
+        at += 1;
+    }
+}
+
+fn lesser(a: usize, b: usize) -> usize
+    ensures { λ r. ⌜ r ≡ a - (a - b) ⌝ }
+{
+    if a < b {
+        return a;
+    }
+    b
 }
 
 // The lowest four bytes of `x`, at `at`.

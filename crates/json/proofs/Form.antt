@@ -14,7 +14,7 @@ use Rattle.model.specs.Value.{Value}
 use Rattle.name_index.specs.Contract.{entry}
 use Rattle.scan.specs.declared.Fault.{Fault}
 use Rattle.scan.specs.Laws.{Gone}
-use Rattle.syntax.specs.Layout.{rowBytes, rowsOf, stringsOf}
+use Rattle.syntax.specs.Layout.{rowBytes, rowsPart, rowsOf, stringsOf}
 use Rattle.syntax.specs.Layout as layout
 use Rattle.syntax.specs.Laws.Layout.{length-row}
 use Rattle.syntax.specs.Read.{Parsed, ok, bad, Parser, then, give}
@@ -22,8 +22,10 @@ use Rattle.json.specs.declared.row.Label.{Label}
 use Rattle.json.specs.declared.step.Cursor.{Cursor}
 use Rattle.json.specs.declared.step.Step.{Step}
 use Rattle.json.specs.declared.step.Step.the-variants.{Reached, Failed}
-use Rattle.json.specs.Inner.{rowsPart, labelOf, Form, valueForm, cursor, Wrote, Meets, Safe, StepSafe, Reads, ValueRead, FilledMeets, Filled}
+use Rattle.json.specs.Inner.{labelOf, Form, valueForm, cursor, Wrote, Meets, Safe, StepSafe, Reads, ValueRead, FilledMeets, Filled}
+use Rattle.json.specs.Index.{IndexedValue}
 use Rattle.json.proofs.Rows.{rows-sets, entry-sets}
+use Rattle.json.proofs.Index.{value-frame}
 
 -- ---- what a contract says, by the answer
 -- A parser gave x, up to where the code stands.
@@ -41,7 +43,7 @@ module _ {X : Type 0} (F : Form X) (s : Bytes) (row used : ℕ) (T A : Bytes) (T
   got-of c (ok x u q) w = record {
     x = x;
     is = (λ i. ok x (w .left i) q) ∙ (λ i. ok x (drop (sym (w .place) i) s) (sym (w .place) i));
-    wrote = record { place = refl; left = refl; rows = w .rows; text = w .text; parts = w .parts; table = w .table; area = w .area };
+    wrote = record { place = refl; left = refl; rows = w .rows; text = w .text; parts = w .parts; table = w .table; area = w .area; index = w .index };
   }
   got-of c (bad k p) w = absurd w
 
@@ -55,7 +57,7 @@ module _ {X : Type 0} (F : Form X) (s : Bytes) (row used : ℕ) (T A : Bytes) (T
   meets-gone : {f : Fault} {g : Parsed X} → Gone g f → Meets F s row used T A g (Failed f) T′ A′
   meets-gone {f} w = subst⁻¹ (λ (g : Parsed X). Meets F s row used T A g (Failed f) T′ A′) (w .is) (w .fault)
 
-module _ {X : Type 0} {F : Form X} {m : ℕ → Parser X} {k b : ℕ} {s : Bytes} {at row used : ℕ} {T A : Bytes} {T′ A′ : Bytes} where
+module _ {X : Type 0} {F : Form X} {m : ℕ → Parser X} {k : ℕ} {b : ℕ → Type 0} {s : Bytes} {at row used : ℕ} {T A : Bytes} {T′ A′ : Bytes} where
   pub got-at : {c : Cursor} → Reads F m k b s at row used T A (Reached c) T′ A′ → (f : ℕ) → 2 * (length s - at) + k < f
       → Got F s row used T A (m f (drop at s) at) c T′ A′
   got-at {c} h f l = got-of F s row used T A T′ A′ c (m f (drop at s) at) (h .run f l)
@@ -90,7 +92,7 @@ pub record On {X : Type 0} (g : Parsed X) (m : ℕ → Parser X) (enough : ℕ) 
   pub steps : enough < fuel
   pub is : g ≡ m fuel (drop at s) at
 
-safe-before : (b : ℕ) (s : Bytes) (at at′ row used : ℕ) (T : Bytes) (r : Step) (T′ : Bytes) → at ≤ at′ → StepSafe b s at′ row used T r T′ → StepSafe b s at row used T r T′
+safe-before : (b : ℕ → Type 0) (s : Bytes) (at at′ row used : ℕ) (T : Bytes) (r : Step) (T′ : Bytes) → at ≤ at′ → StepSafe b s at′ row used T r T′ → StepSafe b s at row used T r T′
 safe-before b s at at′ row used T (Reached c) T′ l safe = record {
   on = omega arith;
   inside = safe .inside;
@@ -103,7 +105,20 @@ safe-before b s at at′ row used T (Reached c) T′ l safe = record {
 }
 safe-before b s at at′ row used T (Failed f) T′ l safe = tt
 
-module _ {X : Type 0} {F : Form X} {m m′ : ℕ → Parser X} {k k′ b : ℕ} {s : Bytes} {at at′ row used : ℕ} {T A : Bytes} {r : Step} {T′ A′ : Bytes} where
+safe-fewer : {b b′ : ℕ → Type 0} → ((e : ℕ) → b e → b′ e) → (s : Bytes) (at row used : ℕ) (T : Bytes) (r : Step) (T′ : Bytes) → StepSafe b′ s at row used T r T′ → StepSafe b s at row used T r T′
+safe-fewer k s at row used T (Reached c) T′ safe = record {
+  on = safe .on;
+  inside = safe .inside;
+  text = safe .text;
+  more = safe .more;
+  rows = safe .rows;
+  less = safe .less;
+  count = safe .count;
+  kept = λ e o p. safe .kept e o (k e p);
+}
+safe-fewer k s at row used T (Failed f) T′ safe = tt
+
+module _ {X : Type 0} {F : Form X} {m m′ : ℕ → Parser X} {k k′ : ℕ} {b : ℕ → Type 0} {s : Bytes} {at at′ row used : ℕ} {T A : Bytes} {r : Step} {T′ A′ : Bytes} where
   pub through : at ≤ at′ → Reads F m′ k′ b s at′ row used T A r T′ A′
       → ((f : ℕ) → 2 * (length s - at) + k < f → On (m f (drop at s) at) m′ (2 * (length s - at′) + k′) s at′)
       → Reads F m k b s at row used T A r T′ A′
@@ -112,8 +127,13 @@ module _ {X : Type 0} {F : Form X} {m m′ : ℕ → Parser X} {k k′ b : ℕ} 
     run = λ f e. let o = g f e in subst⁻¹ (λ (p : Parsed X). Meets F s row used T A p r T′ A′) (o .is) (h .run (o .fuel) (o .steps));
   }
 
+-- Of fewer entries that stay.
+pub fewer : {X : Type 0} {F : Form X} {m : ℕ → Parser X} {k : ℕ} {b b′ : ℕ → Type 0} {s : Bytes} {at row used : ℕ} {T A : Bytes} {r : Step} {T′ A′ : Bytes}
+    → ((e : ℕ) → b e → b′ e) → Reads F m k b′ s at row used T A r T′ A′ → Reads F m k b s at row used T A r T′ A′
+fewer {s = s} {at} {row} {used} {T} {r = r} {T′} g h = record { safe = safe-fewer g s at row used T r T′ (h .safe); run = h .run }
+
 -- After a fault the areas are free.
-pub refail : {X : Type 0} {F : Form X} {m : ℕ → Parser X} {k b : ℕ} {s : Bytes} {at row used : ℕ} {T A : Bytes} {x : Fault} {T₁ A₁ T₂ A₂ : Bytes}
+pub refail : {X : Type 0} {F : Form X} {m : ℕ → Parser X} {k : ℕ} {b : ℕ → Type 0} {s : Bytes} {at row used : ℕ} {T A : Bytes} {x : Fault} {T₁ A₁ T₂ A₂ : Bytes}
     → Reads F m k b s at row used T A (Failed x) T₁ A₁ → Reads F m k b s at row used T A (Failed x) T₂ A₂
 refail h = reads-bad (λ f l. gone-at h f l)
 
@@ -122,9 +142,10 @@ module _ {X : Type 0} (F : Form X) (wrap : X → Value) (kind : ℕ) (label : La
     (rows-wrap : (x : X) (row used : ℕ) → rowsOf (wrap x) row used (labelOf label) ≡ layout.row kind (labelOf label) (F .parts x) (row + 1 + F .count x) ++ F .rows x (row + 1) used)
     (strings-wrap : (x : X) → stringsOf (wrap x) ≡ F .strings x) (count-wrap : (x : X) → valueCount (wrap x) ≡ suc (F .count x)) where
   around : (x : X) {s : Bytes} {row used : ℕ} {T A u : Bytes} {q : ℕ} {c : Cursor} {T₁ A₁ T₂ : Bytes} → Wrote F s (row + 1) used T A x u q c T₁ A₁ → row < maxValues
+      → (F .indexed x (row + 1) T₁ → IndexedValue T₁ row (wrap x))
       → T₂ ≡ sets T₁ (row * rowBytes) (layout.row kind (labelOf label) (c .count) (c .row)) → Wrote (valueForm (labelOf label)) s row used T A (wrap x) u q (cursor (c .at) (c .row) (c .used) 0) T₂ A₁
   unfolding rowBytes
-  around x {row = row} {used} {T} {A} {c = c} {T₁} w few t =
+  around x {row = row} {used} {T} {A} {c = c} {T₁} {T₂ = T₂} w few own t =
       let i : row * rowBytes + length (layout.row kind (labelOf label) (c .count) (c .row)) ≤ maxValues * rowBytes = rw length-row (omega arith) in
       let j : (row + 1) * rowBytes ≡ row * rowBytes + length (layout.row kind (labelOf label) (F .parts x) (row + 1 + F .count x)) = rw length-row (omega arith) in
       record {
@@ -139,10 +160,13 @@ module _ {X : Type 0} (F : Form X) (wrap : X → Value) (kind : ℕ) (label : La
             ∙ sets-before (layout.row kind (labelOf label) (F .parts x) (row + 1 + F .count x)) (F .rows x (row + 1) used) (rowsPart T) (row * rowBytes)
             ∙ ap (sets (rowsPart T) (row * rowBytes)) (sym (rows-wrap x row used));
         area = w .area ∙ ap (sets A used) (sym (strings-wrap x));
+        index = value-frame T₁ T₂ (wrap x) row (λ e _ _. ap (λ (d : Bytes). entry d e) t ∙ entry-sets T₁ (row * rowBytes) (layout.row kind (labelOf label) (c .count) (c .row)) i e)
+            (own (w .index));
       }
 
-  module _ {m : ℕ → Parser X} {n : ℕ → Parser Value} {k b : ℕ} {s : Bytes} {row first at used : ℕ} {T A : Bytes} {T₁ A₁ : Bytes} (l : at ≤ first)
-      (is : (f : ℕ) → 2 * (length s - at) + k < f → n f (drop at s) at ≡ then (m f (drop first s) first) (λ x. give (wrap x))) where
+  module _ {m : ℕ → Parser X} {n : ℕ → Parser Value} {k : ℕ} {b : ℕ → Type 0} {s : Bytes} {row first at used : ℕ} {T A : Bytes} {T₁ A₁ : Bytes} (l : at ≤ first)
+      (is : (f : ℕ) → 2 * (length s - at) + k < f → n f (drop at s) at ≡ then (m f (drop first s) first) (λ x. give (wrap x)))
+      (own : (x : X) → F .indexed x (row + 1) T₁ → IndexedValue T₁ row (wrap x)) where
     wrapped-bad : {x : Fault} {T₂ : Bytes} → Reads F m k b s first (row + 1) used T A (Failed x) T₁ A₁ → Reads (valueForm (labelOf label)) n k b s at row used T A (Failed x) T₂ A₁
     unfolding then
     wrapped-bad h =
@@ -168,7 +192,7 @@ module _ {X : Type 0} (F : Form X) (wrap : X → Value) (kind : ℕ) (label : La
         })
         (λ f e.
         let g = got-at h f (omega arith) in
-        record { x = wrap (g .x); is = is f e ∙ ap (λ (p : Parsed X). then p (λ y. give (wrap y))) (g .is); wrote = around (g .x) (g .wrote) few t })
+        record { x = wrap (g .x); is = is f e ∙ ap (λ (p : Parsed X). then p (λ y. give (wrap y))) (g .is); wrote = around (g .x) (g .wrote) few (own (g .x)) t })
 
     -- By what came of the parts.
     contained-by : (r : Step) {r₂ : Step} {T₂ : Bytes} → Reads F m k b s first (row + 1) used T A r T₁ A₁ → row < maxValues → FilledMeets T₁ row kind label r r₂ T₂

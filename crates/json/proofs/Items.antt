@@ -1,5 +1,5 @@
 -- The items of an array: a law for each way out of the loop of `all_items`, and one for its next turn. Over plain values.
-use mathlib.Core.Path.{_≡_, refl, sym, ap, _∙_, subst⁻¹}
+use mathlib.Core.Path.{_≡_, refl, sym, ap, _∙_, subst, subst⁻¹}
 use Prim.Native.Nat.{ℕ, suc, _+_, _-_, _≤_, _<_}
 use native.Mathlib.Omega.{arith}
 use lib.ListN.{length, drop}
@@ -20,7 +20,9 @@ use Rattle.json.specs.declared.step.Cursor.{Cursor}
 use Rattle.json.specs.declared.step.Step.{Step}
 use Rattle.json.specs.declared.step.Step.the-variants.{Reached, Failed}
 use Rattle.json.specs.declared.row.Label.{Label}
-use Rattle.json.specs.Inner.{valueForm, itemsForm, cursor, Wrote, ValueRead, ItemsRead, Room, Breaks, failed, stopped, Closes, Continued}
+use Rattle.json.specs.Inner.{valueForm, itemsForm, cursor, Wrote, Below, ValueRead, ItemsRead, Room, Breaks, failed, stopped, Closes, Continued}
+use Rattle.json.specs.Index.{IndexedValue, IndexedItems}
+use Rattle.json.proofs.Index.{value-frame}
 use Rattle.json.proofs.Form.{gone-then, got-at, gone-at, read-as}
 use Rattle.json.proofs.Loop.{Front, Onward, Inv, inv-start, loop-bad, loop-last, loop-more}
 
@@ -41,9 +43,9 @@ module _ (f row depth at : ℕ) {s : Bytes} {q end : ℕ} (v : Value) {x : Separ
       ∙ separator-by (eat (white (λ u p. then (items f (row + valueCount v) depth u p) (λ vs. give (item v vs))))) (eat (give (item v no-items))) se
 
 front : (v : Value) {s : Bytes} {row used : ℕ} {T A u : Bytes} {q : ℕ} {c : Cursor} {T′ A′ : Bytes} → Wrote (valueForm unnamed) s row used T A v u q c T′ A′
-    → Front itemsForm row used T A (c .row) (c .used) T′ A′ (item v)
-unfolding rowsOf stringsOf valueCount itemCount
-front v {row = row} {used} w = record {
+    → Front itemsForm (itemsForm .indexed) (Below (c .row)) row used T A (c .row) (c .used) T′ A′ (item v)
+unfolding rowsOf stringsOf valueCount itemCount IndexedValue
+front v {row = row} {used} {T′ = T′} w = record {
   n = valueCount v;
   rs = rowsOf v row used unnamed;
   ts = stringsOf v;
@@ -56,17 +58,21 @@ front v {row = row} {used} w = record {
   text = w .text;
   table = w .table;
   area = w .area;
+  index = λ vs T₂ k j. (
+    value-frame T′ T₂ v row (λ e l r. k e (omega arith) (omega (arith, w .rows))) (w .index),
+    subst (λ (n : ℕ). IndexedItems T₂ n vs) (w .rows) j,
+  );
 }
 
 -- ---- the loop
 pub record ItemsInv (depth : ℕ) (s : Bytes) (at row used : ℕ) (T A T₁ A₁ : Bytes) (here next to count : ℕ) : Type 0 where
-  pub inv : Inv itemsForm (λ f. items f row depth) (λ f. items f next depth) row s at row used T A T₁ A₁ here next to count
+  pub inv : Inv itemsForm (itemsForm .indexed) (λ f. items f row depth) (λ f. items f next depth) (Below row) (Below next) s at row used T A T₁ A₁ here next to count
 
 pub items-start : {depth : ℕ} {s : Bytes} {at row used : ℕ} {T A : Bytes} {h : Cursor} → Room s T A at row used 0 → h ≡ cursor at row used 0
     → ItemsInv depth s at row used T A T A (h .at) (h .row) (h .used) (h .count)
 items-start {depth} {s} {at} {row} {used} {T} {A} r e =
     subst⁻¹ (λ (x : Cursor). ItemsInv depth s at row used T A T A (x .at) (x .row) (x .used) (x .count)) e
-    (record { inv = inv-start (r .place) (r .text) (r .rows) })
+    (record { inv = inv-start itemsForm (r .place) (r .text) (r .rows) (λ e l. l) })
 
 module _ {depth : ℕ} {s : Bytes} {at row used : ℕ} {T A T₁ A₁ : Bytes} {here next to count : ℕ} (i : ItemsInv depth s at row used T A T₁ A₁ here next to count)
     {T₂ A₂ : Bytes} where
@@ -85,7 +91,7 @@ module _ {depth : ℕ} {s : Bytes} {at row used : ℕ} {T A T₁ A₁ : Bytes} {
           record { k = notJson; p = end; is = items-as f next depth here (g .x) (g .is) sk se; fault = refl });
     }
 
-    onward : {here₁ : ℕ} → end < here₁ → here₁ ≤ length s → Onward row s here next to T₁ here₁ (c .row) (c .used) T₂
+    onward : {here₁ : ℕ} → end < here₁ → here₁ ≤ length s → Onward (Below next) (Below (c .row)) s here next to T₁ here₁ (c .row) (c .used) T₂
     onward l n =
         let safe = h .reads .safe in
         let o = i .inv in
@@ -97,10 +103,11 @@ module _ {depth : ℕ} {s : Bytes} {at row used : ℕ} {T A T₁ A₁ : Bytes} {
           rows = safe .rows;
           less = safe .less;
           kept = λ e p q. safe .kept e p (omega arith);
+          still = λ e p. omega (arith, safe .less);
         }
 
     items-last : Separated s 93 end Close → ItemsRead s at row used depth T A (Reached (cursor (end + 1) (c .row) (c .used) (count + 1))) T₂ A₂
-    unfolding onSeparator give rowsOf stringsOf valueCount itemCount
+    unfolding onSeparator give rowsOf stringsOf valueCount itemCount IndexedValue
     items-last se = record {
       reads = loop-last (i .inv) (onward (omega arith) (omega (arith, se .room)))
           (λ f l. let g = got-at (h .reads) f (omega arith) in
@@ -112,6 +119,7 @@ module _ {depth : ℕ} {s : Bytes} {at row used : ℕ} {T A T₁ A₁ : Bytes} {
             empty = refl;
             count = refl;
             parts = refl;
+            index = Prim.tt;
             is = items-as f next depth here (g .x) (g .is) sk se ∙ eat-next (give (item (g .x) no-items)) s end (se .room);
           });
     }

@@ -1,8 +1,10 @@
 pub mod Rows
+pub mod Index
 pub mod Form
 pub mod Values
 pub mod Loop
 pub mod Items
 pub mod Names
 pub mod Members
+pub mod Indexed
 pub mod All

@@ -1,6 +1,7 @@
 -- The members of an object: a law for each way out of the loop of `all_members`, and one for its next turn. Over plain values.
 use mathlib.Core.Path.{_≡_, refl, sym, ap, _∙_, subst, subst⁻¹}
-use mathlib.Core.List.{List, [], _∷_, _++_, append-assoc}
+use mathlib.Core.List.{List, [], _∷_, _++_, append-assoc, append-nil}
+use mathlib.Core.Logic.{_⊎_, inl, inr}
 use Prim.Native.Nat.{ℕ, suc, _+_, _*_, _-_, _/_, _≤_, _<_}
 use native.Mathlib.Nat.{add-zero}
 use native.Mathlib.Omega.{arith}
@@ -15,13 +16,13 @@ use Rattle.model.specs.Size.{valueCount}
 use Rattle.model.specs.Value.{Value, Members, no-members, member}
 use Rattle.model.specs.Laws.Logic.{clash}
 use Rattle.name_index.specs.Laws.Entries.{indexed-empty, indexed-frame}
-use Rattle.name_index.specs.Contract.{Entry, Indexed, Between, namesOf, part}
+use Rattle.name_index.specs.Contract.{Entry, Indexed, Between, HasRow, namesOf, part}
 use Rattle.scan.specs.declared.Fault.{Fault}
 use Rattle.scan.specs.Contract.{faultOf, Skipped, Separated}
 use Rattle.scan.specs.Laws.{eat-next, white-by, separator-by, Gone}
 use Rattle.syntax.specs.declared.Separator.{Separator}
 use Rattle.syntax.specs.declared.Separator.the-variants.{Comma, Close, Neither}
-use Rattle.syntax.specs.Layout.{rowBytes, tableBytes, rowsOf, stringsOf, memberRows, memberStrings}
+use Rattle.syntax.specs.Layout.{rowBytes, rowsPart, tableBytes, rowsOf, stringsOf, memberRows, memberStrings}
 use Rattle.syntax.specs.Layout as layout
 use Rattle.syntax.specs.Laws.Layout.{count-positive, length-rows}
 use Rattle.syntax.specs.Read.{Parsed, ok, bad, then, _>>=_, give, fail, peek, eat, white, onSeparator, name, value, members}
@@ -32,7 +33,9 @@ use Rattle.json.specs.declared.step.Step.the-variants.{Reached, Failed}
 use Rattle.json.specs.declared.name.NameStep.{NameStep}
 use Rattle.json.specs.declared.name.NameStep.the-variants.{Named, NoName}
 use Rattle.json.specs.declared.row.Label.{Label}
-use Rattle.json.specs.Inner.{rowsPart, valueForm, membersForm, cursor, Wrote, ValueRead, MembersRead, MembersRoom, Holds, Has, named, NameMeets, NameRead, Breaks, failed, stopped, Closes, Continued}
+use Rattle.json.specs.Inner.{withIndex, valueForm, membersIndex, membersForm, cursor, Wrote, Kept, Below, Older, ValueRead, MembersRead, MembersRoom, Holds, Has, named, NameMeets, NameRead, Breaks, failed, stopped, Closes, Continued}
+use Rattle.json.specs.Index.{entriesOf, IndexedValue, IndexedMembers}
+use Rattle.json.proofs.Index.{value-frame, row-between, row-snoc}
 use Rattle.json.proofs.Rows.{length-rowsPart, take-rows, first-row, row-size, row-start}
 use Rattle.json.proofs.Form.{Got, gone-then, got-at, gone-at, read-as}
 use Rattle.json.proofs.Loop.{Front, Onward, Inv, inv-start, loop-bad, loop-last, loop-more}
@@ -105,6 +108,22 @@ module _ (f row depth at : ℕ) (seen : List Bytes) {s : Bytes} {q p : ℕ} (n :
 abbrev label : ℕ → ℕ → layout.Label
 label start size = record { start = start; size = size }
 
+-- No member so far has a later row.
+later : {row : ℕ} (first : ℕ) (es : List Entry) (e : Entry) → Between first row es → e .row ≡ row → (x : ℕ) → row < x → HasRow (es ++ (e ∷ [])) x → ⊥
+later {row} first es e b i x l h = go (row-snoc es e x h)
+  where
+    go : HasRow es x ⊎ (x ≡ e .row) → ⊥
+    go (inl g) = omega (arith, row-between es first row b x g)
+    go (inr g) = omega arith
+
+-- And one that has is none of an earlier row.
+earlier : (es : List Entry) (e : Entry) (x : ℕ) → x < e .row → (HasRow es x → ⊥) → HasRow (es ++ (e ∷ [])) x → ⊥
+earlier es e x l f h = go (row-snoc es e x h)
+  where
+    go : HasRow es x ⊎ (x ≡ e .row) → ⊥
+    go (inl g) = f g
+    go (inr g) = omega arith
+
 module _ (n : Bytes) (v : Value) (used : ℕ) (T A : Bytes) {s : Bytes} {row : ℕ} {T₁ A₁ u : Bytes} {q k : ℕ} {c : Cursor} {T₂ A₂ : Bytes}
     (rows : rowsPart T₁ ≡ rowsPart T) (size : k ≡ length n) (area : A₁ ≡ sets A used n)
     (w : Wrote (valueForm (label used k)) s row (used + k) T₁ A₁ v u q c T₂ A₂) where
@@ -114,9 +133,23 @@ module _ (n : Bytes) (v : Value) (used : ℕ) (T A : Bytes) {s : Bytes} {row : �
   own-area : A₂ ≡ sets A used (n ++ stringsOf v)
   own-area = w .area ∙ (λ i. sets (area i) (used + size i) (stringsOf v)) ∙ sets-append n (stringsOf v) A used
 
-  front : Front membersForm row used T A (c .row) (c .used) T₂ A₂ (member n v)
+  own-index : (first : ℕ) (es : List Entry) (e : Entry) → Between first row es → e .row ≡ row → e .name ≡ n
+      → (ms : Members) (T₃ : Bytes) → Kept (Older (c .row) (es ++ (e ∷ []))) T₂ T₃ → membersIndex first (es ++ (e ∷ [])) ms (c .row) T₃ → membersIndex first es (member n v ms) row T₃
+  unfolding IndexedValue entriesOf
+  own-index first es e b i j ms T₃ k h =
+      let g : (es ++ (e ∷ [])) ++ entriesOf (c .row) ms ≡ es ++ entriesOf row (member n v ms) =
+      append-assoc es (e ∷ []) (entriesOf (c .row) ms) ∙ (λ o. es ++ (record { row = i o; name = j o } ∷ entriesOf (w .rows o) ms)) in (
+        (
+          value-frame T₂ T₃ v row (λ x l r. k x (omega arith) (omega (arith, w .rows), later first es e b i x l)) (w .index),
+          subst (λ (m : ℕ). IndexedMembers T₃ m ms) (w .rows) (h .0),
+        ),
+        subst (Indexed T₃ first) g (h .1),
+      )
+
+  front : (first : ℕ) (es : List Entry) (e : Entry) → Between first row es → e .row ≡ row → e .name ≡ n
+      → Front (withIndex (membersForm first) (membersIndex first es)) (membersIndex first (es ++ (e ∷ []))) (Older (c .row) (es ++ (e ∷ []))) row used T A (c .row) (c .used) T₂ A₂ (member n v)
   unfolding rowsOf stringsOf valueCount
-  front =
+  front first es d b i j =
       let l : length (n ++ stringsOf v) ≡ length n + length (stringsOf v) = length-append n (stringsOf v) in
       let e : used + length n + length (stringsOf v) ≡ used + length (n ++ stringsOf v) = omega arith in
       record {
@@ -132,6 +165,7 @@ module _ (n : Bytes) (v : Value) (used : ℕ) (T A : Bytes) {s : Bytes} {row : �
         text = w .text ∙ omega arith;
         table = own-rows;
         area = own-area;
+        index = own-index first es d b i j;
       }
 
 -- ---- the members so far
@@ -167,7 +201,7 @@ module _ (v : Value) (row used : ℕ) (name : layout.Label) (T T₂ : Bytes) (t 
 pub record MembersInv (depth : ℕ) (s : Bytes) (at row used : ℕ) (T A T₁ A₁ : Bytes) (here next to count : ℕ) : Type 0 where
   pub es : List Entry
   pub has : Has T₁ A₁ row next to es
-  pub inv : Inv membersForm (λ f. members f row depth []) (λ f. members f next depth (namesOf es)) row s at row used T A T₁ A₁ here next to count
+  pub inv : Inv (membersForm row) (membersIndex row es) (λ f. members f row depth []) (λ f. members f next depth (namesOf es)) (Below row) (Older next es) s at row used T A T₁ A₁ here next to count
 
 pub members-start : {depth : ℕ} {s : Bytes} {at row used : ℕ} {T A : Bytes} {h : Cursor} → MembersRoom s T A at row used → h ≡ cursor at row used 0
     → MembersInv depth s at row used T A T A (h .at) (h .row) (h .used) (h .count)
@@ -177,7 +211,7 @@ members-start {depth} {s} {at} {row} {used} {T} {A} r e =
     (record {
       es = [];
       has = record { indexed = indexed-empty T row; holds = Prim.tt; between = Prim.tt; none = λ e. refl; some = λ e. refl };
-      inv = inv-start (r .room .place) (r .room .text) (r .room .rows);
+      inv = inv-start (membersForm row) (r .room .place) (r .room .text) (r .room .rows) (λ e l. (l, λ h. h));
     })
 
 module _ {depth : ℕ} {s : Bytes} {at row used : ℕ} {T A T₁ A₁ : Bytes} {here next to count : ℕ} (i : MembersInv depth s at row used T A T₁ A₁ here next to count)
@@ -220,46 +254,8 @@ module _ {depth : ℕ} {s : Bytes} {at row used : ℕ} {T A T₁ A₁ : Bytes} {
             record { k = notJson; p = end; is = members-as f next depth here (namesOf (i .es)) (o .n) (o .is) (o .skipped) (g .x) (g .is) sk se; fault = refl });
       }
 
-      onward : {here₁ : ℕ} → end < here₁ → here₁ ≤ length s → Onward row s here next to T₁ here₁ (c .row) (c .used) T₃
-      onward l b =
-          let safe = h .reads .safe in
-          let safe₁ = nr .safe in
-          let o = i .inv in
-          record {
-            on = omega (arith, sk .on);
-            inside = b;
-            text = omega (arith, sk .on);
-            more = omega arith;
-            rows = safe .rows;
-            less = safe .less;
-            kept = λ e p q. safe .kept e p (omega arith) ∙ safe₁ .kept e p q;
-          }
-
-      front-at : (f : ℕ) (l : 2 * (length s - here) + 1 ≤ f) → Front membersForm next to T₁ A₁ (c .row) (c .used) T₃ A₃ (member (name-at f (omega arith) .n) (got f l .x))
-      front-at f l = let o = name-at f (omega arith) in front (o .n) (got f l .x) to T₁ A₁ (nr .safe .rows) (o .size) (o .area) (got f l .wrote)
-
-      members-last : Separated s 125 end Close → MembersRead [] s at row used depth T A (Reached (cursor (end + 1) (c .row) (c .used) (count + 1))) T₃ A₃
-      unfolding onSeparator give rowsOf stringsOf valueCount
-      members-last se = record {
-        reads = loop-last (i .inv) (onward (omega arith) (omega (arith, se .room)))
-            (λ f l.
-            let o = name-at f (omega arith) in
-            let g = got f l in
-            record {
-              cons = member (o .n) (g .x);
-              front = front-at f l;
-              nil = no-members;
-              none = λ at used. refl;
-              empty = refl;
-              count = refl;
-              parts = refl;
-              is = members-as f next depth here (namesOf (i .es)) (o .n) (o .is) (o .skipped) (g .x) (g .is) sk se
-                  ∙ eat-next (give (member (o .n) (g .x) no-members)) s end (se .room);
-            });
-      }
-
       module _ (room : MembersRoom s T A at row used) where
-        entered : List Entry
+        abbrev entered : List Entry
         entered = i .es ++ (named A₂ next to (nm .size) ∷ [])
 
         -- The name is what lies in the area.
@@ -273,7 +269,7 @@ module _ {depth : ℕ} {s : Bytes} {at row used : ℕ} {T A T₁ A₁ : Bytes} {
             ∙ part-sets (o .n) A₁ to (omega (arith, o .size)))
 
         has-more : length T₂ ≡ length T → Has T₃ A₃ row (c .row) (c .used) entered
-        unfolding entered rowBytes
+        unfolding rowBytes
         has-more lt =
             let f : ℕ = suc (2 * length s) in
             let o = name-at f (omega arith) in
@@ -306,9 +302,53 @@ module _ {depth : ℕ} {s : Bytes} {at row used : ℕ} {T A T₁ A₁ : Bytes} {
               some = λ k. absurd (snoc-some (i .es) e k);
             }
 
+        onward : {here₁ : ℕ} → end < here₁ → here₁ ≤ length s → Onward (Older next (i .es)) (Older (c .row) entered) s here next to T₁ here₁ (c .row) (c .used) T₃
+        onward l b =
+            let safe = h .reads .safe in
+            let safe₁ = nr .safe in
+            let o = i .inv in
+            record {
+              on = omega (arith, sk .on);
+              inside = b;
+              text = omega (arith, sk .on);
+              more = omega arith;
+              rows = safe .rows;
+              less = safe .less;
+              kept = λ e p q. safe .kept e p (omega (arith, q .0)) ∙ safe₁ .kept (i .es) (i .has) e p q;
+              still = λ e p. (omega (arith, p .0, safe .less), λ x. earlier (i .es) (named A₂ next to (nm .size)) e (p .0) (p .1) x);
+            }
+
+        front-at : (f : ℕ) (l : 2 * (length s - here) + 1 ≤ f)
+            → Front (withIndex (membersForm row) (membersIndex row (i .es))) (membersIndex row entered) (Older (c .row) entered) next to T₁ A₁ (c .row) (c .used) T₃ A₃ (member (name-at f (omega arith) .n) (got f l .x))
+        front-at f l =
+            let o = name-at f (omega arith) in
+            front (o .n) (got f l .x) to T₁ A₁ (nr .safe .rows) (o .size) (o .area) (got f l .wrote) row (i .es) (named A₂ next to (nm .size)) (i .has .between) refl
+            (sym (is-part f (omega arith)))
+
+        members-last : Separated s 125 end Close → length T₂ ≡ length T → MembersRead [] s at row used depth T A (Reached (cursor (end + 1) (c .row) (c .used) (count + 1))) T₃ A₃
+        unfolding onSeparator give rowsOf stringsOf valueCount IndexedValue entriesOf
+        members-last se lt = record {
+          reads = loop-last (i .inv) (onward (omega arith) (omega (arith, se .room)))
+              (λ f l.
+              let o = name-at f (omega arith) in
+              let g = got f l in
+              record {
+                cons = member (o .n) (g .x);
+                front = front-at f l;
+                nil = no-members;
+                none = λ at used. refl;
+                empty = refl;
+                count = refl;
+                parts = refl;
+                index = (Prim.tt, subst⁻¹ (Indexed T₃ row) (append-nil entered) (has-more lt .indexed));
+                is = members-as f next depth here (namesOf (i .es)) (o .n) (o .is) (o .skipped) (g .x) (g .is) sk se
+                    ∙ eat-next (give (member (o .n) (g .x) no-members)) s end (se .room);
+              });
+        }
+
         members-more : {here₁ : ℕ} → Separated s 125 end Comma → Skipped s (end + 1) here₁ → length T₂ ≡ length T → length T₃ ≡ length T → length A₃ ≡ length A
             → MembersInv depth s at row used T A T₃ A₃ here₁ (c .row) (c .used) (count + 1)
-        unfolding onSeparator entered
+        unfolding onSeparator
         members-more {here₁} se sk₁ lt₂ lt la = record {
           es = entered;
           has = has-more lt₂;
@@ -342,9 +382,9 @@ module _ {depth : ℕ} {s : Bytes} {at row used : ℕ} {T A T₁ A₁ : Bytes} {
         subst⁻¹ (λ (x : Fault). MembersRead [] s at row used depth T A (Failed x) T₃ A₃) q (members-stop (read-as h e) sk se)
 
     pub members-closed : {r : Step} {t : Cursor} {T₃ A₃ : Bytes} → ValueRead nm (λ f. value f next depth) 0 s on next (to + nm .size) T₂ A₂ r T₃ A₃ → Closes s r count 125 t
-        → MembersRead [] s at row used depth T A (Reached t) T₃ A₃
-    members-closed {T₃ = T₃} {A₃} h c =
-        subst⁻¹ (λ (x : Cursor). MembersRead [] s at row used depth T A (Reached x) T₃ A₃) (c .is) (members-last (read-as h (c .good)) (c .skipped) (c .closing))
+        → MembersRoom s T A at row used → length T₂ ≡ length T → MembersRead [] s at row used depth T A (Reached t) T₃ A₃
+    members-closed {T₃ = T₃} {A₃} h c room lt =
+        subst⁻¹ (λ (x : Cursor). MembersRead [] s at row used depth T A (Reached x) T₃ A₃) (c .is) (members-last (read-as h (c .good)) (c .skipped) room (c .closing) lt)
 
     module _ {r : Step} {T₃ A₃ : Bytes} (h : ValueRead nm (λ f. value f next depth) 0 s on next (to + nm .size) T₂ A₂ r T₃ A₃) {t : Cursor} (c : Continued s r count 125 t) where
       pub members-next : MembersRoom s T A at row used → length T₂ ≡ length T → length T₃ ≡ length T → length A₃ ≡ length A

@@ -21,11 +21,11 @@ use Rattle.scan.specs.Laws.{eat-next, white-by, byte-by, Gone}
 use Rattle.chars.specs.Contract.{CharsPromise}
 use Rattle.chars.specs.declared.Decoded.{Decoded}
 use Rattle.chars.specs.declared.Decoded.the-variants.{Chars, NoChars}
-use Rattle.syntax.specs.Layout.{rowBytes, entryBytes}
+use Rattle.syntax.specs.Layout.{rowBytes, rowsPart, entryBytes}
 use Rattle.syntax.specs.Read.{Parsed, bad, Parser, then, _>>=_, give, fail, if, peek, eat, white, chars, clear, quoted, among, name}
 use Rattle.json.specs.declared.name.NameStep.{NameStep}
 use Rattle.json.specs.declared.name.NameStep.the-variants.{Named, NoName}
-use Rattle.json.specs.Inner.{rowsPart, Holds, Has, named, NameRoom, NameMeets, NameRead}
+use Rattle.json.specs.Inner.{Holds, Has, named, NameRoom, NameMeets, NameRead}
 use Rattle.json.proofs.Form.{gone-then}
 use Rattle.json.proofs.Values.{Text, chars-got, chars-gone}
 
@@ -159,14 +159,15 @@ module _ {s : Bytes} {at first row used : ℕ} {T A : Bytes} where
               sym (ap (λ (m : ℕ). take m (drop used A₁)) k ∙ ap (λ (y : Bytes). take (length (o .bs)) (drop used y)) (o .area)
               ∙ part-sets (o .bs) A used (omega (arith, o .on, o .inside)))
 
+          all-named : (es : List Entry) → Has T A first row used es → index.Named T A₁ es
+          all-named es h =
+              let r = room .room in
+              holds-named es T A₁ used (omega (arith, c .size)) (holds-kept es first row T T A A₁ used used (h .between) refl (c .kept) (omega arith) (h .holds))
+
           -- What the index says of the name.
           found : (es : List Entry) → Has T A first row used es
               → (t ≡ any (sameBytes (part A₁ used (to - used))) (namesOf es)) × (t ≡ false → Indexed T₁ first (es ++ (named A₁ row used (to - used) ∷ [])))
-          found es h =
-              let r = room .room in
-              n .run es (h .indexed)
-              (holds-named es T A₁ used (omega (arith, c .size)) (holds-kept es first row T T A A₁ used used (h .between) refl (c .kept) (omega arith) (h .holds)))
-              (h .between) (h .none) (h .some)
+          found es h = n .run es (h .indexed) (all-named es h) (h .between) (h .none) (h .some)
 
           seen : (f : ℕ) (l : length s ≤ at + f) (es : List Entry) → Has T A first row used es → t ≡ among (text f l .bs) (namesOf es)
           unfolding among
@@ -221,7 +222,7 @@ module _ {s : Bytes} {at first row used : ℕ} {T A : Bytes} where
                       start = refl;
                       text = omega (arith, o .text, o .on, sk .on, sk₂ .on);
                       rows = n .rows;
-                      kept = n .kept;
+                      kept = λ es h e p q. n .others es (h .indexed) (all-named es h) (h .between) (h .none) (h .some) e p (q .1) (λ g. omega (arith, q .0));
                     };
                     run = λ f l es h. subst⁻¹ (λ (g : Parsed Bytes). NameMeets s first row used T A es g (Named on (record { start = used; size = to - used })) T₁ A₁)
                         (at-colon f l es h ∙ byte-by (eat (give (text f l .bs))) st₂ ∙ ap (λ (c : Bool). if c (eat (give (text f l .bs))) (fail notJson) (drop p s) p) x

@@ -15,9 +15,8 @@ use Rattle.model.specs.Size.{itemsCount, membersCount}
 use Rattle.model.specs.Value.{Value, scalar, instant, array, object, Scalar, null, boolean, integer, string, memberCount}
 use Rattle.name_index.specs.Contract.{entry}
 use Rattle.name_index.specs.Slots as slots
-use Rattle.syntax.specs.Layout.{rowBytes, entryBytes, tableBytes, Label, row, rowsOf, itemRows, memberRows, scalarRow, itemCount}
+use Rattle.syntax.specs.Layout.{rowBytes, rowsPart, entryBytes, tableBytes, Label, row, rowsOf, itemRows, memberRows, scalarRow, itemCount}
 use Rattle.syntax.specs.Laws.Layout.{size-above}
-use Rattle.json.specs.Inner.{rowsPart}
 
 -- ---- the first row
 pub record First (v : Value) (at used : ℕ) (name : Label) : Type 0 where

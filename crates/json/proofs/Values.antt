@@ -15,6 +15,7 @@ use Rattle.model.specs.Size.{valueCount}
 use Rattle.model.specs.Laws.Logic.{clash}
 use Rattle.model.specs.Value.{Value, scalar, array, object, integer, string, no-items, no-members}
 use Rattle.name_index.specs.Contract.{entry}
+use Rattle.name_index.specs.Laws.Entries.{indexed-empty}
 use Rattle.scan.specs.declared.Fault.{Fault}
 use Rattle.scan.specs.Contract.{faultOf, Skipped, Started, Separated, Stands, LiteralMeets, NumberMeets, wordValue}
 use Rattle.scan.specs.Laws.{eat-next, white-by, value-by, arrayBy, objectBy, array-by, object-by, Gone, literal-whole, literal-wrong, number-whole, number-wrong}
@@ -30,7 +31,7 @@ use Rattle.syntax.specs.declared.Start.{Start}
 use Rattle.syntax.specs.declared.Start.the-variants.{NoValue, TooMuch, Literal, Minus, Digit, Quote, Bracket, Brace}
 use Rattle.syntax.specs.declared.Word.{Word}
 use Rattle.syntax.specs.declared.Word.the-variants.{TrueWord, FalseWord, NullWord}
-use Rattle.syntax.specs.Layout.{rowBytes, rowsOf, scalarRow, stringsOf, itemCount}
+use Rattle.syntax.specs.Layout.{rowBytes, rowsPart, rowsOf, scalarRow, stringsOf, itemCount}
 use Rattle.syntax.specs.Layout as layout
 use Rattle.syntax.specs.Laws.Layout.{length-row}
 use Rattle.syntax.specs.Read.{Parsed, ok, bad, Parser, then, _>>=_, give, fail, if, eat, literal, int, chars, clear, quoted, name, value, items, members, onStart}
@@ -40,7 +41,8 @@ use Rattle.json.specs.declared.step.Cursor.{Cursor}
 use Rattle.json.specs.declared.step.Step.{Step}
 use Rattle.json.specs.declared.step.Step.the-variants.{Reached, Failed}
 use Rattle.json.specs.declared.row.Label.{Label}
-use Rattle.json.specs.Inner.{rowsPart, labelOf, valueForm, itemsForm, membersForm, cursor, Reads, Emptied, Filled, kindOf, stringFrom, arrayFrom, objectFrom, ValueRead, RowRead, ItemsRead, MembersRead, Breaks, Closes, Continued, FollowMeets, Followed}
+use Rattle.json.specs.Inner.{labelOf, valueForm, itemsForm, membersForm, cursor, Below, Reads, Emptied, Filled, kindOf, stringFrom, arrayFrom, objectFrom, ValueRead, RowRead, ItemsRead, MembersRead, Breaks, Closes, Continued, FollowMeets, Followed}
+use Rattle.json.specs.Index.{IndexedValue, entriesOf}
 use Rattle.json.proofs.Rows.{rows-sets, entry-sets}
 use Rattle.json.proofs.Form.{gone-then, reads-ok, reads-bad, fuelled, On, through, contained}
 
@@ -53,13 +55,14 @@ record Single (g : Parsed Value) (s : Bytes) (q row used : ℕ) (name : layout.L
   rows : rowsOf v row used name ≡ bs
   text : to ≡ used + length (stringsOf v)
   area : A′ ≡ sets A used (stringsOf v)
+  flat : (T : Bytes) (at : ℕ) → IndexedValue T at v
 
 one-row : {m : ℕ → Parser Value} {k : ℕ} {s : Bytes} {at row used to : ℕ} {name : layout.Label} {T A T′ A′ : Bytes} (q : ℕ) (bs : Bytes)
     → at < q → q ≤ length s → used ≤ to → to ≤ q → row < maxValues → length bs ≡ rowBytes → T′ ≡ sets T (row * rowBytes) bs
     → ((f : ℕ) → 2 * (length s - at) + k < f → Single (m f (drop at s) at) s q row used name bs A to A′)
-    → Reads (valueForm name) m k (row + 1) s at row used T A (Reached (cursor q (row + 1) to 0)) T′ A′
+    → Reads (valueForm name) m k (Below (row + 1)) s at row used T A (Reached (cursor q (row + 1) to 0)) T′ A′
 unfolding rowBytes
-one-row {s = s} {row = row} {T = T} q bs on inside more text few l t g =
+one-row {s = s} {row = row} {T = T} {T′ = T′} q bs on inside more text few l t g =
     let i : row * rowBytes + length bs ≤ maxValues * rowBytes = omega arith in
     reads-ok
     (record {
@@ -83,6 +86,7 @@ one-row {s = s} {row = row} {T = T} q bs on inside more text few l t g =
         parts = refl;
         table = ap rowsPart t ∙ rows-sets T (row * rowBytes) bs i ∙ ap (sets (rowsPart T) (row * rowBytes)) (sym (o .rows));
         area = o .area;
+        index = o .flat T′ row;
       };
     })
 
@@ -142,6 +146,12 @@ word-strings TrueWord = refl
 word-strings FalseWord = refl
 word-strings NullWord = refl
 
+word-flat : (w : Word) (T : Bytes) (at : ℕ) → IndexedValue T at (wordValue w)
+unfolding IndexedValue
+word-flat TrueWord T at = Prim.tt
+word-flat FalseWord T at = Prim.tt
+word-flat NullWord T at = Prim.tt
+
 word-one : (w : Word) → valueCount (wordValue w) ≡ 1
 unfolding valueCount
 word-one TrueWord = refl
@@ -167,6 +177,7 @@ module _ {name : Label} {s : Bytes} {at row used : ℕ} {T : Bytes} where
                 rows = word-row w row used (labelOf name) ∙ ap (λ (n : ℕ). layout.row n (labelOf name) 0 0) (sym k);
                 text = rw word-strings (omega arith);
                 area = rw word-strings;
+                flat = word-flat w;
               });
         })
 
@@ -177,7 +188,7 @@ module _ {name : Label} {s : Bytes} {at row used : ℕ} {T : Bytes} where
     pub law-number : {end b : ℕ} {c : Cursor} {T′ : Bytes} → n ≡ Integer end b → used ≤ at → row < maxValues
         → T′ ≡ sets T (row * rowBytes) (layout.row 4 (labelOf name) (b % 4294967296) (b / 4294967296))
         → c ≡ cursor end (row + 1) used 0 → RowRead name (int negative) s at row used T (Reached c) T′
-    unfolding valueCount rowsOf scalarRow stringsOf
+    unfolding valueCount rowsOf scalarRow stringsOf IndexedValue
     law-number {end} {b} {T′ = T′} z u few t e =
         let o = number-whole s at (int negative (drop at s) at) end b m z in
         subst⁻¹ (λ (c : Cursor). RowRead name (int negative) s at row used T (Reached c) T′) e
@@ -191,6 +202,7 @@ module _ {name : Label} {s : Bytes} {at row used : ℕ} {T : Bytes} where
                 rows = ap (λ (b : ℕ). layout.row 4 (labelOf name) (b % 4294967296) (b / 4294967296)) (sym (o .content));
                 text = omega arith;
                 area = refl;
+                flat = λ T at. Prim.tt;
               });
         })
 
@@ -204,7 +216,7 @@ module _ {name : Label} {s : Bytes} {at row used : ℕ} {T : Bytes} where
     pub law-string : {end to : ℕ} {c : Cursor} {T′ : Bytes} → d ≡ Chars end to → used ≤ at → row < maxValues
         → T′ ≡ sets T (row * rowBytes) (layout.row 5 (labelOf name) used (to - used))
         → c ≡ cursor (end + 1) (row + 1) to 0 → ValueRead name stringFrom 0 s at row used T A (Reached c) T′ A′
-    unfolding _>>=_ then give valueCount rowsOf scalarRow stringsOf
+    unfolding _>>=_ then give valueCount rowsOf scalarRow stringsOf IndexedValue
     law-string {end} {to} {T′ = T′} z u few t e =
         let o = chars-got h z (suc (length s)) (omega arith) in
         subst⁻¹ (λ (c : Cursor). ValueRead name stringFrom 0 s at row used T A (Reached c) T′ A′) e
@@ -221,6 +233,7 @@ module _ {name : Label} {s : Bytes} {at row used : ℕ} {T : Bytes} where
                 rows = ap (λ (k : ℕ). layout.row 5 (labelOf name) used k) (sym n);
                 text = p .text;
                 area = p .area;
+                flat = λ T at. Prim.tt;
               });
         })
 
@@ -244,7 +257,7 @@ module _ {t : Bytes} {s : Step} {count close : ℕ} {o : After} (h : Followed t 
 module _ {name : Label} {n : ℕ → Parser Value} {s : Bytes} {at row used : ℕ} {T A : Bytes} where
   -- What a parser gives further on.
   passes : {m : ℕ → Parser Value} {k at′ : ℕ} {r : Step} {T′ A′ : Bytes} → at ≤ at′
-      → Reads (valueForm (labelOf name)) m k (row + 1) s at′ row used T A r T′ A′
+      → Reads (valueForm (labelOf name)) m k (Below (row + 1)) s at′ row used T A r T′ A′
       → ((f : ℕ) → 2 * (length s - at) ≤ f → On (n (suc f) (drop at s) at) m (2 * (length s - at′) + k) s at′)
       → ValueRead name n 0 s at row used T A r T′ A′
   passes {m} {k} {at′} l h g = record {
@@ -341,38 +354,39 @@ module _ (row depth : ℕ) {s : Bytes} {at first : ℕ} {b : Bool} (sk : Skipped
 
 module _ {name : Label} {s : Bytes} {at first row used : ℕ} {T A : Bytes} (sk : Skipped s at first) where
   emptied : {m : ℕ → Parser Value} {kind : ℕ} {r : Step} {T′ : Bytes} (v : Value) → first < length s → used ≤ at → row < maxValues
-      → rowsOf v row used (labelOf name) ≡ layout.row kind (labelOf name) 0 (row + 1) → stringsOf v ≡ [] → valueCount v ≡ 1
+      → rowsOf v row used (labelOf name) ≡ layout.row kind (labelOf name) 0 (row + 1) → stringsOf v ≡ [] → valueCount v ≡ 1 → ((T : Bytes) (at : ℕ) → IndexedValue T at v)
       → ((f : ℕ) → m f (drop at s) at ≡ ok v (drop (first + 1) s) (first + 1)) → Emptied T row kind name first used r T′
       → ValueRead name m 1 s at row used T A r T′ A
-  emptied {m} {kind} {T′ = T′} v l u few rows strings one g h =
+  emptied {m} {kind} {T′ = T′} v l u few rows strings one flat g h =
       subst⁻¹ (λ (x : Step). ValueRead name m 1 s at row used T A x T′ A) (h .is)
       (record {
         reads = one-row (first + 1) _ (omega (arith, sk .on)) (omega arith) (omega arith) (omega (arith, sk .on)) few (length-row kind (labelOf name) 0 (row + 1)) (h .table)
-            (λ f e. record { v = v; is = g f; one = one; rows = rows; text = rw strings (omega arith); area = rw strings });
+            (λ f e. record { v = v; is = g f; one = one; rows = rows; text = rw strings (omega arith); area = rw strings; flat = flat });
       })
 
 module _ (depth : ℕ) {name : Label} {s : Bytes} {at first row used : ℕ} {T A : Bytes} {b : Bool} (sk : Skipped s at first) where
   pub law-array-empty : {r : Step} {T′ : Bytes} → Stands s first 93 b → b ≡ true → used ≤ at → row < maxValues → Emptied T row 6 name first used r T′
       → ValueRead name (λ f. arrayFrom f row depth) 1 s at row used T A r T′ A
-  unfolding rowsOf stringsOf valueCount itemCount
-  law-array-empty st e u few h = emptied sk (array no-items) (st .room e) u few (rw (append-nil, add-zero)) refl refl (array-none row depth sk st e) h
+  unfolding rowsOf stringsOf valueCount itemCount IndexedValue
+  law-array-empty st e u few h = emptied sk (array no-items) (st .room e) u few (rw (append-nil, add-zero)) refl refl (λ T at. Prim.tt) (array-none row depth sk st e) h
 
   pub law-object-empty : {r : Step} {T′ : Bytes} → Stands s first 125 b → b ≡ true → used ≤ at → row < maxValues → Emptied T row 7 name first used r T′
       → ValueRead name (λ f. objectFrom f row depth) 1 s at row used T A r T′ A
-  unfolding rowsOf stringsOf valueCount
-  law-object-empty st e u few h = emptied sk (object no-members) (st .room e) u few (rw (append-nil, add-zero)) refl refl (object-none row depth sk st e) h
+  unfolding rowsOf stringsOf valueCount IndexedValue entriesOf
+  law-object-empty st e u few h =
+      emptied sk (object no-members) (st .room e) u few (rw (append-nil, add-zero)) refl refl (λ T at. (Prim.tt, indexed-empty T (at + 1))) (object-none row depth sk st e) h
 
   module _ {r : Step} {T₁ A₁ : Bytes} {r₂ : Step} {T₂ : Bytes} where
     pub law-array : Stands s first 93 b → b ≡ false → row < maxValues → ItemsRead s first (row + 1) used (depth + 1) T A r T₁ A₁ → Filled T₁ row 6 name r r₂ T₂
         → ValueRead name (λ f. arrayFrom f row depth) 1 s at row used T A r₂ T₂ A₁
-    unfolding rowsOf stringsOf valueCount
+    unfolding rowsOf stringsOf valueCount IndexedValue
     law-array st e few it h = record {
-      reads = contained itemsForm array 6 name (λ x at used. refl) (λ x. refl) (λ x. refl) (sk .on) (λ f l. array-some row depth sk st e f) (it .reads) few h;
+      reads = contained itemsForm array 6 name (λ x at used. refl) (λ x. refl) (λ x. refl) (sk .on) (λ f l. array-some row depth sk st e f) (λ x i. i) (it .reads) few h;
     }
 
     pub law-object : Stands s first 125 b → b ≡ false → row < maxValues → MembersRead [] s first (row + 1) used (depth + 1) T A r T₁ A₁ → Filled T₁ row 7 name r r₂ T₂
         → ValueRead name (λ f. objectFrom f row depth) 1 s at row used T A r₂ T₂ A₁
-    unfolding rowsOf stringsOf valueCount
+    unfolding rowsOf stringsOf valueCount IndexedValue
     law-object st e few it h = record {
-      reads = contained membersForm object 7 name (λ x at used. refl) (λ x. refl) (λ x. refl) (sk .on) (λ f l. object-some row depth sk st e f) (it .reads) few h;
+      reads = contained (membersForm (row + 1)) object 7 name (λ x at used. refl) (λ x. refl) (λ x. refl) (sk .on) (λ f l. object-some row depth sk st e f) (λ x i. i) (it .reads) few h;
     }

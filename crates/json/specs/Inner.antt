@@ -3,7 +3,7 @@ use mathlib.Core.Path.{_≡_}
 use mathlib.Core.List.{List, [], _∷_, _++_}
 use Prim.Native.Nat.{ℕ, suc, _+_, _*_, _-_, _/_, _≤_, _<_}
 use lib.Dec.{eqb}
-use lib.ListN.{length, take, drop}
+use lib.ListN.{length, drop}
 use lib.Seq.{sets}
 use Rattle.model.specs.Bytes.{Bytes}
 use Rattle.model.specs.Limits.{maxTextBytes, maxValues}
@@ -11,10 +11,10 @@ use Rattle.model.specs.Refusal.{notJson}
 use Rattle.model.specs.Size.{valueCount, itemsCount, membersCount}
 use Rattle.model.specs.Value.{Value, scalar, array, object, string, Values, no-items, Members, no-members, memberCount}
 use Rattle.area.specs.Words.{wordAt}
-use Rattle.name_index.specs.Contract.{Entry, Indexed, Between, namesOf, part, entry}
+use Rattle.name_index.specs.Contract.{Entry, Indexed, Between, HasRow, namesOf, part, entry}
 use Rattle.scan.specs.declared.Fault.{Fault}
 use Rattle.scan.specs.Contract.{faultOf, Skipped, Separated}
-use Rattle.syntax.specs.Layout.{rowBytes, tableBytes, unnamed, rowsOf, itemRows, memberRows, stringsOf, itemStrings, memberStrings, itemCount}
+use Rattle.syntax.specs.Layout.{rowBytes, rowsPart, tableBytes, unnamed, rowsOf, itemRows, memberRows, stringsOf, itemStrings, memberStrings, itemCount}
 use Rattle.syntax.specs.Layout as layout
 use Rattle.syntax.specs.Read.{Parsed, ok, bad, Parser, then, _>>=_, give, if, peek, eat, white, chars, clear, name, items, members, Read, done, refuse, read}
 use Rattle.syntax.specs.declared.Word.{Word}
@@ -30,31 +30,47 @@ use Rattle.json.specs.declared.name.NameStep.the-variants.{Named, NoName
 use Rattle.json.specs.declared.row.Label.{Label}
 use Rattle.json.specs.declared.TextStep.{TextStep}
 use Rattle.json.specs.declared.TextStep.the-variants.{Whole, NoText}
+use Rattle.json.specs.Index.{IndexedValue, IndexedItems, IndexedMembers, entriesOf}
 
 -- ---- where things lie
--- The table's rows, in front of the index of names.
-unfoldable pub rowsPart : Bytes → Bytes
-rowsPart T = take (maxValues * rowBytes) T
-
 abbrev pub labelOf : Label → layout.Label
 labelOf name = record { start = name .start; size = name .size }
 
--- How what is read lies in the areas: its rows, by the first of them and the strings' bytes before it, and its strings; how many rows it has; and how
--- many items or members.
-pub record Form (X : Type 0) : Type 0 where
+-- How what is read is indexed: by its first row and the table.
+abbrev pub Index : Type 0 → Type 1
+Index X = X → ℕ → Bytes → Type 0
+
+-- How what is read lies in the areas: its rows, by the first of them and the strings' bytes before it, and its strings; how many rows it has; how
+-- many items or members; and the index of its objects.
+pub record Form (X : Type 0) : Type 1 where
   pub rows : X → ℕ → ℕ → Bytes
   pub strings : X → Bytes
   pub count : X → ℕ
   pub parts : X → ℕ
+  pub indexed : Index X
+
+-- The same with another index.
+abbrev pub withIndex : {X : Type 0} → Form X → Index X → Form X
+withIndex F J = record { rows = F .rows; strings = F .strings; count = F .count; parts = F .parts; indexed = J }
 
 abbrev pub valueForm : layout.Label → Form Value
-valueForm name = record { rows = λ v at used. rowsOf v at used name; strings = stringsOf; count = valueCount; parts = λ v. 0 }
+valueForm name = record {
+  rows = λ v at used. rowsOf v at used name;
+  strings = stringsOf;
+  count = valueCount;
+  parts = λ v. 0;
+  indexed = λ v row T. IndexedValue T row v;
+}
 
 abbrev pub itemsForm : Form Values
-itemsForm = record { rows = itemRows; strings = itemStrings; count = itemsCount; parts = itemCount }
+itemsForm = record { rows = itemRows; strings = itemStrings; count = itemsCount; parts = itemCount; indexed = λ vs row T. IndexedItems T row vs }
 
-abbrev pub membersForm : Form Members
-membersForm = record { rows = memberRows; strings = memberStrings; count = membersCount; parts = memberCount }
+-- Members that follow the members es of an object, the first of which has the row `first`: they are indexed together.
+abbrev pub membersIndex : ℕ → List Entry → Index Members
+membersIndex first es ms row T = IndexedMembers T row ms × Indexed T first (es ++ entriesOf row ms)
+
+abbrev pub membersForm : ℕ → Form Members
+membersForm first = record { rows = memberRows; strings = memberStrings; count = membersCount; parts = memberCount; indexed = membersIndex first [] }
 
 -- ---- what is asked and promised
 -- What a reading asks. The name of the value at `row` has `size` bytes.
@@ -93,6 +109,7 @@ pub record Wrote {X : Type 0} (F : Form X) (s : Bytes) (row used : ℕ) (T A : B
   pub parts : c .count ≡ F .parts x
   pub table : rowsPart T′ ≡ sets (rowsPart T) (row * rowBytes) (F .rows x row used)
   pub area : A′ ≡ sets A used (F .strings x)
+  pub index : F .indexed x row T′
 
 -- The answer, by what the parser gives. After a fault the areas are free: the entry clears them.
 abbrev pub Meets : {X : Type 0} → Form X → Bytes → ℕ → ℕ → Bytes → Bytes → Parsed X → Step → Bytes → Bytes → Type 0
@@ -101,8 +118,16 @@ Meets F s row used T A (ok x u q) (Failed f) T′ A′ = ⊥
 Meets F s row used T A (bad k p) (Reached c) T′ A′ = ⊥
 Meets F s row used T A (bad k p) (Failed f) T′ A′ = f ≡ faultOf k p
 
--- What a caller needs to go on, whatever was read. The index entries of the rows before `bound` stay.
-pub record Safe (bound : ℕ) (s : Bytes) (at row used : ℕ) (T : Bytes) (c : Cursor) (T′ : Bytes) : Type 0 where
+-- The index entries of certain rows stay.
+abbrev pub Kept : (ℕ → Type 0) → Bytes → Bytes → Type 0
+Kept keeps T T′ = (e : ℕ) → 1 ≤ e → keeps e → entry T′ e ≡ entry T e
+
+-- The rows before one.
+abbrev pub Below : ℕ → ℕ → Type 0
+Below bound e = e < bound
+
+-- What a caller needs to go on, whatever was read.
+pub record Safe (keeps : ℕ → Type 0) (s : Bytes) (at row used : ℕ) (T : Bytes) (c : Cursor) (T′ : Bytes) : Type 0 where
   pub on : at < c .at
   pub inside : c .at ≤ length s
   pub text : c .used ≤ c .at
@@ -110,15 +135,15 @@ pub record Safe (bound : ℕ) (s : Bytes) (at row used : ℕ) (T : Bytes) (c : C
   pub rows : c .row ≤ maxValues
   pub less : row < c .row
   pub count : row + c .count ≤ c .row
-  pub kept : (e : ℕ) → 1 ≤ e → e < bound → entry T′ e ≡ entry T e
+  pub kept : Kept keeps T T′
 
-abbrev pub StepSafe : ℕ → Bytes → ℕ → ℕ → ℕ → Bytes → Step → Bytes → Type 0
-StepSafe bound s at row used T (Reached c) T′ = Safe bound s at row used T c T′
-StepSafe bound s at row used T (Failed f) T′ = Unit {0}
+abbrev pub StepSafe : (ℕ → Type 0) → Bytes → ℕ → ℕ → ℕ → Bytes → Step → Bytes → Type 0
+StepSafe keeps s at row used T (Reached c) T′ = Safe keeps s at row used T c T′
+StepSafe keeps s at row used T (Failed f) T′ = Unit {0}
 
 -- What is read at `at` is what the parser m gives, with steps enough: more than two for each byte that is left, and `more`.
-pub record Reads {X : Type 0} (F : Form X) (m : ℕ → Parser X) (more bound : ℕ) (s : Bytes) (at row used : ℕ) (T A : Bytes) (r : Step) (T′ A′ : Bytes) : Type 0 where
-  pub safe : StepSafe bound s at row used T r T′
+pub record Reads {X : Type 0} (F : Form X) (m : ℕ → Parser X) (more : ℕ) (keeps : ℕ → Type 0) (s : Bytes) (at row used : ℕ) (T A : Bytes) (r : Step) (T′ A′ : Bytes) : Type 0 where
+  pub safe : StepSafe keeps s at row used T r T′
   pub run : (f : ℕ) → 2 * (length s - at) + more < f → Meets F s row used T A (m f (drop at s) at) r T′ A′
 
 -- ---- rows
@@ -170,19 +195,19 @@ objectFrom f row depth =
 
 -- A value, by a parser m of values.
 pub record ValueRead (name : Label) (m : ℕ → Parser Value) (more : ℕ) (s : Bytes) (at row used : ℕ) (T A : Bytes) (r : Step) (T′ A′ : Bytes) : Type 0 where
-  pub reads : Reads (valueForm (labelOf name)) m more (row + 1) s at row used T A r T′ A′
+  pub reads : Reads (valueForm (labelOf name)) m more (Below (row + 1)) s at row used T A r T′ A′
 
 -- The same for a value that leaves the strings area as it is.
 pub record RowRead (name : Label) (m : Parser Value) (s : Bytes) (at row used : ℕ) (T : Bytes) (r : Step) (T′ : Bytes) : Type 0 where
-  pub reads : (A : Bytes) → Reads (valueForm (labelOf name)) (λ f. m) 0 (row + 1) s at row used T A r T′ A
+  pub reads : (A : Bytes) → Reads (valueForm (labelOf name)) (λ f. m) 0 (Below (row + 1)) s at row used T A r T′ A
 
 -- From the first byte of an item to the closing bracket.
 pub record ItemsRead (s : Bytes) (at row used depth : ℕ) (T A : Bytes) (r : Step) (T′ A′ : Bytes) : Type 0 where
-  pub reads : Reads itemsForm (λ f. items f row depth) 1 row s at row used T A r T′ A′
+  pub reads : Reads itemsForm (λ f. items f row depth) 1 (Below row) s at row used T A r T′ A′
 
 -- From the first byte of a name to the closing brace, after members of the names `seen`.
 pub record MembersRead (seen : List Bytes) (s : Bytes) (at row used depth : ℕ) (T A : Bytes) (r : Step) (T′ A′ : Bytes) : Type 0 where
-  pub reads : Reads membersForm (λ f. members f row depth seen) 1 row s at row used T A r T′ A′
+  pub reads : Reads (membersForm row) (λ f. members f row depth seen) 1 (Below row) s at row used T A r T′ A′
 
 -- ---- what follows an item or a member
 -- Before which there were `count`.
@@ -240,6 +265,10 @@ pub record Has (T A : Bytes) (first row to : ℕ) (es : List Entry) : Type 0 whe
   pub none : row ≡ first → es ≡ []
   pub some : es ≡ [] → row ≡ first
 
+-- The rows before one, but for those of the members es.
+abbrev pub Older : ℕ → List Entry → ℕ → Type 0
+Older row es e = (e < row) × (HasRow es e → ⊥)
+
 -- The member in a row, whose name is the `size` bytes of the strings area from `start` on.
 abbrev pub named : Bytes → ℕ → ℕ → ℕ → Entry
 named A row start size = record { row = row; name = part A start size }
@@ -266,20 +295,20 @@ NameMeets s first row used T A es (bad k p) (Named on name) T′ A′ = ⊥
 NameMeets s first row used T A es (bad k p) (NoName f) T′ A′ = f ≡ faultOf k p
 
 -- What a caller needs to go on, whatever was read.
-pub record NameSafe (s : Bytes) (at first used : ℕ) (T : Bytes) (on : ℕ) (name : Label) (T′ : Bytes) : Type 0 where
+pub record NameSafe (s : Bytes) (at first row used : ℕ) (T A : Bytes) (on : ℕ) (name : Label) (T′ : Bytes) : Type 0 where
   pub more : at < on
   pub inside : on ≤ length s
   pub start : name .start ≡ used
   pub text : used + name .size ≤ on
   pub rows : rowsPart T′ ≡ rowsPart T
-  pub kept : (e : ℕ) → 1 ≤ e → e < first → entry T′ e ≡ entry T e
+  pub kept : (es : List Entry) → Has T A first row used es → Kept (Older row es) T T′
 
-abbrev pub NameStepSafe : Bytes → ℕ → ℕ → ℕ → Bytes → NameStep → Bytes → Type 0
-NameStepSafe s at first used T (Named on name) T′ = NameSafe s at first used T on name T′
-NameStepSafe s at first used T (NoName f) T′ = Unit {0}
+abbrev pub NameStepSafe : Bytes → ℕ → ℕ → ℕ → ℕ → Bytes → Bytes → NameStep → Bytes → Type 0
+NameStepSafe s at first row used T A (Named on name) T′ = NameSafe s at first row used T A on name T′
+NameStepSafe s at first row used T A (NoName f) T′ = Unit {0}
 
 pub record NameRead (s : Bytes) (at first row used : ℕ) (T A : Bytes) (r : NameStep) (T′ A′ : Bytes) : Type 0 where
-  pub safe : NameStepSafe s at first used T r T′
+  pub safe : NameStepSafe s at first row used T A r T′
   pub run : (f : ℕ) → length s ≤ at + f → (es : List Entry) → Has T A first row used es
       → NameMeets s first row used T A es (name f (namesOf es) (drop at s) at) r T′ A′
 
@@ -290,6 +319,7 @@ pub record TextWrote (v : Value) (T A : Bytes) (rows used : ℕ) (T′ A′ : By
   pub text : used ≡ length (stringsOf v)
   pub table : rowsPart T′ ≡ sets (rowsPart T) 0 (rowsOf v 0 0 unnamed)
   pub area : A′ ≡ sets A 0 (stringsOf v)
+  pub index : IndexedValue T′ 0 v
   pub few : rows ≤ maxValues
   pub fits : used ≤ maxTextBytes
 

@@ -2,17 +2,22 @@
 use crate::row::Label;
 use crate::step::Step;
 use crate::tree::value;
+use area::clear_between;
 use area::clear_from;
 use model::MAX_TEXT_BYTES;
+use model::MAX_VALUES;
 use scan::Fault;
 use scan::token::skip_white;
 use syntax::ROW_BYTES;
 use syntax::STRINGS_BYTES;
 use syntax::TABLE_BYTES;
-ghost use Prim.Native.Nat.{_≤_};
+ghost use mathlib.Core.Path.{_≡_};
+ghost use Prim.Native.Nat.{_*_, _≤_};
 ghost use lib.ListN.{length};
-ghost use Rattle.syntax.specs.Layout.{tableBytes, stringsBytes};
-ghost use Rattle.json.specs.Contract.{AllRead};
+ghost use Rattle.area.specs.Words.{zeroFrom};
+ghost use Rattle.model.specs.Limits.{maxValues};
+ghost use Rattle.syntax.specs.Layout.{rowBytes, tableBytes, stringsBytes};
+ghost use Rattle.json.specs.Contract.{AllRead, RowsRead};
 ghost use Rattle.json.specs.Inner.{TextRead};
 
 mod list;
@@ -64,9 +69,9 @@ fn read_text(text: &[u8], table: &mut [u8], strings: &mut [u8]) -> TextStep
     }
 }
 
-// Reads a text into the two areas.
-pub fn read(text: &[u8], table: &mut [u8], strings: &mut [u8]) -> Answer
-    ensures { λ r. ⌜ AllRead (now (text .entry)) (now (table .entry)) (now (strings .entry)) r (now (table .exit)) (now (strings .exit)) ⌝ }
+// Reads a text into the two areas. Behind the rows of the table the index of names stays.
+pub fn read_rows(text: &[u8], table: &mut [u8], strings: &mut [u8]) -> Answer
+    ensures { λ r. ⌜ RowsRead (now (text .entry)) (now (table .entry)) (now (strings .entry)) r (now (table .exit)) (now (strings .exit)) ⌝ }
 {
     if table.len() < TABLE_BYTES {
         return Answer {
@@ -94,7 +99,7 @@ pub fn read(text: &[u8], table: &mut [u8], strings: &mut [u8]) -> Answer
             }
         }
         TextStep::Whole { rows, used } => {
-            clear_from(table, rows * ROW_BYTES);
+            clear_between(table, rows * ROW_BYTES, MAX_VALUES * ROW_BYTES);
             clear_from(strings, used);
             Answer {
                 refusal: 0,
@@ -103,4 +108,23 @@ pub fn read(text: &[u8], table: &mut [u8], strings: &mut [u8]) -> Answer
             }
         }
     }
+}
+
+// Zeros behind the rows of a table.
+pub fn clear_index(table: &mut [u8])
+    ensures { λ _. ⌜ now (table .exit) ≡ zeroFrom (maxValues * rowBytes) (now (table .entry)) ⌝ }
+{
+    clear_from(table, MAX_VALUES * ROW_BYTES);
+}
+
+// Reads a text into the two areas, and leaves no index.
+pub fn read(text: &[u8], table: &mut [u8], strings: &mut [u8]) -> Answer
+    ensures { λ r. ⌜ AllRead (now (text .entry)) (now (table .entry)) (now (strings .entry)) r (now (table .exit)) (now (strings .exit)) ⌝ }
+{
+    let answer = read_rows(text, table, strings);
+    if answer.refusal != 0 {
+        return answer;
+    }
+    clear_index(table);
+    answer
 }

@@ -1,48 +1,13 @@
 -- Each way out is a law of All.
-use native.Mathlib.Omega.{arith}
-use Rattle.model.specs.Laws.Widths.{values-below}
-use Rattle.model.specs.Limits.{maxTextBytes, maxValues}
-use Rattle.syntax.specs.Layout.{rowBytes, entryBytes}
-use Rattle.json.proofs.All.{told, number-small, rows-few, law-short-table, law-short-strings, law-refused, law-done}
+use Rattle.model.specs.Limits.{maxValues}
+use Rattle.syntax.specs.Layout.{rowBytes}
+use Rattle.json.proofs.All.{law-kept, law-cleared}
 use borrow.Author.Needs.{needs}
 use Rattle.json.proofs.read.Statement.{statement}
 use Rattle.json.proofs.read.Tie as tie
 
-returns : tie.Need-returns
-unfolding maxValues maxTextBytes rowBytes entryBytes
-returns c = law-short-table (c .if1 .taken)
-
-returns-2 : tie.Need-returns-2
-unfolding maxValues maxTextBytes rowBytes entryBytes
-returns-2 c = law-short-strings (c .before .if1 .left) (c .if2 .taken)
-
-read-text-requires : tie.Need-read-text-requires
-unfolding maxValues maxTextBytes rowBytes entryBytes
-read-text-requires c κs = (c .before .before .before .if1 .left, c .before .before .if2 .left)
-
-enum-known-s : tie.Need-enum-known-s
-enum-known-s c = search needs
-
-clear-from-requires : tie.Need-clear-from-requires
-clear-from-requires c κs = search needs
-
-clear-from-requires-2 : tie.Need-clear-from-requires-2
-clear-from-requires-2 c κs = search needs
-
-cast-t20 : tie.Need-cast-t20
-cast-t20 c = omega (arith, number-small (told (c .before .before .before .before .before .before .before .before .before .before .before .before .before .before .before .before .read-text .ensures) (c .before .before .before .before .before .before .before .before .before .before .s .given .1)))
-
-enum-known-s-2 : tie.Need-enum-known-s-2
-enum-known-s-2 c = search needs
-
-mul-clear-from : tie.Need-mul-clear-from
-mul-clear-from c = omega (arith, values-below, rows-few (told (c .before .before .before .before .before .before .before .before .read-text .ensures) (c .before .before .s2 .given .1)))
-
-clear-from-requires-3 : tie.Need-clear-from-requires-3
-clear-from-requires-3 c κs = search needs
-
-clear-from-requires-4 : tie.Need-clear-from-requires-4
-clear-from-requires-4 c κs = search needs
+read-rows-requires : tie.Need-read-rows-requires
+read-rows-requires c κs = search needs
 
 same-length : tie.Need-same-length
 same-length c = search needs
@@ -50,9 +15,11 @@ same-length c = search needs
 same-length-2 : tie.Need-same-length-2
 same-length-2 c = search needs
 
-returns-3 : tie.Need-returns-3
-unfolding maxValues maxTextBytes rowBytes entryBytes
-returns-3 c = law-refused (c .before .before .before .before .before .before .before .before .before .before .before .before .before .before .before .before .before .before .before .before .if1 .left) (c .before .before .before .before .before .before .before .before .before .before .before .before .before .before .before .before .before .before .before .if2 .left) (c .before .before .before .before .before .before .before .before .before .before .before .before .before .before .before .before .read-text .kept .1 .0) (c .before .before .before .before .before .before .before .before .before .before .before .before .before .before .before .before .read-text .kept .1 .1 .0) (told (c .before .before .before .before .before .before .before .before .before .before .before .before .before .before .before .before .read-text .ensures) (c .before .before .before .before .before .before .before .before .before .before .s .given .1)) (c .before .before .before .before .before .before .before .clear-from .ensures) (c .before .before .before .clear-from2 .ensures)
+returns : tie.Need-returns
+returns c = law-kept (c .before .before .before .before .before .before .read-rows .ensures) (c .if1 .taken)
+
+clear-index-requires : tie.Need-clear-index-requires
+clear-index-requires c κs = search needs
 
 same-length-3 : tie.Need-same-length-3
 same-length-3 c = search needs
@@ -60,28 +27,19 @@ same-length-3 c = search needs
 same-length-4 : tie.Need-same-length-4
 same-length-4 c = search needs
 
-returns-4 : tie.Need-returns-4
-unfolding maxValues maxTextBytes rowBytes entryBytes
-returns-4 c = law-done (c .before .before .before .before .before .before .before .before .before .before .before .before .before .before .before .before .before .before .before .if1 .left) (c .before .before .before .before .before .before .before .before .before .before .before .before .before .before .before .before .before .before .if2 .left) (c .before .before .before .before .before .before .before .before .before .before .before .before .before .before .before .read-text .kept .1 .0) (c .before .before .before .before .before .before .before .before .before .before .before .before .before .before .before .read-text .kept .1 .1 .0) (told (c .before .before .before .before .before .before .before .before .before .before .before .before .before .before .before .read-text .ensures) (c .before .before .before .before .before .before .before .before .before .s2 .given .1)) (c .before .before .before .before .before .before .clear-from3 .ensures) (c .before .before .clear-from4 .ensures)
+returns-2 : tie.Need-returns-2
+unfolding maxValues rowBytes
+returns-2 c = law-cleared (c .before .before .before .before .before .before .before .before .before .before .read-rows .ensures) (c .before .before .before .before .if1 .left) (c .before .before .clear-index .ensures)
 
 pub read-spec : {M : Type 1} → statement M
 read-spec =
     tie.close
     (tie.spec
-    returns
-    returns-2
-    read-text-requires
-    enum-known-s
-    clear-from-requires
-    clear-from-requires-2
-    cast-t20
-    enum-known-s-2
-    mul-clear-from
-    clear-from-requires-3
-    clear-from-requires-4
+    read-rows-requires
     same-length
     same-length-2
-    returns-3
+    returns
+    clear-index-requires
     same-length-3
     same-length-4
-    returns-4)
+    returns-2)

@@ -220,7 +220,7 @@ all-members-same-length-6 : (t : ℕ) → all-members-lts.Need-same-length-6 (al
 all-members-same-length-6 t c = omega (arith, c .before .before .before .before .before .before .before .before .value .kept, c .before .before .before .before .before .before .before .before .before .before .before .before .before .before .before .before .before .before .before .before .member-name .kept, c .before .before .before .before .before .before .before .before .before .before .before .before .before .before .before .before .before .before .before .before .before .before .before .loop .inv .inv)
 
 all-members-returns-3 : (t : ℕ) → all-members-lts.Need-returns-3 (all-members-calls t) (all-members-at t) all-members.Post all-members-Inv-loop all-members-μ-loop
-all-members-returns-3 t c = members-closed (c .before .before .before .before .before .before .before .before .before .before .before .before .before .before .before .before .before .before .before .before .before .before .before .loop .inv) (named-as (c .before .before .before .before .before .before .before .before .before .before .before .before .before .before .before .before .before .before .before .before .member-name .ensures) (c .before .before .before .before .before .before .before .before .before .before .before .before .before .before .n2 .given .1)) (c .before .before .before .before .before .before .before .before .value .ensures) (closes (c .before .before .before .follow .ensures) (c .before .after2 .given .1))
+all-members-returns-3 t c = members-closed (c .before .before .before .before .before .before .before .before .before .before .before .before .before .before .before .before .before .before .before .before .before .before .before .loop .inv) (named-as (c .before .before .before .before .before .before .before .before .before .before .before .before .before .before .before .before .before .before .before .before .member-name .ensures) (c .before .before .before .before .before .before .before .before .before .before .before .before .before .before .n2 .given .1)) (c .before .before .before .before .before .before .before .before .value .ensures) (closes (c .before .before .before .follow .ensures) (c .before .after2 .given .1)) (c .before .before .before .before .before .before .before .before .before .before .before .before .before .before .before .before .before .before .before .before .before .before .before .before .before .before .before .before .pre .1) (omega (arith, c .before .before .before .before .before .before .before .before .before .before .before .before .before .before .before .before .before .before .before .before .member-name .kept, c .before .before .before .before .before .before .before .before .before .before .before .before .before .before .before .before .before .before .before .before .before .before .before .loop .inv .inv))
 
 all-members-enum-known-after-3 : (t : ℕ) → all-members-lts.Need-enum-known-after-3 (all-members-calls t) (all-members-at t) all-members.Post all-members-Inv-loop all-members-μ-loop
 all-members-enum-known-after-3 t c = search needs
