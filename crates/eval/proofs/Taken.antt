@@ -42,7 +42,7 @@ use Rattle.eval.specs.Inner.{Room, RowsHold, row-rule, After, Then, Guar
 use Rattle.eval.proofs.Bounds.{gives-at, stops-at, same-wider}
 
 -- A value that ends the rule.
-continue-gives : (m : Plain Value) → m ≡ continue m (λ v n. gives v n)
+pub continue-gives : (m : Plain Value) → m ≡ continue m (λ v n. gives v n)
 continue-gives (gives v n) = refl
 continue-gives (denies e n) = refl
 

@@ -1,5 +1,6 @@
 // The evaluator: a rule on a record, both as reading left them, under a step limit; and its answer, written.
-use crate::run::eval;
+use crate::run::operands;
+use crate::task::Frame;
 use crate::task::operand;
 use crate::task::state;
 use area::clear_from;
@@ -61,13 +62,14 @@ pub fn value<'a>(
 {
     let s = state(limit, 0, HEAP_CELLS, MAX_NESTING);
     let task = operand(0, load(record_table, 0), s);
-    match eval(
+    match operands(
         rule_table,
         rule_strings,
         record_table,
         record_strings,
         cells,
         task,
+        Frame::Branch,
     ) {
         Ended::Denies(fault, left) => Outcome::Refused(number(fault), limit - left),
         Ended::Gives(h, t) => Outcome::Value(h, limit - t.left),

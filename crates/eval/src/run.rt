@@ -24,7 +24,7 @@ fn resumed(s: State, e: Ended) -> Ended
 }
 
 // Operand after operand, from the first on, until the rule that was begun ends.
-fn operands<'a>(
+pub fn operands<'a>(
     rule_table: &[u8],
     rule_strings: &'a [u8],
     record_table: &[u8],
@@ -65,7 +65,7 @@ fn operands<'a>(
 }
 
 // A rule in a context: its value, or its refusal.
-pub fn eval<'a>(
+fn eval<'a>(
     rule_table: &[u8],
     rule_strings: &'a [u8],
     record_table: &[u8],

@@ -2,3 +2,7 @@
 pub mod Denotes
 pub mod Every
 pub mod ReadForm
+pub mod WasRead
+pub mod Standing
+pub mod Inside
+pub mod Placed

@@ -5,6 +5,7 @@ pub mod Strings
 pub mod Denotes
 pub mod WasRead
 pub mod Placed
+pub mod Part
 pub mod Contract
 pub mod Main
 pub mod Laws

@@ -39,11 +39,12 @@ record Row (A : Bytes) (i kind : ℕ) (name : Label) (x y : ℕ) : Type 0 where
   next : nextRow A i ≡ cond (ltb kind 6) (i + 1) y
   label : nameAt A i ≡ span (name .start) (name .size)
 
-record Short (name : Label) : Type 0 where
-  start-short : name .start ≤ maxTextBytes
-  size-short : name .size ≤ maxTextBytes
+-- A name that lies where a text's can.
+pub record Short (name : Label) : Type 0 where
+  pub start-short : name .start ≤ maxTextBytes
+  pub size-short : name .size ≤ maxTextBytes
 
-unnamed-short : Short unnamed
+pub unnamed-short : Short unnamed
 unnamed-short = record { start-short = omega arith; size-short = omega arith }
 
 row-word : (n : ℕ) → n ≤ maxValues → n < 4294967296
@@ -100,10 +101,10 @@ members-few (member n v ms) = omega (arith, count-positive v, members-few ms)
 -- ---- values
 module _ (T B : Bytes) where
   -- What stands in a row.
-  record Stored (v : Value) (i : ℕ) (name : Label) : Type 0 where
-    denotes : Denotes T B v (nodeAt T i)
-    next : nextRow T i ≡ i + valueCount v
-    label : nameAt T i ≡ span (name .start) (name .size)
+  pub record Stored (v : Value) (i : ℕ) (name : Label) : Type 0 where
+    pub denotes : Denotes T B v (nodeAt T i)
+    pub next : nextRow T i ≡ i + valueCount v
+    pub label : nameAt T i ≡ span (name .start) (name .size)
 
   scalar-read : (x : Scalar) (i used : ℕ) (name : Label) → dec.T (bounded (scalar x)) → used + length (stringsOf (scalar x)) ≤ maxTextBytes → Short name
       → Stands T (i * rowBytes) (scalarRow x used name) → Stands B used (stringsOf (scalar x)) → Stored (scalar x) i name
@@ -134,7 +135,7 @@ module _ (T B : Bytes) where
   mutual
     unfolding bounded instantFree valueCount stringsOf rowsOf
 
-    value-read : (v : Value) (i used : ℕ) (name : Label) → dec.T (bounded v) → dec.T (instantFree v) → i + valueCount v ≤ maxValues → used + length (stringsOf v) ≤ maxTextBytes → Short name
+    pub value-read : (v : Value) (i used : ℕ) (name : Label) → dec.T (bounded v) → dec.T (instantFree v) → i + valueCount v ≤ maxValues → used + length (stringsOf v) ≤ maxTextBytes → Short name
         → Stands T (i * rowBytes) (rowsOf v i used name) → Stands B used (stringsOf v) → Stored v i name
     value-read (scalar x) i used name w c k f n s b = scalar-read x i used name w f n s b
     value-read (instant t) i used name w c k f n s b = absurd c
@@ -155,7 +156,7 @@ module _ (T B : Bytes) where
         let members = members-read ms (i + 1) used w c (omega arith) f (behind i 1 (row 7 name x y) rows s (omega (arith, length-row 7 name x y))) b in
         record { denotes = rw (r .node) (denotes-object {ms = ms} refl (omega arith) members); next = r .next ∙ omega arith; label = r .label }
 
-    items-read : (vs : Values) (i used : ℕ) → dec.T (boundedItems vs) → dec.T (instantFreeItems vs) → i + itemsCount vs ≤ maxValues → used + length (itemStrings vs) ≤ maxTextBytes
+    pub items-read : (vs : Values) (i used : ℕ) → dec.T (boundedItems vs) → dec.T (instantFreeItems vs) → i + itemsCount vs ≤ maxValues → used + length (itemStrings vs) ≤ maxTextBytes
         → Stands T (i * rowBytes) (itemRows vs i used) → Stands B used (itemStrings vs) → RowItems T B i vs
     items-read no-items i used w c k f s b = no-row-items {row = i} (omega arith)
     items-read (item v vs) i used w c k f s b =
@@ -169,7 +170,7 @@ module _ (T B : Bytes) where
         (items-read vs (i + valueCount v) (used + length (stringsOf v)) (and-r (bounded v) _ w) (and-r (instantFree v) _ c) (omega arith) (omega arith)
         (behind i (valueCount v) rows others s (length-rows v i used unnamed)) (back (stringsOf v) (itemStrings vs) b)))
 
-    members-read : (ms : Members) (i used : ℕ) → dec.T (boundedMembers ms) → dec.T (instantFreeMembers ms) → i + membersCount ms ≤ maxValues → used + length (memberStrings ms) ≤ maxTextBytes
+    pub members-read : (ms : Members) (i used : ℕ) → dec.T (boundedMembers ms) → dec.T (instantFreeMembers ms) → i + membersCount ms ≤ maxValues → used + length (memberStrings ms) ≤ maxTextBytes
         → Stands T (i * rowBytes) (memberRows ms i used) → Stands B used (memberStrings ms) → RowMembers T B i ms
     members-read no-members i used w c k f s b = no-row-members {row = i} (omega arith)
     members-read (member n v ms) i used w c k f s b =
