@@ -1,20 +1,23 @@
--- Views: arrays, objects and literals; and what a shape says of the rule that a row holds.
+-- Views: what the view of a row says of the rule that it holds; an object by its mark.
 use mathlib.Core.Path.{_≡_, refl, sym, ap, subst, _∙_}
 use mathlib.Core.Bool.{Bool, true, false, cond}
 use mathlib.Core.Option.{Option, none, some}
-use Prim.Native.Nat.{ℕ, suc, _-_, _≤_}
+use Prim.Native.Nat.{ℕ, _*_, _-_, _≤_}
 use native.Mathlib.Omega.{arith}
 use borrow.Author.Tests.{eqb-true, eqb-false}
 use lib.Dec.{eqb}
+use lib.ListN.{length}
 use Rattle.model.specs.Bytes.{Bytes}
 use Rattle.model.specs.Laws.Logic.{clash}
 use Rattle.model.specs.Laws.Option.{none-some, bind-some}
+use Rattle.model.specs.Limits.{maxValues}
 use Rattle.model.specs.Option.{_>>=_}
 use Rattle.model.specs.Path.{pathOf}
 use Rattle.model.specs.Rule.{Operation, Rule, Literal, literal, var, apply, Rules}
 use Rattle.model.specs.Shape.{shape, rulesOf, operandsOf}
 use Rattle.model.specs.Size.{nesting}
 use Rattle.model.specs.Value.{Value, array, object, Values}
+use Rattle.syntax.specs.Layout.{rowBytes, rowsPart}
 use Rattle.keywords.specs.declared.Op.the-variants as Ops
 use Rattle.keywords.specs.Contract.{Stands, stands-array}
 use Rattle.table.specs.declared.node.Node.{Node}
@@ -31,16 +34,19 @@ use Rattle.rule.specs.declared.view.Shape.the-variants as Shapes
 use Rattle.rule.specs.declared.view.View.{View}
 use Rattle.rule.specs.declared.view.View.the-variants as Views
 use Rattle.rule.specs.Holds.{Holds, HoldsAll}
-use Rattle.rule.specs.View.{objectOn, within, nodeShape, viewOf}
-use Rattle.rule.specs.Contract.{Viewed, viewed-literal, viewed-var, viewed-if, viewed-and, viewed-reduce, viewed-apply, nested, nestedShape, ViewsAs, Built, built-if, built-and, built-reduce, built-apply, has-apply, Operates, Shaped, shaped-none, shaped-literal, shaped-var, shaped-operation, ShapesAs, spells-false, spells-true, spells-integer, spells-string}
+use Rattle.rule.specs.View.{objectOn, within, nodeShape, shapeAt, viewOf, viewAt}
+use Rattle.rule.specs.Mark.{markAt, shapeMark, unmarked, markedView, objectView, Marked}
+use Rattle.rule.specs.Contract.{Viewed, viewed-literal, viewed-var, viewed-if, viewed-and, viewed-reduce, viewed-apply, nested, ViewsAs, Built, built-if, built-and, built-reduce, built-apply, has-apply, lists-array, Operates, Shaped, shaped-none, shaped-literal, shaped-var, shaped-operation, spells-false, spells-true, spells-integer, spells-string}
 use Rattle.rule.specs.Laws.Holds.{rules-count}
-use Rattle.rule.proofs.Objects.{object-views}
+use Rattle.rule.specs.Laws.Mark.{object-told}
+use Rattle.rule.specs.Laws.Objects.{object-views}
+use Rattle.rule.specs.Laws.Rows.{SameRows, node-part, row-inside, same-part, part-same, same-denotes, table-rows}
 
 -- Nothing is seen where no nesting is left.
-bound-within : (deep : ℕ) (s : Seen) → nestedShape s ≤ 1 → nestedShape (within deep s) ≤ deep
+bound-within : (deep : ℕ) (s : Seen) → nested (viewOf s) ≤ 1 → nested (viewOf (within deep s)) ≤ deep
 bound-within deep s l = go (eqb deep 0) refl
   where
-    go : (b : Bool) → eqb deep 0 ≡ b → nestedShape (cond b Shapes.NotRule s) ≤ deep
+    go : (b : Bool) → eqb deep 0 ≡ b → nested (viewOf (cond b Shapes.NotRule s)) ≤ deep
     go true e = omega arith
     go false e = let n = eqb-false deep 0 e in omega arith
 
@@ -52,9 +58,14 @@ nested-small (Views.And q) = omega arith
 nested-small (Views.Reduce q) = omega arith
 nested-small (Views.Apply op q) = omega arith
 
-shape-small : (s : Seen) → nestedShape s ≤ 1
-shape-small Shapes.NotRule = omega arith
-shape-small (Shapes.Rule w) = nested-small w
+node-bound : (T B : Bytes) (deep : ℕ) (n : Node) → nested (viewOf (nodeShape T B deep n)) ≤ deep
+node-bound T B deep Null = omega arith
+node-bound T B deep False = omega arith
+node-bound T B deep True = omega arith
+node-bound T B deep (Integer n) = omega arith
+node-bound T B deep (String s) = omega arith
+node-bound T B deep (Array q) = bound-within deep (Shapes.Rule (Views.Apply Ops.Array q)) (omega arith)
+node-bound T B deep (Object q) = bound-within deep (objectOn T B q) (nested-small (viewOf (objectOn T B q)))
 
 -- ---- the rule that a row holds
 module _ {T B : Bytes} where
@@ -84,24 +95,13 @@ module _ {T B : Bytes} where
       let x = sym f ∙ e in
       let y : literal l ≡ ρ = cc in
       subst (Viewed T B deep (Views.Literal g)) y (viewed-literal s)
-  shaped-viewed {ρ = ρ} deep (shaped-var {p = p} f) n e = bind-some (pathOf (bytesOf B p)) _ (sym f ∙ e) λ q g x.
+  shaped-viewed {ρ = ρ} deep (shaped-var {p = p} o f) n e = bind-some (pathOf (bytesOf B p)) _ (sym f ∙ e) λ q g x.
       let y : var q ≡ ρ = cc in
       subst (Viewed T B deep (Views.Var p)) y (viewed-var g)
   shaped-viewed deep (shaped-operation o) n e = operation-viewed o deep n e
 
   not-shaped : {v : Value} {ρ : Rule} → Shaped T B v Shapes.NotRule → shape v ≡ some ρ → ⊥
   not-shaped (shaped-none f) e = none-some (sym f ∙ e)
-
-  -- What view_at tells, by the shape.
-  pub rule-viewed : {row deep : ℕ} {s : Seen} (w : View) → ShapesAs T B row deep s → s ≡ Shapes.Rule w → ViewsAs T B row deep w
-  rule-viewed {row} {deep} w a e =
-      let b : ShapesAs T B row deep (Shapes.Rule w) = subst (ShapesAs T B row deep) e a in
-      record { is = ap viewOf (b .is); viewed = λ ρ x. shaped-viewed deep (b .shaped (x .value) (x .denotes) (x .nests)) (x .nests) (x .shaped); bound = b .bound }
-
-  pub none-viewed : {row deep : ℕ} {s : Seen} → ShapesAs T B row deep s → s ≡ Shapes.NotRule → ViewsAs T B row deep (Views.Literal Literals.False)
-  none-viewed {row} {deep} a e =
-      let b : ShapesAs T B row deep Shapes.NotRule = subst (ShapesAs T B row deep) e a in
-      record { is = ap viewOf (b .is); viewed = λ ρ x. absurd (not-shaped (b .shaped (x .value) (x .denotes) (x .nests)) (x .shaped)); bound = omega arith }
 
   -- ---- arrays and objects
   array-operates : {vs : Values} {q : Rows} → Denotes T B (array vs) (Array q) → Shaped T B (array vs) (Shapes.Rule (Views.Apply Ops.Array q))
@@ -110,6 +110,9 @@ module _ {T B : Bytes} where
     has = has-apply;
     operands = vs;
     denotes = m;
+    listed = vs;
+    lists = lists-array;
+    bare = refl;
     nests = omega arith;
     refused = λ x. ap (λ (o : Option Rules). o >>= λ rs. some (apply Operation.array rs)) x;
     builds = λ rs x. record { whole = apply Operation.array rs; shaped = ap (λ (o : Option Rules). o >>= λ rs. some (apply Operation.array rs)) x; built = built-apply stands-array };
@@ -122,53 +125,60 @@ module _ {T B : Bytes} where
       go true e = absurd (n (eqb-true deep 0 e))
       go false e = h
 
-  module _ {row deep : ℕ} where
-    pub array-shape : {q : Rows} → nodeAt T row ≡ Array q → ShapesAs T B row deep (within deep (Shapes.Rule (Views.Apply Ops.Array q)))
-    unfolding nesting
-    array-shape {q} e = record { is = sym (ap (nodeShape T B deep) e); shaped = λ v d n. go (subst (Denotes T B v) e d) n; bound = bound-within deep (Shapes.Rule (Views.Apply Ops.Array q)) (omega arith) }
-      where
-        go : {v : Value} → Denotes T B v (Array q) → nesting v ≤ deep → Shaped T B v (within deep (Shapes.Rule (Views.Apply Ops.Array q)))
-        go (denotes-array x f r) n = within-shaped deep (λ z. omega arith) (array-operates (denotes-array x f r))
+  -- What the node of a row has the shape of.
+  node-shaped : {v : Value} {n : Node} (deep : ℕ) → Denotes T B v n → nesting v ≤ deep → Shaped T B v (nodeShape T B deep n)
+  unfolding shape nesting
+  node-shaped deep denotes-null n = shaped-none refl
+  node-shaped deep denotes-false n = shaped-literal {l = Literal.boolean false} refl spells-false
+  node-shaped deep denotes-true n = shaped-literal {l = Literal.boolean true} refl spells-true
+  node-shaped deep (denotes-integer {z = z} w e) n = shaped-literal {l = Literal.integer z} refl (spells-integer w e)
+  node-shaped deep (denotes-string {s = t} l) n = shaped-literal {l = Literal.string t} refl (spells-string l)
+  node-shaped deep (denotes-array x f r) n = within-shaped deep (λ z. omega arith) (array-operates (denotes-array x f r))
+  node-shaped deep (denotes-object x f r) n = within-shaped deep (λ z. omega arith) (object-views (denotes-object x f r))
 
-    pub object-shape : {q : Rows} {s : Seen} → nodeAt T row ≡ Object q → s ≡ objectOn T B q → ShapesAs T B row deep (within deep s)
-    unfolding nesting
-    object-shape {q} {s} e o = record { is = ap (within deep) o ∙ sym (ap (nodeShape T B deep) e); shaped = λ v d n. go (subst (Denotes T B v) e d) n; bound = bound-within deep s (shape-small s) }
-      where
-        go : {v : Value} → Denotes T B v (Object q) → nesting v ≤ deep → Shaped T B v (within deep s)
-        go (denotes-object x f r) n = within-shaped deep (λ z. omega arith) (rw o (object-views (denotes-object x f r)))
+  shape-viewed : {v : Value} {ρ : Rule} (s : Seen) (deep : ℕ) → Shaped T B v s → nesting v ≤ deep → shape v ≡ some ρ → Viewed T B deep (viewOf s) ρ
+  shape-viewed Shapes.NotRule deep h n e = absurd (not-shaped h e)
+  shape-viewed (Shapes.Rule w) deep h n e = shaped-viewed deep h n e
 
-    -- ---- scalars
-    pub null-shape : nodeAt T row ≡ Null → ShapesAs T B row deep Shapes.NotRule
-    unfolding shape
-    null-shape e = record { is = sym (ap (nodeShape T B deep) e); shaped = λ v d n. go (subst (Denotes T B v) e d); bound = omega arith }
-      where
-        go : {v : Value} → Denotes T B v Null → Shaped T B v Shapes.NotRule
-        go denotes-null = shaped-none refl
+-- The operands are those of the table.
+module _ {R T B : Bytes} (s : SameRows R T) where
+  same-holds : {deep : ℕ} {q : Rows} {rs : Rules} → HoldsAll R B deep q rs → HoldsAll T B deep q rs
+  same-holds h = record { values = h .values; denotes = same-denotes s (h .denotes); shaped = h .shaped; nests = h .nests }
 
-    pub false-shape : nodeAt T row ≡ False → ShapesAs T B row deep (Shapes.Rule (Views.Literal Literals.False))
-    unfolding shape
-    false-shape e = record { is = sym (ap (nodeShape T B deep) e); shaped = λ v d n. go (subst (Denotes T B v) e d); bound = omega arith }
-      where
-        go : {v : Value} → Denotes T B v False → Shaped T B v (Shapes.Rule (Views.Literal Literals.False))
-        go denotes-false = shaped-literal {l = Literal.boolean false} refl spells-false
+  same-viewed : {deep : ℕ} {w : View} {ρ : Rule} → Viewed R B deep w ρ → Viewed T B deep w ρ
+  same-viewed (viewed-literal x) = viewed-literal x
+  same-viewed (viewed-var x) = viewed-var x
+  same-viewed (viewed-if x) = viewed-if (same-holds x)
+  same-viewed (viewed-and x) = viewed-and (same-holds x)
+  same-viewed (viewed-reduce x) = viewed-reduce (same-holds x)
+  same-viewed (viewed-apply x y) = viewed-apply x (same-holds y)
 
-    pub true-shape : nodeAt T row ≡ True → ShapesAs T B row deep (Shapes.Rule (Views.Literal Literals.True))
-    unfolding shape
-    true-shape e = record { is = sym (ap (nodeShape T B deep) e); shaped = λ v d n. go (subst (Denotes T B v) e d); bound = omega arith }
-      where
-        go : {v : Value} → Denotes T B v True → Shaped T B v (Shapes.Rule (Views.Literal Literals.True))
-        go denotes-true = shaped-literal {l = Literal.boolean true} refl spells-true
+-- ---- what view_at gives
+module _ {T B : Bytes} (marked : Marked T B) where
+  size : maxValues * rowBytes ≤ length T
+  size = table-rows (marked .size)
 
-    pub integer-shape : {n : ℕ} → nodeAt T row ≡ Integer n → ShapesAs T B row deep (Shapes.Rule (Views.Literal (Literals.Integer n)))
-    unfolding shape
-    integer-shape {n} e = record { is = sym (ap (nodeShape T B deep) e); shaped = λ v d l. go (subst (Denotes T B v) e d); bound = omega arith }
-      where
-        go : {v : Value} → Denotes T B v (Integer n) → Shaped T B v (Shapes.Rule (Views.Literal (Literals.Integer n)))
-        go (denotes-integer {z = z} w e) = shaped-literal {l = Literal.integer z} refl (spells-integer w e)
+  -- By the equation alone.
+  pub views : {row deep : ℕ} {r : View} → r ≡ viewAt T B row deep → ViewsAs T B row deep r
+  views {row} {deep} {r} e = record {
+    is = e;
+    viewed = λ ρ h.
+        let d : Denotes (rowsPart T) B (h .value) (nodeAt (rowsPart T) row) = subst (Denotes (rowsPart T) B (h .value)) (sym (node-part T size row (h .within))) (same-denotes (same-part T size) (h .denotes)) in
+        subst (λ (w : View). Viewed T B deep w ρ) (sym e)
+        (same-viewed (part-same T size) (shape-viewed (shapeAt T B row deep) deep (node-shaped deep d (h .nests)) (h .nests) (h .shaped)));
+    bound = subst (λ (w : View). nested w ≤ deep) (sym e) (node-bound (rowsPart T) B deep (nodeAt (rowsPart T) row));
+  }
 
-    pub string-shape : {p : Span} → nodeAt T row ≡ String p → ShapesAs T B row deep (Shapes.Rule (Views.Literal (Literals.String p)))
-    unfolding shape
-    string-shape {p} e = record { is = sym (ap (nodeShape T B deep) e); shaped = λ v d n. go (subst (Denotes T B v) e d); bound = omega arith }
-      where
-        go : {v : Value} → Denotes T B v (String p) → Shaped T B v (Shapes.Rule (Views.Literal (Literals.String p)))
-        go (denotes-string {s = t} l) = shaped-literal {l = Literal.string t} refl (spells-string l)
+  -- By the node in the row.
+  pub node-view : {row deep : ℕ} (n : Node) {r : View} → nodeAt (rowsPart T) row ≡ n → r ≡ viewOf (nodeShape (rowsPart T) B deep n) → ViewsAs T B row deep r
+  node-view {row} {deep} n e f = views (f ∙ sym (ap (λ (x : Node). viewOf (nodeShape (rowsPart T) B deep x)) e))
+
+  pub object-view : {row deep : ℕ} (q : Rows) {r : View} → nodeAt (rowsPart T) row ≡ Object q → r ≡ objectView T row q deep → ViewsAs T B row deep r
+  object-view {row} {deep} q {r} e f = node-view (Object q) e (f ∙ go (eqb deep 0))
+    where
+      mark : markAt T row ≡ shapeMark (objectOn (rowsPart T) B q)
+      mark = let l = row-inside T size row e in marked .marks row q l (sym (node-part T size row l) ∙ e)
+
+      go : (b : Bool) → cond b unmarked (markedView (rowsPart T) (markAt T row) (nodeAt (rowsPart T) (q .first))) ≡ viewOf (cond b Shapes.NotRule (objectOn (rowsPart T) B q))
+      go true = refl
+      go false = ap (λ (m : ℕ). markedView (rowsPart T) m (nodeAt (rowsPart T) (q .first))) mark ∙ sym (object-told (rowsPart T) B q)

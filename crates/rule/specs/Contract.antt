@@ -6,12 +6,12 @@ use Prim.Native.Nat.{ℕ, suc, _-_, _≤_}
 use lib.Dec as dec
 use lib.IntN.{ℤ}
 use Rattle.model.specs.Bytes.{Bytes}
-use Rattle.model.specs.Option.{_>>=_}
+use Rattle.model.specs.Option.{_>>=_, isSome}
 use Rattle.model.specs.Path.{Path, pathOf}
-use Rattle.model.specs.Rule.{Literal as ModelLiteral, boolean, integer, string, Operation, Rule, literal, var, if, and, reduce, apply, Rules, no-rules, rule}
+use Rattle.model.specs.Rule.{Literal as ModelLiteral, Operation, Rule, literal, var, if, and, reduce, apply, Rules, no-rules, rule}
 use Rattle.model.specs.Shape.{shape, rulesOf, operandsOf}
 use Rattle.model.specs.Size.{nesting, itemsNesting}
-use Rattle.model.specs.Value.{Value, array, Values, withinLimits}
+use Rattle.model.specs.Value.{Value, scalar, array, object, string, Values, no-members, member, withinLimits}
 use Rattle.syntax.specs.Layout.{biased}
 use Rattle.keywords.specs.declared.Op.{Op}
 use Rattle.keywords.specs.Contract.{Stands}
@@ -19,7 +19,6 @@ use Rattle.table.specs.declared.node.Node.the-variants.{Array}
 use Rattle.table.specs.declared.node.Rows.{Rows}
 use Rattle.table.specs.declared.row.Span.{Span}
 use Rattle.table.specs.Denotes.{Denotes, Lies}
-use Rattle.table.specs.Node.{nodeAt}
 use Rattle.table.specs.Strings.{bytesOf}
 use Rattle.rule.specs.declared.view.Literal.{Literal}
 use Rattle.rule.specs.declared.view.Literal.the-variants as Literals
@@ -28,14 +27,14 @@ use Rattle.rule.specs.declared.view.Shape.the-variants as Shapes
 use Rattle.rule.specs.declared.view.View.{View}
 use Rattle.rule.specs.declared.view.View.the-variants as Views
 use Rattle.rule.specs.Holds.{Holds, HoldsAll, ruleCount}
-use Rattle.rule.specs.View.{shapeAt, viewAt}
+use Rattle.rule.specs.View.{viewAt}
 
 -- A literal of the model, its string in the rule's strings B.
 pub data Spells (B : Bytes) : Literal → ModelLiteral → Type 0 where
-  spells-false : Spells B Literals.False (boolean false)
-  spells-true : Spells B Literals.True (boolean true)
-  spells-integer : {n : ℕ} {z : ℤ} → dec.T (withinLimits z) → n ≡ biased z → Spells B (Literals.Integer n) (integer z)
-  spells-string : {p : Span} {s : Bytes} → Lies B (p .start) (p .size) s → Spells B (Literals.String p) (string s)
+  spells-false : Spells B Literals.False (ModelLiteral.boolean false)
+  spells-true : Spells B Literals.True (ModelLiteral.boolean true)
+  spells-integer : {n : ℕ} {z : ℤ} → dec.T (withinLimits z) → n ≡ biased z → Spells B (Literals.Integer n) (ModelLiteral.integer z)
+  spells-string : {p : Span} {s : Bytes} → Lies B (p .start) (p .size) s → Spells B (Literals.String p) (ModelLiteral.string s)
 
 -- A view of the rule, which nests no deeper than `deep`: its operands nest less deep.
 pub data Viewed (T B : Bytes) (deep : ℕ) : View → Rule → Type 0 where
@@ -81,28 +80,26 @@ pub data Has : View → Rows → Type 0 where
   has-reduce : {q : Rows} → Has (Views.Reduce q) q
   has-apply : {op : Op} {q : Rows} → Has (Views.Apply op q) q
 
--- The value is a rule exactly when its operands, less deep, all are.
+-- The items of an array, or of the array that is the content of an object's single member.
+pub data Lists : Value → Values → Type 0 where
+  lists-array : {vs : Values} → Lists (array vs) vs
+  lists-content : {n : Bytes} {vs : Values} → Lists (object (member n (array vs) no-members)) vs
+
+-- The value is a rule exactly when its operands, less deep, all are. Its other items are bare: an integer, or an integer and a unit.
 pub record Operates (T B : Bytes) (v : Value) (w : View) (q : Rows) : Type 0 where
   pub has : Has w q
   pub operands : Values
   pub denotes : Denotes T B (array operands) (Array q)
+  pub listed : Values
+  pub lists : Lists v listed
+  pub bare : isSome (rulesOf (operandsOf listed)) ≡ isSome (rulesOf (operandsOf operands))
   pub nests : suc (itemsNesting operands) ≤ nesting v
   pub refused : rulesOf (operandsOf operands) ≡ none → shape v ≡ none
   pub builds : (rs : Rules) → rulesOf (operandsOf operands) ≡ some rs → Builds v w q rs
 
--- What a value has the shape of.
+-- What a value has the shape of (Laws/Objects.antt: object-views).
 pub data Shaped (T B : Bytes) (v : Value) : Seen → Type 0 where
   shaped-none : shape v ≡ none → Shaped T B v Shapes.NotRule
   shaped-literal : {g : Literal} {l : ModelLiteral} → shape v ≡ some (literal l) → Spells B g l → Shaped T B v (Shapes.Rule (Views.Literal g))
-  shaped-var : {p : Span} → shape v ≡ (pathOf (bytesOf B p) >>= λ q. some (var q)) → Shaped T B v (Shapes.Rule (Views.Var p))
+  shaped-var : {p : Span} {n s : Bytes} → v ≡ object (member n (scalar (string s)) no-members) → shape v ≡ (pathOf (bytesOf B p) >>= λ q. some (var q)) → Shaped T B v (Shapes.Rule (Views.Var p))
   shaped-operation : {w : View} {q : Rows} → Operates T B v w q → Shaped T B v (Shapes.Rule w)
-
-abbrev pub nestedShape : Seen → ℕ
-nestedShape Shapes.NotRule = 0
-nestedShape (Shapes.Rule w) = nested w
-
--- What `shape_at` promises: the shape of any bytes; and what it is of every value that the row may denote, if it nests no deeper than `deep`.
-pub record ShapesAs (T B : Bytes) (row deep : ℕ) (r : Seen) : Type 0 where
-  pub is : r ≡ shapeAt T B row deep
-  pub shaped : (v : Value) → Denotes T B v (nodeAt T row) → nesting v ≤ deep → Shaped T B v r
-  pub bound : nestedShape r ≤ deep

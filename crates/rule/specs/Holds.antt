@@ -1,8 +1,9 @@
 -- Holds: the relation between a read table and the rule that it holds: one of its rows, and the rule that the value in it is.
 use mathlib.Core.Option.{some}
 use mathlib.Core.Path.{_≡_}
-use Prim.Native.Nat.{ℕ, suc, _≤_}
+use Prim.Native.Nat.{ℕ, suc, _≤_, _<_}
 use Rattle.model.specs.Bytes.{Bytes}
+use Rattle.model.specs.Limits.{maxValues}
 use Rattle.model.specs.Rule.{Rule, Rules, no-rules, rule}
 use Rattle.model.specs.Shape.{shape, rulesOf, operandsOf}
 use Rattle.model.specs.Size.{nesting, itemsNesting}
@@ -14,6 +15,7 @@ use Rattle.table.specs.Node.{nodeAt}
 
 -- The rule r, nested no deeper than `deep`.
 pub record Holds (T B : Bytes) (deep row : ℕ) (r : Rule) : Type 0 where
+  pub within : row < maxValues
   pub value : Value
   pub denotes : Denotes T B value (nodeAt T row)
   pub shaped : shape value ≡ some r

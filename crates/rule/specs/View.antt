@@ -6,6 +6,7 @@ use lib.Dec.{eqb, ltb}
 use Rattle.model.specs.Bytes.{Bytes}
 use Rattle.model.specs.Shape.{keywordNamed, unitNamed}
 use Rattle.model.specs.declared.TimeUnit.{TimeUnit}
+use Rattle.syntax.specs.Layout.{rowsPart}
 use Rattle.keywords.specs.declared.Keyword.{Keyword}
 use Rattle.keywords.specs.declared.Keyword.the-variants as Keywords
 use Rattle.keywords.specs.declared.Op.the-variants as Ops
@@ -17,8 +18,8 @@ use Rattle.table.specs.declared.row.Span.{Span}
 use Rattle.table.specs.Node.{rows, nodeAt, nextRow, nameAt}
 use Rattle.table.specs.Strings.{bytesOf}
 use Rattle.rule.specs.declared.view.Literal.the-variants as Literals
-use Rattle.rule.specs.declared.view.Single.{Single}
-use Rattle.rule.specs.declared.view.Single.the-variants.{NotSingle, Member}
+use Rattle.rule.specs.declared.operation.Single.{Single}
+use Rattle.rule.specs.declared.operation.Single.the-variants.{NotSingle, Member}
 use Rattle.rule.specs.declared.view.Shape.{Shape}
 use Rattle.rule.specs.declared.view.Shape.the-variants.{NotRule, Rule}
 use Rattle.rule.specs.declared.view.View.{View}
@@ -130,8 +131,9 @@ nodeShape T B deep (Array q) = within deep (Rule (Apply Ops.Array q))
 nodeShape T B deep (Object q) = within deep (objectOn T B q)
 
 -- What a row has the shape of, with so many nestings left.
+-- A table has so many rows: what lies behind them is none.
 abbrev pub shapeAt : Bytes → Bytes → ℕ → ℕ → Shape
-shapeAt T B row deep = nodeShape T B deep (nodeAt T row)
+shapeAt T B row deep = nodeShape (rowsPart T) B deep (nodeAt (rowsPart T) row)
 
 -- What is no rule is viewed as the literal false.
 abbrev pub viewOf : Shape → View

@@ -1,20 +1,22 @@
-// What stands at a row of a rule's table: the model's six cases, with the rows of the operands.
-use keywords::Keyword;
+// What stands at a row of a rule's table: the model's six cases, with the rows of the operands. An object is viewed by its mark.
+use crate::mark::mark_at;
+use crate::mark::rows_of;
+use crate::operation::first_of;
 use keywords::Op;
-use keywords::UnitAnswer;
-use keywords::keyword_named;
-use keywords::unit_named;
+use model::Comparison;
+use model::Domain;
+use model::TimeUnit;
 use table::node::Node;
 use table::node::Rows;
-use table::node::name_at;
 use table::node::next_row;
 use table::node::node_at;
 use table::row::Span;
-use table::string::bytes_of;
+ghost use mathlib.Core.List.{[], _∷_};
 ghost use mathlib.Core.Path.{_≡_};
-ghost use Rattle.keywords.specs.Contract.{unitOf};
-ghost use Rattle.rule.specs.View.{singleOf, countedOn, andOn, firstOf, unitAt, plusTimeOf, plusTimeOn, extractOn, pathOn, operandsOn, contentOn, objectOn, within};
-ghost use Rattle.rule.specs.Contract.{ShapesAs, ViewsAs};
+ghost use lib.ListN.{getD};
+ghost use Rattle.rule.specs.View.{within, viewOf};
+ghost use Rattle.rule.specs.Mark.{Marked, unmarked, integerIn, bareInteger, plusTimeView, extractView, operandsViews, markedView, objectView};
+ghost use Rattle.rule.specs.Contract.{ViewsAs};
 
 // A boolean, an integer to which 2^53 was added, or where a string lies in the rule's strings.
 pub enum Literal {
@@ -40,221 +42,139 @@ pub enum Shape {
     Rule(View),
 }
 
-// The single member of an object: its name and its content.
-enum Single {
-    NotSingle,
-    Member(Span, Node),
-}
-
-// The single member, if there is no other.
-fn single_member(rule_table: &[u8], q: Rows) -> Single
-    ensures { λ r. ⌜ r ≡ singleOf (now («rule_table» .entry)) q ⌝ }
-{
-    if q.count != 1 {
-        return Single::NotSingle;
-    }
-    Single::Member(name_at(rule_table, q.first), node_at(rule_table, q.first))
-}
-
-// An operation with from `least` to `most` operands.
-fn counted_operands(least: usize, most: usize, view: View, q: Rows) -> Shape
-    ensures { λ r. ⌜ r ≡ countedOn least most view q ⌝ }
-{
-    if q.count < least {
-        return Shape::NotRule;
-    }
-    if most < q.count {
-        return Shape::NotRule;
-    }
-    Shape::Rule(view)
-}
-
-// Two operands or more.
-fn and_operands(q: Rows) -> Shape
-    ensures { λ r. ⌜ r ≡ andOn q ⌝ }
-{
-    if q.count < 2 {
-        return Shape::NotRule;
-    }
-    Shape::Rule(View::And(q))
-}
-
-// The first alone: the one rule among the operands of `plusTime` and `extractFromUVCI`.
-fn first_of(q: Rows) -> Rows
-    ensures { λ r. ⌜ r ≡ firstOf q ⌝ }
-{
-    Rows {
-        first: q.first,
-        count: 1,
-    }
-}
-
-// The unit that a string names.
-fn unit_at(rule_strings: &[u8], n: Node) -> UnitAnswer
-    ensures { λ r. ⌜ unitOf r ≡ unitAt (now («rule_strings» .entry)) n ⌝ }
+fn integer_in(n: Node) -> u64
+    ensures { λ r. ⌜ r ≡ integerIn n ⌝ }
 {
     match n {
-        Node::Null => UnitAnswer::NoUnit,
-        Node::False => UnitAnswer::NoUnit,
-        Node::True => UnitAnswer::NoUnit,
-        Node::Integer(_) => UnitAnswer::NoUnit,
-        Node::String(s) => unit_named(bytes_of(rule_strings, s)),
-        Node::Array(_) => UnitAnswer::NoUnit,
-        Node::Object(_) => UnitAnswer::NoUnit,
+        Node::Null => 0,
+        Node::False => 0,
+        Node::True => 0,
+        Node::Integer(n) => n,
+        Node::String(_) => 0,
+        Node::Array(_) => 0,
+        Node::Object(_) => 0,
     }
 }
 
-// `plusTime` by this amount of this unit, if it is one.
-fn plus_time_of(amount: u64, unit: UnitAnswer, q: Rows) -> Shape
-    ensures { λ r. ⌜ r ≡ plusTimeOf amount (unitOf unit) q ⌝ }
+// The integer behind the first operand of `plusTime` and `extractFromUVCI`; 0 where none stands there.
+fn bare_integer(rows: &[u8], q: Rows) -> u64
+    ensures { λ r. ⌜ r ≡ bareInteger (now (rows .entry)) q ⌝ }
 {
-    match unit {
-        UnitAnswer::NoUnit => Shape::NotRule,
-        UnitAnswer::Unit(u) => {
-            Shape::Rule(View::Apply(Op::PlusTime { amount, unit: u }, first_of(q)))
-        }
-    }
+    integer_in(node_at(rows, next_row(rows, q.first)))
 }
 
-// "a rule, an integer, one of "year" "month" "day" "hour""
-fn plus_time(rule_table: &[u8], rule_strings: &[u8], q: Rows) -> Shape
-    ensures { λ r. ⌜ r ≡ plusTimeOn (now («rule_table» .entry)) (now («rule_strings» .entry)) q ⌝ }
+fn plus_time_view(rows: &[u8], unit: TimeUnit, q: Rows) -> View
+    ensures { λ r. ⌜ r ≡ plusTimeView (now (rows .entry)) unit q ⌝ }
 {
-    if q.count != 3 {
-        return Shape::NotRule;
-    }
-    let second = next_row(rule_table, q.first);
-    let unit = unit_at(
-        rule_strings,
-        node_at(rule_table, next_row(rule_table, second)),
-    );
-    let amount = node_at(rule_table, second);
-    match amount {
-        Node::Null => Shape::NotRule,
-        Node::False => Shape::NotRule,
-        Node::True => Shape::NotRule,
-        Node::Integer(n) => plus_time_of(n, unit, q),
-        Node::String(_) => Shape::NotRule,
-        Node::Array(_) => Shape::NotRule,
-        Node::Object(_) => Shape::NotRule,
-    }
+    let amount = bare_integer(rows, q);
+    View::Apply(Op::PlusTime { amount, unit }, first_of(q))
 }
 
-// "a rule, an integer"
-fn extract(rule_table: &[u8], q: Rows) -> Shape
-    ensures { λ r. ⌜ r ≡ extractOn (now («rule_table» .entry)) q ⌝ }
+fn extract_view(rows: &[u8], q: Rows) -> View
+    ensures { λ r. ⌜ r ≡ extractView (now (rows .entry)) q ⌝ }
 {
-    if q.count != 2 {
-        return Shape::NotRule;
-    }
-    let index = node_at(rule_table, next_row(rule_table, q.first));
-    match index {
-        Node::Null => Shape::NotRule,
-        Node::False => Shape::NotRule,
-        Node::True => Shape::NotRule,
-        Node::Integer(n) => Shape::Rule(View::Apply(Op::ExtractFromUvci(n), first_of(q))),
-        Node::String(_) => Shape::NotRule,
-        Node::Array(_) => Shape::NotRule,
-        Node::Object(_) => Shape::NotRule,
-    }
+    View::Apply(Op::ExtractFromUvci(bare_integer(rows, q)), first_of(q))
 }
 
-// `var` takes "a string itself, not an array".
-fn path(k: Keyword, s: Span) -> Shape
-    ensures { λ r. ⌜ r ≡ pathOn k s ⌝ }
+fn compare_view(domain: Domain, comparison: Comparison, q: Rows) -> View
+    ensures { λ r. ⌜ r ≡ View.Apply (Op.Compare domain comparison) q ⌝ }
 {
-    match k {
-        Keyword::NoKeyword => Shape::NotRule,
-        Keyword::Var => Shape::Rule(View::Var(s)),
-        Keyword::If => Shape::NotRule,
-        Keyword::Reduce => Shape::NotRule,
-        Keyword::And => Shape::NotRule,
-        Keyword::PlusTime => Shape::NotRule,
-        Keyword::ExtractFromUvci => Shape::NotRule,
-        Keyword::Counted {
-            least: _,
-            most: _,
-            op: _,
-        } => Shape::NotRule,
-    }
+    View::Apply(Op::Compare { domain, comparison }, q)
 }
 
-// Every other operation takes operands in an array.
-fn operands(rule_table: &[u8], rule_strings: &[u8], k: Keyword, q: Rows) -> Shape
-    ensures { λ r. ⌜ r ≡ operandsOn (now («rule_table» .entry)) (now («rule_strings» .entry)) k q ⌝ }
+// The view of operands with this mark.
+fn operands_view(rows: &[u8], mark: u8, q: Rows) -> View
+    ensures { λ r. ⌜ r ≡ getD (operandsViews (now (rows .entry)) q) mark unmarked ⌝ }
 {
-    match k {
-        Keyword::NoKeyword => Shape::NotRule,
-        Keyword::Var => Shape::NotRule,
-        Keyword::If => counted_operands(3, 3, View::If(q), q),
-        Keyword::Reduce => counted_operands(3, 3, View::Reduce(q), q),
-        Keyword::And => and_operands(q),
-        Keyword::PlusTime => plus_time(rule_table, rule_strings, q),
-        Keyword::ExtractFromUvci => extract(rule_table, q),
-        Keyword::Counted { least, most, op } => {
-            counted_operands(least, most, View::Apply(op, q), q)
-        }
+    match mark {
+        0 => View::Literal(Literal::False),
+        1 => View::Literal(Literal::False),
+        2 => View::If(q),
+        3 => View::And(q),
+        4 => View::Reduce(q),
+        5 => View::Apply(Op::Equal, q),
+        6 => View::Apply(Op::MemberOf, q),
+        7 => View::Apply(Op::Plus, q),
+        8 => View::Apply(Op::Not, q),
+        9 => View::Apply(Op::DateOfBirth, q),
+        10 => compare_view(Domain::OnIntegers, Comparison::Greater, q),
+        11 => compare_view(Domain::OnIntegers, Comparison::Less, q),
+        12 => compare_view(Domain::OnIntegers, Comparison::GreaterOrEqual, q),
+        13 => compare_view(Domain::OnIntegers, Comparison::LessOrEqual, q),
+        14 => compare_view(Domain::OnInstants, Comparison::Greater, q),
+        15 => compare_view(Domain::OnInstants, Comparison::Less, q),
+        16 => compare_view(Domain::OnInstants, Comparison::GreaterOrEqual, q),
+        17 => compare_view(Domain::OnInstants, Comparison::LessOrEqual, q),
+        18 => plus_time_view(rows, TimeUnit::Year, q),
+        19 => plus_time_view(rows, TimeUnit::Month, q),
+        20 => plus_time_view(rows, TimeUnit::Day, q),
+        21 => plus_time_view(rows, TimeUnit::Hour, q),
+        22 => extract_view(rows, q),
+        _ => View::Literal(Literal::False),
     }
 }
 
-// An operation with this content.
-fn content_shape(rule_table: &[u8], rule_strings: &[u8], k: Keyword, content: Node) -> Shape
-    ensures { λ r. ⌜ r ≡ contentOn (now («rule_table» .entry)) (now («rule_strings» .entry)) k content ⌝ }
+// The view of a path with this mark.
+fn path_view(mark: u8, s: Span) -> View
+    ensures { λ r. ⌜ r ≡ getD (unmarked ∷ View.Var s ∷ []) mark unmarked ⌝ }
+{
+    match mark {
+        0 => View::Literal(Literal::False),
+        1 => View::Var(s),
+        _ => View::Literal(Literal::False),
+    }
+}
+
+// The view of an object with this mark and this content.
+fn marked_view(rows: &[u8], mark: u8, content: Node) -> View
+    ensures { λ r. ⌜ r ≡ markedView (now (rows .entry)) mark content ⌝ }
 {
     match content {
-        Node::Null => Shape::NotRule,
-        Node::False => Shape::NotRule,
-        Node::True => Shape::NotRule,
-        Node::Integer(_) => Shape::NotRule,
-        Node::String(s) => path(k, s),
-        Node::Array(q) => operands(rule_table, rule_strings, k, q),
-        Node::Object(_) => Shape::NotRule,
+        Node::Null => View::Literal(Literal::False),
+        Node::False => View::Literal(Literal::False),
+        Node::True => View::Literal(Literal::False),
+        Node::Integer(_) => View::Literal(Literal::False),
+        Node::String(s) => path_view(mark, s),
+        Node::Array(q) => operands_view(rows, mark, q),
+        Node::Object(_) => View::Literal(Literal::False),
     }
 }
 
-// 01, Shape: "An object must yield its single member, or else it is refused with 6."
-fn operation(rule_table: &[u8], rule_strings: &[u8], q: Rows) -> Shape
-    ensures { λ r. ⌜ r ≡ objectOn (now («rule_table» .entry)) (now («rule_strings» .entry)) q ⌝ }
-{
-    let Single::Member(name, content) = single_member(rule_table, q) else {
-        return Shape::NotRule;
-    };
-    let k = keyword_named(bytes_of(rule_strings, name));
-    content_shape(rule_table, rule_strings, k, content)
-}
-
-// What an array or object has the shape of, where so many nestings are left.
-fn within_nesting(deep: usize, s: Shape) -> Shape
-    ensures { λ r. ⌜ r ≡ within deep s ⌝ }
+// An array, where so many nestings are left.
+fn array_view(q: Rows, deep: usize) -> View
+    ensures { λ r. ⌜ r ≡ viewOf (within deep (Shape.Rule (View.Apply Op.Array q))) ⌝ }
 {
     if deep == 0 {
-        return Shape::NotRule;
+        return View::Literal(Literal::False);
     }
-    s
+    View::Apply(Op::Array, q)
 }
 
-// What the value in a row has the shape of, if it nests no deeper than `deep`.
-pub fn shape_at(rule_table: &[u8], rule_strings: &[u8], row: usize, deep: usize) -> Shape
-    ensures { λ r. ⌜ ShapesAs (now («rule_table» .entry)) (now («rule_strings» .entry)) row deep r ⌝ }
+// An object by the mark of its row, where so many nestings are left.
+fn object_view(rule_table: &[u8], row: usize, q: Rows, deep: usize) -> View
+    ensures { λ r. ⌜ r ≡ objectView (now («rule_table» .entry)) row q deep ⌝ }
 {
-    let node = node_at(rule_table, row);
-    match node {
-        Node::Null => Shape::NotRule,
-        Node::False => Shape::Rule(View::Literal(Literal::False)),
-        Node::True => Shape::Rule(View::Literal(Literal::True)),
-        Node::Integer(n) => Shape::Rule(View::Literal(Literal::Integer(n))),
-        Node::String(s) => Shape::Rule(View::Literal(Literal::String(s))),
-        Node::Array(q) => within_nesting(deep, Shape::Rule(View::Apply(Op::Array, q))),
-        Node::Object(q) => within_nesting(deep, operation(rule_table, rule_strings, q)),
+    if deep == 0 {
+        return View::Literal(Literal::False);
     }
+    let mark = mark_at(rule_table, row);
+    let rows = rows_of(rule_table);
+    marked_view(rows, mark, node_at(rows, q.first))
 }
 
 // The view of the rule in a row, if it nests no deeper than `deep`. A row that holds no such rule is viewed as the literal false.
 pub fn view_at(rule_table: &[u8], rule_strings: &[u8], row: usize, deep: usize) -> View
+    requires { ⌜ Marked (now «rule_table») (now «rule_strings») ⌝ }
     ensures { λ r. ⌜ ViewsAs (now («rule_table» .entry)) (now («rule_strings» .entry)) row deep r ⌝ }
 {
-    match shape_at(rule_table, rule_strings, row, deep) {
-        Shape::NotRule => View::Literal(Literal::False),
-        Shape::Rule(view) => view,
+    let node = node_at(rows_of(rule_table), row);
+    match node {
+        Node::Null => View::Literal(Literal::False),
+        Node::False => View::Literal(Literal::False),
+        Node::True => View::Literal(Literal::True),
+        Node::Integer(n) => View::Literal(Literal::Integer(n)),
+        Node::String(s) => View::Literal(Literal::String(s)),
+        Node::Array(q) => array_view(q, deep),
+        Node::Object(q) => object_view(rule_table, row, q, deep),
     }
 }

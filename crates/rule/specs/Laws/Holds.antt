@@ -44,7 +44,7 @@ holds-parts {T} {B} {deep} {q} {r} {rs} h = go (h .values) (h .denotes) (h .shap
     go (item v vs) d e n = bind-some (shape v) _ e λ x f g. bind-some (rulesOf (operandsOf vs)) _ g λ xs k l.
         let p = DenotesLaws.array-parts d in
         record {
-          head = record { value = v; denotes = p .head; shaped = f ∙ cc; nests = omega arith };
+          head = record { within = p .inside; value = v; denotes = p .head; shaped = f ∙ cc; nests = omega arith };
           rest = record { values = vs; denotes = p .rest; shaped = k ∙ cc; nests = omega arith };
         }
 
