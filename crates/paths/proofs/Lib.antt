@@ -1,4 +1,6 @@
 -- Laws for the proofs of paths.
 pub mod Digits
-pub mod Parts
+pub mod Whole
+pub mod Rows
+pub mod Denoted
 pub mod Walk

@@ -14,6 +14,8 @@ use Rattle.table.specs.declared.node.Rows.{Rows}
 use Rattle.table.specs.Denotes.{Denotes}
 use Rattle.table.specs.Node.{nodeAt, nameAt, nextRow}
 use Rattle.table.specs.Strings.{bytesOf}
+use Rattle.name_index.specs.declared.find.Found.{Found}
+use Rattle.name_index.specs.declared.find.Found.the-variants as found
 use Rattle.paths.specs.declared.index.Index.{Index}
 use Rattle.paths.specs.declared.index.Index.the-variants.{Outside, At}
 
@@ -29,6 +31,12 @@ belowLimit (some k) = cond (ltb k limit) (At k) Outside
 -- 01, `var`: "on an array, 0 or digits without a leading zero are an index".
 abbrev pub indexIn : Bytes → Index
 indexIn f = belowLimit (indexOf f)
+
+-- ---- the row of a name
+-- Of so many rows from one on, the first with this name.
+abbrev pub rowNamed : Bytes → Bytes → Bytes → ℕ → ℕ → Found
+rowNamed T B f row zero = found.Nowhere
+rowNamed T B f row (suc n) = cond (sameBytes f (bytesOf B (nameAt T row))) (found.At row) (rowNamed T B f (nextRow T row) n)
 
 -- ---- the node at a path, by the rows of a table T with strings B, whatever these bytes are
 -- Of so many rows from one on, the first with this name, and the one at an index; null where there is none.

@@ -1,53 +1,39 @@
 // `var`: the value at a path in a read text, by rows.
 pub mod index;
+mod items;
+pub mod members;
+mod owner;
 
 use crate::index::Index;
 use crate::index::read_index;
+use crate::items::item;
+use crate::members::row_named;
 use bytes::path::fragment_end;
-use bytes::same;
+use name_index::find::Found;
 use table::node::Node;
 use table::node::Rows;
-use table::node::name_at;
 use table::node::node_at;
-use table::node::tail;
-use table::string::bytes_of;
-ghost use Rattle.paths.specs.Contract.{Leads};
-ghost use Rattle.paths.specs.Inner.{MemberNamed, ItemAt, ItemNamed, PartNamed};
+ghost use mathlib.Core.Path.{_≡_};
+ghost use Rattle.name_index.specs.Table.{IndexedTable};
+ghost use Rattle.table.specs.Placed.{Placed};
+ghost use Rattle.paths.specs.Contract.{indexIn, memberIn, itemOf, partIn, Leads};
 
 // "on an object a fragment names a member"
 fn member(fragment: &[u8], table: &[u8], strings: &[u8], q: Rows) -> Node
-    ensures { λ r. ⌜ MemberNamed (now (fragment .entry)) (now (table .entry)) (now (strings .entry)) q r ⌝ }
+    requires { ⌜ IndexedTable (now table) (now strings) ⌝ }
+    ensures { λ r. ⌜ r ≡ memberIn (now (table .entry)) (now (strings .entry)) (now (fragment .entry)) (q .first) (q .count) ⌝ }
 {
-    let mut rest = q;
-    while rest.count > 0 {
-        let name = bytes_of(strings, name_at(table, rest.first));
-        if same(fragment, name) {
-            return node_at(table, rest.first);
-        }
-        rest = tail(table, rest);
+    let found = row_named(fragment, table, strings, q);
+    match found {
+        Found::Nowhere => Node::Null,
+        Found::At(row) => node_at(table, row),
     }
-    Node::Null
-}
-
-// The item so many after the first.
-fn item(at: usize, table: &[u8], q: Rows) -> Node
-    ensures { λ r. ⌜ ItemAt at (now (table .entry)) q r ⌝ }
-{
-    let mut rest = q;
-    let mut left = at;
-    while rest.count > 0 {
-        if left == 0 {
-            return node_at(table, rest.first);
-        }
-        rest = tail(table, rest);
-        left = left - 1;
-    }
-    Node::Null
 }
 
 // The item that a fragment names.
 fn item_named(fragment: &[u8], table: &[u8], q: Rows) -> Node
-    ensures { λ r. ⌜ ItemNamed (now (fragment .entry)) (now (table .entry)) q r ⌝ }
+    requires { ⌜ Placed (now table) ⌝ }
+    ensures { λ r. ⌜ r ≡ itemOf (now (table .entry)) q (indexIn (now (fragment .entry))) ⌝ }
 {
     let index = read_index(fragment);
     match index {
@@ -58,7 +44,8 @@ fn item_named(fragment: &[u8], table: &[u8], q: Rows) -> Node
 
 // What a fragment names in a value; null where it names nothing.
 fn part(fragment: &[u8], table: &[u8], strings: &[u8], n: Node) -> Node
-    ensures { λ r. ⌜ PartNamed (now (fragment .entry)) (now (table .entry)) (now (strings .entry)) n r ⌝ }
+    requires { ⌜ IndexedTable (now table) (now strings) ⌝ }
+    ensures { λ r. ⌜ r ≡ partIn (now (table .entry)) (now (strings .entry)) (now (fragment .entry)) n ⌝ }
 {
     match n {
         Node::Array(q) => item_named(fragment, table, q),
@@ -69,6 +56,7 @@ fn part(fragment: &[u8], table: &[u8], strings: &[u8], n: Node) -> Node
 
 // The value at a path, which has the form that 01 wants of `var`, from a value on; null where the path leads nowhere.
 pub fn find(path: &[u8], table: &[u8], strings: &[u8], from: Node) -> Node
+    requires { ⌜ IndexedTable (now table) (now strings) ⌝ }
     ensures { λ r. ⌜ Leads (now (path .entry)) (now (table .entry)) (now (strings .entry)) from r ⌝ }
 {
     let mut n = from;

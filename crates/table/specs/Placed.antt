@@ -17,3 +17,4 @@ pub record Placed (T : Bytes) : Type 0 where
   pub within : (row : ℕ) → row < maxValues → nextRow T row ≤ maxValues
   pub items : (row : ℕ) (q : Rows) → row < maxValues → nodeAt T row ≡ Array q → rowAfter T (q .first) (q .count) ≡ nextRow T row
   pub members : (row : ℕ) (q : Rows) → row < maxValues → nodeAt T row ≡ Object q → rowAfter T (q .first) (q .count) ≡ nextRow T row
+  pub inside : (row : ℕ) (q : Rows) → row < maxValues → nodeAt T row ≡ Array q → (k : ℕ) → k < q .count → rowAfter T (q .first) k < maxValues

@@ -1,4 +1,5 @@
-use Rattle.paths.proofs.Parts.{named-outside, named-at}
+use mathlib.Core.Path.{ap, _∙_}
+use Rattle.paths.specs.Contract.{itemOf}
 use borrow.Author.Needs.{needs}
 use Rattle.paths.proofs.item_named.Statement.{statement}
 use Rattle.paths.proofs.item_named.Tie as tie
@@ -16,10 +17,10 @@ item-requires : tie.Need-item-requires
 item-requires c κs = search needs
 
 returns : tie.Need-returns
-returns c = named-outside (rw (c .enum-told .given .1) at (c .before .before .read-index .ensures))
+returns c = search needs
 
 returns-2 : tie.Need-returns-2
-returns-2 c = named-at (rw (c .before .before .index .given .1) at (c .before .before .before .before .read-index .ensures)) (c .item .ensures)
+returns-2 c = c .item .ensures ∙ ap (itemOf (c .before .before .before .before .before .before .before .args .table .now) (c .before .before .before .before .before .before .before .args .q)) (rw (c .before .before .index .given .1) at (c .before .before .before .before .read-index .ensures))
 
 pub item-named-spec : {M : Type 1} → statement M
 item-named-spec =

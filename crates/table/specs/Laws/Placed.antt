@@ -1,7 +1,7 @@
 -- Placed: the rows of a read table lie in the order of the text.
 use mathlib.Core.Path.{_≡_, refl, sym, ap, subst, _∙_}
 use mathlib.Core.Bool.{Bool, true, false, cond}
-use Prim.Native.Nat.{ℕ, _+_, _≤_, _<_, _/_}
+use Prim.Native.Nat.{ℕ, zero, suc, _+_, _≤_, _<_, _/_}
 use native.Mathlib.Omega.{arith}
 use lib.Dec.{eqb, ltb}
 use lib.ListN.{length}
@@ -15,7 +15,7 @@ use Rattle.table.specs.declared.node.Node.{Node}
 use Rattle.table.specs.declared.node.Node.the-variants.{Null, False, True, Integer, String, Array, Object}
 use Rattle.table.specs.declared.node.Rows.{Rows}
 use Rattle.table.specs.declared.row.Row.{Row}
-use Rattle.table.specs.Denotes.{Denotes, denotes-array, denotes-object}
+use Rattle.table.specs.Denotes.{Denotes, denotes-array, denotes-object, RowItems, no-row-items, row-item}
 use Rattle.table.specs.Node.{rows, nodeOf, nodeAt, nextRow}
 use Rattle.table.specs.Part.{Part}
 use Rattle.table.specs.Placed.{Placed, rowAfter}
@@ -68,6 +68,17 @@ module _ {T B : Bytes} where
   unfolding valueCount
   object-end {i = i} (denotes-object {ms = ms} e f r) s = ap (rowAfter T (i + 1)) e ∙ members-after ms (i + 1) (object-members s) ∙ omega arith
 
+-- ---- every item is in a row of a text's
+module _ {T B : Bytes} where
+  items-within : {row : ℕ} {vs : Values} → RowItems T B row vs → (k : ℕ) → k < itemCount vs → rowAfter T row k < maxValues
+  unfolding itemCount
+  items-within (no-row-items b) k l = absurd (omega arith)
+  items-within (row-item b t d r) zero l = b
+  items-within (row-item b t d r) (suc k) l = items-within r k (omega arith)
+
+  array-within : {v : Value} {q : Rows} → Denotes T B v (Array q) → (k : ℕ) → k < q .count → rowAfter T (q .first) k < maxValues
+  array-within (denotes-array e f r) k l = items-within r k (omega arith)
+
 -- ---- the node of an array or object that stands
 module _ {T B : Bytes} where
   array-is : (i : ℕ) {vs : Values} {n : Node} → nodeAt T i ≡ n → Denotes T B (array vs) n → nodeAt T i ≡ Array (rows (i + 1) (itemCount vs))
@@ -102,6 +113,7 @@ record PlacedRow (T : Bytes) (row : ℕ) : Type 0 where
   within : nextRow T row ≤ maxValues
   items : (q : Rows) → nodeAt T row ≡ Array q → rowAfter T (q .first) (q .count) ≡ nextRow T row
   members : (q : Rows) → nodeAt T row ≡ Object q → rowAfter T (q .first) (q .count) ≡ nextRow T row
+  inside-items : (q : Rows) → nodeAt T row ≡ Array q → (k : ℕ) → k < q .count → rowAfter T (q .first) k < maxValues
 
 module _ {T B : Bytes} where
   standing-placed : {v : Value} {i : ℕ} → Standing T B v i → PlacedRow T i
@@ -111,6 +123,7 @@ module _ {T B : Bytes} where
         within = omega (arith, next s, s .few);
         items = λ q e. ap (λ (k : ℕ). rowAfter T k (q .count)) (array-first T i q e) ∙ array-end (subst (Denotes T B v) e (denoted s)) s ∙ sym (next s);
         members = λ q e. ap (λ (k : ℕ). rowAfter T k (q .count)) (object-first T i q e) ∙ object-end (subst (Denotes T B v) e (denoted s)) s ∙ sym (next s);
+        inside-items = λ q e. array-within (subst (Denotes T B v) e (denoted s));
       }
 
   behind-placed : {v : Value} → WasRead T B v → (row : ℕ) → valueCount v ≤ row → row < maxValues → PlacedRow T row
@@ -121,6 +134,7 @@ module _ {T B : Bytes} where
         within = omega (arith, e);
         items = λ q f. (let p = ap hasParts (sym (behind-null w row b k) ∙ f) in absurd (omega arith));
         members = λ q f. (let p = ap hasParts (sym (behind-null w row b k) ∙ f) in absurd (omega arith));
+        inside-items = λ q f j l. (let p = ap hasParts (sym (behind-null w row b k) ∙ f) in absurd (omega arith));
       }
 
   row-placed : {v : Value} → WasRead T B v → (row : ℕ) → row < maxValues → PlacedRow T row
@@ -134,6 +148,7 @@ module _ {T B : Bytes} where
         within = λ row k. row-placed w row k .within;
         items = λ row q k. row-placed w row k .items q;
         members = λ row q k. row-placed w row k .members q;
+        inside = λ row q k. row-placed w row k .inside-items q;
       }
 
 -- ---- an object in a row of a read table is a part of its value
