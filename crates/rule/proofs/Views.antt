@@ -40,7 +40,7 @@ use Rattle.rule.specs.Contract.{Viewed, viewed-literal, viewed-var, view
 use Rattle.rule.specs.Laws.Holds.{rules-count}
 use Rattle.rule.specs.Laws.Mark.{object-told}
 use Rattle.rule.specs.Laws.Objects.{object-views}
-use Rattle.rule.specs.Laws.Rows.{SameRows, node-part, row-inside, same-part, part-same, same-denotes, table-rows}
+use Rattle.rule.specs.Laws.Rows.{RowsAgree, node-part, row-inside, same-part, part-same, same-denotes, table-rows}
 
 -- Nothing is seen where no nesting is left.
 bound-within : (deep : ℕ) (s : Seen) → nested (viewOf s) ≤ 1 → nested (viewOf (within deep s)) ≤ deep
@@ -91,8 +91,8 @@ module _ {T B : Bytes} where
           subst (Viewed T B deep w) y (built-viewed o deep n f (b .built))
 
   shaped-viewed : {v : Value} {w : View} {ρ : Rule} (deep : ℕ) → Shaped T B v (Shapes.Rule w) → nesting v ≤ deep → shape v ≡ some ρ → Viewed T B deep w ρ
-  shaped-viewed {ρ = ρ} deep (shaped-literal {g = g} {l = l} f s) n e =
-      let x = sym f ∙ e in
+  shaped-viewed {ρ = ρ} deep (shaped-literal {g = g} {l = l} x f s) n e =
+      let z = sym f ∙ e in
       let y : literal l ≡ ρ = cc in
       subst (Viewed T B deep (Views.Literal g)) y (viewed-literal s)
   shaped-viewed {ρ = ρ} deep (shaped-var {p = p} o f) n e = bind-some (pathOf (bytesOf B p)) _ (sym f ∙ e) λ q g x.
@@ -129,10 +129,10 @@ module _ {T B : Bytes} where
   node-shaped : {v : Value} {n : Node} (deep : ℕ) → Denotes T B v n → nesting v ≤ deep → Shaped T B v (nodeShape T B deep n)
   unfolding shape nesting
   node-shaped deep denotes-null n = shaped-none refl
-  node-shaped deep denotes-false n = shaped-literal {l = Literal.boolean false} refl spells-false
-  node-shaped deep denotes-true n = shaped-literal {l = Literal.boolean true} refl spells-true
-  node-shaped deep (denotes-integer {z = z} w e) n = shaped-literal {l = Literal.integer z} refl (spells-integer w e)
-  node-shaped deep (denotes-string {s = t} l) n = shaped-literal {l = Literal.string t} refl (spells-string l)
+  node-shaped deep denotes-false n = shaped-literal {l = Literal.boolean false} refl refl spells-false
+  node-shaped deep denotes-true n = shaped-literal {l = Literal.boolean true} refl refl spells-true
+  node-shaped deep (denotes-integer {z = z} w e) n = shaped-literal {l = Literal.integer z} refl refl (spells-integer w e)
+  node-shaped deep (denotes-string {s = t} l) n = shaped-literal {l = Literal.string t} refl refl (spells-string l)
   node-shaped deep (denotes-array x f r) n = within-shaped deep (λ z. omega arith) (array-operates (denotes-array x f r))
   node-shaped deep (denotes-object x f r) n = within-shaped deep (λ z. omega arith) (object-views (denotes-object x f r))
 
@@ -141,7 +141,7 @@ module _ {T B : Bytes} where
   shape-viewed (Shapes.Rule w) deep h n e = shaped-viewed deep h n e
 
 -- The operands are those of the table.
-module _ {R T B : Bytes} (s : SameRows R T) where
+module _ {R T B : Bytes} (s : RowsAgree R T) where
   same-holds : {deep : ℕ} {q : Rows} {rs : Rules} → HoldsAll R B deep q rs → HoldsAll T B deep q rs
   same-holds h = record { values = h .values; denotes = same-denotes s (h .denotes); shaped = h .shaped; nests = h .nests }
 

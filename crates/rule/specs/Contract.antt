@@ -11,7 +11,7 @@ use Rattle.model.specs.Path.{Path, pathOf}
 use Rattle.model.specs.Rule.{Literal as ModelLiteral, Operation, Rule, literal, var, if, and, reduce, apply, Rules, no-rules, rule}
 use Rattle.model.specs.Shape.{shape, rulesOf, operandsOf}
 use Rattle.model.specs.Size.{nesting, itemsNesting}
-use Rattle.model.specs.Value.{Value, scalar, array, object, string, Values, no-members, member, withinLimits}
+use Rattle.model.specs.Value.{Value, scalar, array, object, Scalar, string, Values, no-members, member, withinLimits}
 use Rattle.syntax.specs.Layout.{biased}
 use Rattle.keywords.specs.declared.Op.{Op}
 use Rattle.keywords.specs.Contract.{Stands}
@@ -100,6 +100,6 @@ pub record Operates (T B : Bytes) (v : Value) (w : View) (q : Rows) : Type 0 whe
 -- What a value has the shape of (Laws/Objects.antt: object-views).
 pub data Shaped (T B : Bytes) (v : Value) : Seen → Type 0 where
   shaped-none : shape v ≡ none → Shaped T B v Shapes.NotRule
-  shaped-literal : {g : Literal} {l : ModelLiteral} → shape v ≡ some (literal l) → Spells B g l → Shaped T B v (Shapes.Rule (Views.Literal g))
+  shaped-literal : {g : Literal} {l : ModelLiteral} {x : Scalar} → v ≡ scalar x → shape v ≡ some (literal l) → Spells B g l → Shaped T B v (Shapes.Rule (Views.Literal g))
   shaped-var : {p : Span} {n s : Bytes} → v ≡ object (member n (scalar (string s)) no-members) → shape v ≡ (pathOf (bytesOf B p) >>= λ q. some (var q)) → Shaped T B v (Shapes.Rule (Views.Var p))
   shaped-operation : {w : View} {q : Rows} → Operates T B v w q → Shaped T B v (Shapes.Rule w)

@@ -1,2 +1,2 @@
 -- Laws for the proofs of the crate shape.
-pub mod Rows
+pub mod Loop

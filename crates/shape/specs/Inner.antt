@@ -1,23 +1,17 @@
--- Inner: what the private functions of the shape check give, on the rule's table T and strings B.
+-- Inner: what the private functions of the shape check give, on the rule's table T, which they leave as T′, and strings B.
 use mathlib.Core.Bool.{Bool}
 use mathlib.Core.Path.{_≡_}
-use Prim.Native.Nat.{ℕ, suc, _≤_}
+use Prim.Native.Nat.{ℕ}
 use Rattle.model.specs.Bytes.{Bytes}
-use Rattle.model.specs.Option.{isSome}
-use Rattle.model.specs.Shape.{shape, rulesOf, operandsOf}
-use Rattle.model.specs.Size.{nesting, itemsNesting}
-use Rattle.model.specs.Value.{Value, array, Values}
-use Rattle.table.specs.declared.node.Node.the-variants.{Array}
+use Rattle.syntax.specs.Layout.{rowsPart}
 use Rattle.table.specs.declared.node.Rows.{Rows}
-use Rattle.table.specs.Denotes.{Denotes}
-use Rattle.table.specs.Node.{nodeAt}
-use Rattle.shape.specs.Contract.{rulesBelow, ruleAt}
+use Rattle.rule.specs.View.{objectOn}
+use Rattle.shape.specs.Rows.{shapeIsRule, rowIsRule, markShape, markRow}
 
--- The value in a row, if it nests no deeper than `deep`.
-pub record RuleAt (T B : Bytes) (row deep : ℕ) (r : Bool) : Type 0 where
-  pub byRows : r ≡ ruleAt T B deep row
-  pub is : (v : Value) → Denotes T B v (nodeAt T row) → nesting v ≤ deep → r ≡ isSome (shape v)
+pub record ObjectChecked (T B : Bytes) (row : ℕ) (q : Rows) (r : Bool) (T′ : Bytes) : Type 0 where
+  pub is : r ≡ shapeIsRule B (objectOn (rowsPart T) B q)
+  pub marks : T′ ≡ markShape T row (objectOn (rowsPart T) B q)
 
-pub record AllRules (T B : Bytes) (q : Rows) (deep : ℕ) (r : Bool) : Type 0 where
-  pub byRows : r ≡ rulesBelow T B (suc deep) q
-  pub is : (vs : Values) → Denotes T B (array vs) (Array q) → itemsNesting vs ≤ deep → r ≡ isSome (rulesOf (operandsOf vs))
+pub record RowChecked (T B : Bytes) (row : ℕ) (r : Bool) (T′ : Bytes) : Type 0 where
+  pub is : r ≡ rowIsRule (rowsPart T) B row
+  pub marks : T′ ≡ markRow (rowsPart T) B T row

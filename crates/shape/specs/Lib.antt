@@ -1,4 +1,5 @@
--- The shape check: what it promises, what its private functions do, and the law of what passes it.
+-- The shape check: rows and marks, what it promises, what its private functions do, and the laws of what passes it.
+pub mod Rows
 pub mod Contract
 pub mod Inner
 pub mod Laws

@@ -24,7 +24,7 @@ use Rattle.table.specs.Row.{rowAt}
 use Rattle.table.specs.Strings.{bytesOf}
 
 -- The rows of U are those of T.
-pub record SameRows (T U : Bytes) : Type 0 where
+pub record RowsAgree (T U : Bytes) : Type 0 where
   pub nodes : (row : ℕ) → row < maxValues → nodeAt T row ≡ nodeAt U row
   pub nexts : (row : ℕ) → row < maxValues → nextRow T row ≡ nextRow U row
   pub names : (row : ℕ) → row < maxValues → nameAt T row ≡ nameAt U row
@@ -87,10 +87,10 @@ module _ (T : Bytes) (size : maxValues * rowBytes ≤ length T) where
       go (yes p) = p
       go (no p) = let x = sym e ∙ null (omega arith) in clash cc
 
-  pub part-same : SameRows (rowsPart T) T
+  pub part-same : RowsAgree (rowsPart T) T
   part-same = record { nodes = node-part; nexts = next-part; names = name-part; there = in-table }
 
-  pub same-part : SameRows T (rowsPart T)
+  pub same-part : RowsAgree T (rowsPart T)
   same-part = record { nodes = λ row l. sym (node-part row l); nexts = λ row l. sym (next-part row l); names = λ row l. sym (name-part row l); there = in-part }
 
 -- Rows and room behind them.
@@ -99,7 +99,7 @@ unfolding rowBytes entryBytes
 table-rows h = omega arith
 
 -- ---- the values
-module _ {T U B : Bytes} (s : SameRows T U) where
+module _ {T U B : Bytes} (s : RowsAgree T U) where
   mutual
     pub same-denotes : {v : Value} {n : Node} → Denotes T B v n → Denotes U B v n
     same-denotes denotes-null = denotes-null
