@@ -1,5 +1,5 @@
 -- Parts: what a fragment names, by the form of the value's handle.
-use mathlib.Core.Path.{_≡_, refl}
+use mathlib.Core.Path.{_≡_, refl, sym, ap, _∙_}
 use mathlib.Core.Bool.{Bool, true, false, cond}
 use mathlib.Core.List.{[], _∷_}
 use mathlib.Core.Option.{Option, none, some}
@@ -18,7 +18,9 @@ use Rattle.model.specs.Path.{indexOf, itemAt, part}
 use Rattle.model.specs.Value.{Value, array, Values, no-items, item}
 use Rattle.model.specs.Laws.Logic.{clash}
 use Rattle.syntax.specs.Layout.{itemCount}
+use Rattle.table.specs.declared.node.Node.{Node}
 use Rattle.table.specs.declared.node.Node.the-variants as nodes
+use Rattle.table.specs.Denotes.{Denotes, denotes-array, denotes-object}
 use Rattle.table.specs.Node.{rows}
 use Rattle.paths.proofs.index.Index.{the-type as index-type}
 use Rattle.paths.specs.declared.index.Index.{Index}
@@ -27,18 +29,18 @@ use Rattle.paths.specs.Contract.{limit, indexIn}
 use Rattle.paths.specs.Inner.{orNull}
 use Rattle.paths.specs.Laws.Index.{IndexIs, inside, outside, index-is}
 use Rattle.heap.proofs.handle.Handle.{the-type}
+use Rattle.heap.specs.declared.handle.Form.{Form}
 use Rattle.heap.specs.declared.handle.Form.the-variants.{Items, Members, List, Context}
 use Rattle.heap.specs.declared.handle.Handle.{Handle}
-use Rattle.heap.specs.declared.handle.Handle.the-variants.{Null, Compound}
+use Rattle.heap.specs.declared.handle.Handle.the-variants.{Null, False, True, Integer, Instant, String, Compound}
 use Rattle.heap.specs.declared.handle.Parts.{Parts}
 use Rattle.heap.specs.Cells.{cellBytes, cellHandle}
-use Rattle.heap.specs.Handles.{parts}
 use Rattle.heap.specs.Means.{Means, means-null, means-false, means-true, means-integer, means-instant, means-string, means-items, means-members, means-list, means-context, CellItems, cell-item}
 use Rattle.heap.specs.Unfold.{Areas, areas}
 use Rattle.heap.specs.Laws.Means.{raised, means-small}
-use Rattle.heap.specs.Laws.Rows.{node-denotes}
-use Rattle.op_lookup.specs.declared.Step.the-variants.{Part, Record}
-use Rattle.op_lookup.specs.Inner.{memberOf, ItemNamed, to-part, to-record, StepIs}
+use Rattle.op_lookup.specs.declared.Place.{Place}
+use Rattle.op_lookup.specs.declared.Place.the-variants.{Record, Cells}
+use Rattle.op_lookup.specs.Inner.{placeBy, placeOf, memberOf, ItemNamed, PartNamed}
 
 -- ---- cells
 pub no-cell : (C : Bytes) (j : ℕ) → length C / 8 ≤ j → Null ≡ cellHandle C j
@@ -115,10 +117,13 @@ context-named {a} {top} f (means-context {cur = cur} {acc = acc} {cell = cell} b
     go false false = means-null
 
 -- ---- a fragment
+abbrev place : Parts → Form → Place
+place p k = placeBy k (rows (p .first) (p .count))
+
 module _ {f C : Bytes} where
   -- What is no array and no object has no parts.
-  pub no-part : (h : Handle) → OneOf (0 ∷ 1 ∷ 2 ∷ 3 ∷ 4 ∷ 5 ∷ []) (tagOf the-type h) → StepIs f C h (Part Null)
-  no-part h k = record { steps = λ A B T top v l m. to-part (go k m) }
+  pub no-part : (h : Handle) → OneOf (0 ∷ 1 ∷ 2 ∷ 3 ∷ 4 ∷ 5 ∷ []) (tagOf the-type h) → PartNamed f C h Null
+  no-part h k = record { means = λ A B T top v l p m. go k m }
     where
       go : {a : Areas} {top : ℕ} {v : Value} {h : Handle} → OneOf (0 ∷ 1 ∷ 2 ∷ 3 ∷ 4 ∷ 5 ∷ []) (tagOf the-type h) → Means a top v h → Means a top (orNull (part f v)) Null
       go k means-null = means-null
@@ -133,22 +138,38 @@ module _ {f C : Bytes} where
       go k (means-context b i m n) = absurd (miss (0 ∷ 1 ∷ 2 ∷ 3 ∷ 4 ∷ 5 ∷ []) 6 tt k)
 
   module _ {p : Parts} where
-    pub items-step : p .form ≡ Items → StepIs f C (Compound p) (Record (nodes.Array (rows (p .first) (p .count))))
-    items-step e = record {
-      steps = λ A B T top v l m.
-          let n : Means (areas A B T C) top v (Compound (parts (p .form) (p .first) (p .count))) = m in
-          to-record (node-denotes (nodes.Array (rows (p .first) (p .count))) (rw e at n));
-    }
+    -- What lies in the record is left out.
+    pub items-part : {r : Handle} → p .form ≡ Items → PartNamed f C (Compound p) r
+    items-part e = record { means = λ A B T top v l g m. (let x : place p Items ≡ Cells = ap (place p) (sym e) ∙ g in clash cc) }
 
-    pub members-step : p .form ≡ Members → StepIs f C (Compound p) (Record (nodes.Object (rows (p .first) (p .count))))
-    members-step e = record {
-      steps = λ A B T top v l m.
-          let n : Means (areas A B T C) top v (Compound (parts (p .form) (p .first) (p .count))) = m in
-          to-record (node-denotes (nodes.Object (rows (p .first) (p .count))) (rw e at n));
-    }
+    pub members-part : {r : Handle} → p .form ≡ Members → PartNamed f C (Compound p) r
+    members-part e = record { means = λ A B T top v l g m. (let x : place p Members ≡ Cells = ap (place p) (sym e) ∙ g in clash cc) }
 
-    pub list-step : {r : Handle} → p .form ≡ List → ItemNamed f C p r → StepIs f C (Compound p) (Part r)
-    list-step e x = record { steps = λ A B T top v l m. to-part (list-named x l m e) }
+    pub list-part : {r : Handle} → p .form ≡ List → ItemNamed f C p r → PartNamed f C (Compound p) r
+    list-part e x = record { means = λ A B T top v l g m. list-named x l m e }
 
-    pub context-step : {r : Handle} → p .form ≡ Context → r ≡ memberOf f C (p .first) → StepIs f C (Compound p) (Part r)
-    context-step {r} e d = record { steps = λ A B T top v l m. to-part {h = r} (rw d (context-named f m e)) }
+    pub context-part : {r : Handle} → p .form ≡ Context → r ≡ memberOf f C (p .first) → PartNamed f C (Compound p) r
+    context-part {r} e d = record { means = λ A B T top v l g m. rw d (context-named f m e) }
+
+-- ---- where a value lies
+pub no-place : (h : Handle) → OneOf (0 ∷ 1 ∷ 2 ∷ 3 ∷ 4 ∷ 5 ∷ []) (tagOf the-type h) → Cells ≡ placeOf h
+no-place Null k = refl
+no-place False k = refl
+no-place True k = refl
+no-place (Integer n) k = refl
+no-place (Instant n) k = refl
+no-place (String s) k = refl
+no-place (Compound p) k = absurd (miss (0 ∷ 1 ∷ 2 ∷ 3 ∷ 4 ∷ 5 ∷ []) 6 tt k)
+
+-- In the record: its node denotes the value.
+pub place-denotes : {a : Areas} {top : ℕ} {v : Value} {h : Handle} {n : Node} → Means a top v h → Record n ≡ placeOf h → Denotes (a .table) (a .strings) v n
+place-denotes means-null e = clash cc
+place-denotes means-false e = clash cc
+place-denotes means-true e = clash cc
+place-denotes (means-integer w g) e = clash cc
+place-denotes (means-instant w g) e = clash cc
+place-denotes (means-string l) e = clash cc
+place-denotes {n = n} (means-items {row = row} {count = count} c l r) e = let g : n ≡ nodes.Array (rows row count) = cc in rw g (denotes-array c l r)
+place-denotes {n = n} (means-members {row = row} {count = count} c l r) e = let g : n ≡ nodes.Object (rows row count) = cc in rw g (denotes-object c l r)
+place-denotes (means-list c l r) e = clash cc
+place-denotes (means-context b i m n) e = clash cc

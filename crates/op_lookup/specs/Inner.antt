@@ -8,18 +8,37 @@ use Rattle.model.specs.Limits.{heapCells}
 use Rattle.model.specs.Option.{_>>=_}
 use Rattle.model.specs.Path.{indexOf, itemAt, part}
 use Rattle.model.specs.Value.{Value, array, Values}
-use Rattle.table.specs.declared.node.Node.{Node}
-use Rattle.table.specs.Denotes.{Denotes}
+use Rattle.table.specs.declared.node.Node.the-variants as nodes
+use Rattle.table.specs.declared.node.Rows.{Rows}
+use Rattle.table.specs.Node.{rows}
 use Rattle.paths.specs.Inner.{orNull}
-use Rattle.heap.specs.declared.handle.Form.the-variants.{List}
+use Rattle.heap.specs.declared.handle.Form.{Form}
+use Rattle.heap.specs.declared.handle.Form.the-variants.{Items, Members, List, Context}
 use Rattle.heap.specs.declared.handle.Handle.{Handle}
-use Rattle.heap.specs.declared.handle.Handle.the-variants.{Null, Compound}
+use Rattle.heap.specs.declared.handle.Handle.the-variants.{Null, False, True, Integer, Instant, String, Compound}
 use Rattle.heap.specs.declared.handle.Parts.{Parts}
 use Rattle.heap.specs.Cells.{cellHandle}
 use Rattle.heap.specs.Means.{Means}
-use Rattle.heap.specs.Unfold.{Areas, areas}
-use Rattle.op_lookup.specs.declared.Step.{Step}
-use Rattle.op_lookup.specs.declared.Step.the-variants.{Part, Record}
+use Rattle.heap.specs.Unfold.{areas}
+use Rattle.op_lookup.specs.declared.Place.{Place}
+use Rattle.op_lookup.specs.declared.Place.the-variants.{Record, Cells}
+
+-- ---- where a value lies
+-- By what its parts are.
+abbrev pub placeBy : Form → Rows → Place
+placeBy Items q = Record (nodes.Array q)
+placeBy Members q = Record (nodes.Object q)
+placeBy List q = Cells
+placeBy Context q = Cells
+
+abbrev pub placeOf : Handle → Place
+placeOf Null = Cells
+placeOf False = Cells
+placeOf True = Cells
+placeOf (Integer n) = Cells
+placeOf (Instant n) = Cells
+placeOf (String s) = Cells
+placeOf (Compound p) = placeBy (p .form) (rows (p .first) (p .count))
 
 -- ---- cells
 -- The member of a context, of the name f: 01, Evaluation: "an object with `current` and `accumulator` in that order".
@@ -39,10 +58,11 @@ pub record ItemNamed (f C : Bytes) (p : Parts) (r : Handle) : Type 0 where
       → Means (areas A B T C) top (orNull (indexOf f >>= itemAt vs)) r
 
 -- ---- a fragment
--- It leads to the part that it names, or into the record.
-pub data Steps (a : Areas) (top : ℕ) (f : Bytes) (v : Value) : Step → Type 0 where
-  to-part : {h : Handle} → Means a top (orNull (part f v)) h → Steps a top f v (Part h)
-  to-record : {n : Node} → Denotes (a .table) (a .strings) v n → Steps a top f v (Record n)
-
-pub record StepIs (f C : Bytes) (h : Handle) (r : Step) : Type 0 where
-  pub steps : (A B T : Bytes) (top : ℕ) (v : Value) → top ≤ heapCells → Means (areas A B T C) top v h → Steps (areas A B T C) top f v r
+-- What it names in a value that lies in no record; null where it names nothing.
+pub record PartNamed (f C : Bytes) (h r : Handle) : Type 0 where
+  pub means :
+      (A B T : Bytes) (top : ℕ) (v : Value)
+      → top ≤ heapCells
+      → placeOf h ≡ Cells
+      → Means (areas A B T C) top v h
+      → Means (areas A B T C) top (orNull (part f v)) r

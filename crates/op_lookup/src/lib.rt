@@ -15,13 +15,32 @@ use table::node::Rows;
 ghost use mathlib.Core.Path.{_≡_};
 ghost use Prim.Native.Nat.{_+_};
 ghost use Rattle.heap.specs.Cells.{cellHandle};
+ghost use Rattle.name_index.specs.Table.{IndexedTable};
 ghost use Rattle.op_lookup.specs.Contract.{Leads};
-ghost use Rattle.op_lookup.specs.Inner.{memberOf, ItemNamed, StepIs};
+ghost use Rattle.op_lookup.specs.Inner.{placeOf, memberOf, ItemNamed, PartNamed};
 
-// Where a fragment leads: to a part of a value, null where it names none; or into the record, where the value is this.
-enum Step {
-    Part(Handle),
+// Where a value lies: in the record, where its node is this; or in cells, if it has parts.
+enum Place {
     Record(Node),
+    Cells,
+}
+
+// Where a value lies.
+fn place_of(h: Handle) -> Place
+    ensures { λ r. ⌜ r ≡ placeOf h ⌝ }
+{
+    let Handle::Compound(p) = h else {
+        return Place::Cells;
+    };
+    let form = p.form;
+    let first = p.first;
+    let count = p.count;
+    match form {
+        Form::Items => Place::Record(Node::Array(Rows { first, count })),
+        Form::Members => Place::Record(Node::Object(Rows { first, count })),
+        Form::List => Place::Cells,
+        Form::Context => Place::Cells,
+    }
 }
 
 // The handle so many cells after a cell; null where there is no such cell.
@@ -64,21 +83,19 @@ fn item_named(fragment: &[u8], cells: &[u8], p: Parts) -> Handle
     cell_after(cells, p.first, at)
 }
 
-// Where a fragment leads from a value.
-fn next_step(fragment: &[u8], cells: &[u8], h: Handle) -> Step
-    ensures { λ r. ⌜ StepIs (now (fragment .entry)) (now (cells .entry)) h r ⌝ }
+// What a fragment names in a value that does not lie in the record; null where it names nothing.
+fn part(fragment: &[u8], cells: &[u8], h: Handle) -> Handle
+    ensures { λ r. ⌜ PartNamed (now (fragment .entry)) (now (cells .entry)) h r ⌝ }
 {
     let Handle::Compound(p) = h else {
-        return Step::Part(Handle::Null);
+        return Handle::Null;
     };
     let form = p.form;
-    let first = p.first;
-    let count = p.count;
     match form {
-        Form::Items => Step::Record(Node::Array(Rows { first, count })),
-        Form::Members => Step::Record(Node::Object(Rows { first, count })),
-        Form::List => Step::Part(item_named(fragment, cells, p)),
-        Form::Context => Step::Part(member(fragment, cells, first)),
+        Form::List => item_named(fragment, cells, p),
+        Form::Context => member(fragment, cells, p.first),
+        Form::Items => Handle::Null,
+        Form::Members => Handle::Null,
     }
 }
 
@@ -90,19 +107,20 @@ pub fn value_at(
     cells: &[u8],
     context: Handle,
 ) -> Handle
+    requires { ⌜ IndexedTable (now «record_table») (now «record_strings») ⌝ }
     ensures { λ r. ⌜ Leads (now (path .entry)) (now («record_strings» .entry)) (now («record_table» .entry)) (now (cells .entry)) context r ⌝ }
 {
     let mut h = context;
     let mut at: usize = 0;
     while at < path.len() {
-        let end = fragment_end(path, at, b".");
-        let r = next_step(&path[at..end], cells, h);
-        match r {
-            Step::Record(n) => {
+        let place = place_of(h);
+        match place {
+            Place::Record(n) => {
                 return of_node(find(&path[at..], record_table, record_strings, n));
             }
-            Step::Part(inner) => {
-                h = inner;
+            Place::Cells => {
+                let end = fragment_end(path, at, b".");
+                h = part(&path[at..end], cells, h);
                 at = end + 1;
             }
         }

@@ -11,7 +11,7 @@ ghost use Rattle.table.specs.Placed.{Placed};
 ghost use Rattle.paths.specs.Contract.{itemIn};
 ghost use Rattle.paths.specs.Inner.{Flat};
 
-// An item is looked for row by row up to here.
+// An item before this one is found sooner row by row.
 const FEW: usize = 4;
 
 // The item so many after the first, row by row.

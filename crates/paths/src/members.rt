@@ -11,7 +11,10 @@ ghost use mathlib.Core.Path.{_≡_};
 ghost use Rattle.name_index.specs.Table.{IndexedTable};
 ghost use Rattle.paths.specs.Contract.{rowNamed};
 
-// The first of some rows with this name, one after the other.
+// Among so many a name is found sooner row by row than by the index.
+const FEW: usize = 16;
+
+// The first of some rows with this name, row by row.
 fn row_among(name: &[u8], table: &[u8], strings: &[u8], q: Rows) -> Found
     ensures { λ r. ⌜ r ≡ rowNamed (now (table .entry)) (now (strings .entry)) (now (name .entry)) (q .first) (q .count) ⌝ }
 {
@@ -26,13 +29,13 @@ fn row_among(name: &[u8], table: &[u8], strings: &[u8], q: Rows) -> Found
     Found::Nowhere
 }
 
-// The first of some rows with this name: by the index, where they are all members of an object.
+// The first of some rows with this name; by the index of names, where they are all members of an object and many.
 pub fn row_named(name: &[u8], table: &[u8], strings: &[u8], q: Rows) -> Found
     requires { ⌜ IndexedTable (now table) (now strings) ⌝ }
     ensures { λ r. ⌜ r ≡ rowNamed (now (table .entry)) (now (strings .entry)) (now (name .entry)) (q .first) (q .count) ⌝ }
 {
-    if q.count == 0 {
-        return Found::Nowhere;
+    if q.count <= FEW {
+        return row_among(name, table, strings, q);
     }
     if !are_members(table, q) {
         return row_among(name, table, strings, q);

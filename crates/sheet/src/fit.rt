@@ -9,11 +9,13 @@ use table::node::node_at;
 use table::node::tail;
 use table::string::bytes_of;
 use type_set::set::TypeSet;
+ghost use Rattle.name_index.specs.Table.{IndexedTable};
 ghost use Rattle.sheet.specs.Contract.{Fits};
 ghost use Rattle.sheet.specs.Inner.{FitsEntry, FitsAll};
 
 // Whether the value at a path, "null where missing", belongs to a listed type.
 fn entry_fits(path: &[u8], listed: TypeSet, record_table: &[u8], record_strings: &[u8]) -> bool
+    requires { ⌜ IndexedTable (now «record_table») (now «record_strings») ⌝ }
     ensures { λ r. ⌜ FitsEntry (now (path .entry)) listed (now («record_table» .entry)) (now («record_strings» .entry)) r ⌝ }
 {
     let whole = node_at(record_table, 0);
@@ -29,6 +31,7 @@ fn all_fit(
     record_table: &[u8],
     record_strings: &[u8],
 ) -> bool
+    requires { ⌜ IndexedTable (now «record_table») (now «record_strings») ⌝ }
     ensures { λ r. ⌜ FitsAll (now («sheet_table» .entry)) (now («sheet_strings» .entry)) q (now («record_table» .entry)) (now («record_strings» .entry)) r ⌝ }
 {
     let mut rest = q;
@@ -50,6 +53,7 @@ pub fn fits(
     record_table: &[u8],
     record_strings: &[u8],
 ) -> bool
+    requires { ⌜ IndexedTable (now «record_table») (now «record_strings») ⌝ }
     ensures { λ r. ⌜ Fits (now («sheet_table» .entry)) (now («sheet_strings» .entry)) (now («record_table» .entry)) (now («record_strings» .entry)) r ⌝ }
 {
     let Node::Object(q) = node_at(sheet_table, 0) else {

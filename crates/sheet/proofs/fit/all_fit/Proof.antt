@@ -25,7 +25,7 @@ types-at-requires : tie.Need-types-at-requires Inv-loop μ-loop
 types-at-requires c κs = tt
 
 entry-fits-requires : tie.Need-entry-fits-requires Inv-loop μ-loop
-entry-fits-requires c κs = tt
+entry-fits-requires c κs = c .before .before .before .before .before .before .before .before .before .before .pre
 
 returns : tie.Need-returns Inv-loop μ-loop
 returns c = c .before .before .before .before .before .before .before .loop .inv .goes _ (one-unfit (omega arith) (c .before .before .before .bytes-of .ensures ∙ rw (c .before .before .before .before .name-at .ensures)) (c .before .before .types-at .ensures) (c .before .entry-fits .ensures) (c .if2 .taken))
