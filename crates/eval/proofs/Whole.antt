@@ -39,7 +39,7 @@ use Rattle.eval.specs.declared.task.Next.the-variants.{Asks}
 use Rattle.eval.specs.declared.task.Task.{Task}
 use Rattle.eval.specs.Contract.{Reached, reached-value, reached-refusal, Reaches}
 use Rattle.eval.specs.Evaluate.{Ready, evaluation, evaluated, Evaluates, writtenAnswer}
-use Rattle.eval.specs.Inner.{Charged, Operating, Operates, task}
+use Rattle.eval.specs.Inner.{Prepared, Charged, Operating, Operates, task}
 use Rattle.eval.proofs.Taken.{continue-gives}
 
 -- ---- the run
@@ -68,6 +68,9 @@ whole-operating {R = R} {limit = limit} t r e = record {
   room = record { fits = omega (arith, r .limited, steps-and-one); within = omega arith; enough = r .enough };
   within = charged-around R limit t e;
 }
+
+pub whole-prepared : {T A R B C : Bytes} {limit : ℕ} → Ready T A R B C limit → Prepared T A R B
+whole-prepared r = record { marked = r .marked; indexed = r .indexed }
 
 top-fits : (top left limit : ℕ) → limit ≤ maxSteps → top + 2 * left + 2 ≤ 0 + 2 * (limit + 1) → top ≤ heapCells
 top-fits top left limit l b = omega (arith, steps-and-one)

@@ -9,19 +9,23 @@ use Rattle.model.specs.Rule.{Rule}
 use Rattle.model.specs.Value.{Value}
 use Rattle.syntax.specs.Output.{WriteAnswer, writeInto}
 use Rattle.heap.specs.Cells.{cellBytes}
+use Rattle.name_index.specs.Table.{IndexedTable}
 use Rattle.rule.specs.Holds.{Holds}
+use Rattle.rule.specs.Mark.{Marked}
 use Rattle.table.specs.Denotes.{Denotes}
 use Rattle.table.specs.Node.{nodeAt}
 use Rattle.writer.specs.declared.Answer as writing
 use Rattle.writer.specs.Contract.{answerNumber, answerLength}
 use Rattle.eval.specs.declared.Answer.{Answer}
 
--- The areas hold a rule and a value, the limit is one of 01's, and there are cells enough.
+-- The areas hold a rule and a value, with the marks of the rule's table and the index of the record's; the limit is one of 01's, and there are cells enough.
 pub record Ready (T A R B C : Bytes) (limit : ℕ) : Type 0 where
   pub rule : Rule
   pub holds : Holds T A maxNesting 0 rule
   pub value : Value
   pub denotes : Denotes R B value (nodeAt R 0)
+  pub marked : Marked T A
+  pub indexed : IndexedTable R B
   pub limited : limit ≤ maxSteps
   pub enough : heapCells ≤ length C / cellBytes
 

@@ -26,6 +26,7 @@ use Rattle.heap.specs.Means.{Means}
 use Rattle.heap.specs.Unfold.{areas}
 use Rattle.keywords.specs.declared.Op.{Op}
 use Rattle.keywords.specs.Contract.{Stands}
+use Rattle.name_index.specs.Table.{IndexedTable}
 use Rattle.operations.specs.declared.ended.Ended.{Ended}
 use Rattle.operations.specs.declared.ended.Ended.the-variants.{Gives, Denies}
 use Rattle.operations.specs.declared.ended.Fault.{Fault}
@@ -36,6 +37,7 @@ use Rattle.operations.specs.Stack.{stacked}
 use Rattle.rule.specs.declared.view.Literal.{Literal}
 use Rattle.rule.specs.declared.view.Literal.the-variants as Literals
 use Rattle.rule.specs.Holds.{Holds, ruleCount}
+use Rattle.rule.specs.Mark.{Marked}
 use Rattle.table.specs.declared.node.Rows.{Rows}
 use Rattle.table.specs.Node.{nextRow}
 use Rattle.eval.specs.declared.take.Elements.{Elements}
@@ -46,6 +48,12 @@ use Rattle.eval.specs.declared.task.Next.{Next}
 use Rattle.eval.specs.declared.task.Next.the-variants.{Ends, Asks}
 use Rattle.eval.specs.declared.task.Pending.{Pending}
 use Rattle.eval.specs.declared.task.Task.{Task}
+
+-- ---- behind the rows
+-- What the shape check and reading left there: the marks of the rule's table, the index of the record's.
+pub record Prepared (T A R B : Bytes) : Type 0 where
+  pub marked : Marked T A
+  pub indexed : IndexedTable R B
 
 -- ---- cells
 -- Two cells for each step that is left, and some more: enough for what is evaluated. The rule around has put some operands on the stack.

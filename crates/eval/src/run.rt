@@ -11,7 +11,7 @@ use crate::task::state;
 use operations::ended::Ended;
 use operations::ended::State;
 ghost use mathlib.Core.Path.{_≡_};
-ghost use Rattle.eval.specs.Inner.{Room, resumedEnd, Operating, Operates, Evals};
+ghost use Rattle.eval.specs.Inner.{Prepared, Room, resumedEnd, Operating, Operates, Evals};
 
 // The bottom and the nesting as they were when the rule began.
 fn resumed(s: State, e: Ended) -> Ended
@@ -33,7 +33,7 @@ pub fn operands<'a>(
     mut task: Task,
     mut frame: Frame,
 ) -> Ended
-    requires { ⌜ Operating (now cells) (Next.Asks task frame) ⌝ }
+    requires { ⌜ Operating (now cells) (Next.Asks task frame) × Prepared (now «rule_table») (now «rule_strings») (now «record_table») (now «record_strings») ⌝ }
     ensures { λ r. ⌜ Operates (now («rule_table» .entry)) (now («rule_strings» .entry)) (now («record_table» .entry)) (now («record_strings» .entry)) (now (cells .entry)) (Next.Asks task frame) r (now (cells .exit)) ⌝ }
 {
     loop {
@@ -73,7 +73,7 @@ fn eval<'a>(
     cells: &mut [u8],
     task: Task,
 ) -> Ended
-    requires { ⌜ Room (now cells) 0 0 (task .state) ⌝ }
+    requires { ⌜ Room (now cells) 0 0 (task .state) × Prepared (now «rule_table») (now «rule_strings») (now «record_table») (now «record_strings») ⌝ }
     ensures { λ r. ⌜ Evals (now («rule_table» .entry)) (now («rule_strings» .entry)) (now («record_table» .entry)) (now («record_strings» .entry)) (now (cells .entry)) task r (now (cells .exit)) ⌝ }
 {
     let s = task.state;

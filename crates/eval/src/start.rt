@@ -22,7 +22,7 @@ use table::node::Rows;
 use table::string::bytes_of;
 ghost use mathlib.Core.Path.{_≡_};
 ghost use Prim.Native.Nat.{_≤_};
-ghost use Rattle.eval.specs.Inner.{Room, literalHandle, firstTask, firstArgument, Starts};
+ghost use Rattle.eval.specs.Inner.{Prepared, Room, literalHandle, firstTask, firstArgument, Starts};
 
 // A literal's handle: a string lies in the rule's strings.
 fn literal(l: Literal) -> Handle
@@ -68,7 +68,7 @@ pub fn start<'a>(
     cells: &[u8],
     task: Task,
 ) -> Next
-    requires { ⌜ Room (now cells) 0 0 (task .state) ⌝ }
+    requires { ⌜ Room (now cells) 0 0 (task .state) × Prepared (now «rule_table») (now «rule_strings») (now «record_table») (now «record_strings») ⌝ }
     ensures { λ r. ⌜ Starts (now («rule_table» .entry)) (now («rule_strings» .entry)) (now («record_table» .entry)) (now («record_strings» .entry)) (now (cells .entry)) task r ⌝ }
 {
     let s = task.state;

@@ -1,6 +1,6 @@
 use mathlib.Core.Path.{refl}
 use Rattle.model.specs.Limits.{heapCells, maxNesting}
-use Rattle.eval.proofs.Whole.{whole-task, whole-operating, left-less, left-over, whole-stops, whole-gives}
+use Rattle.eval.proofs.Whole.{whole-task, whole-operating, whole-prepared, left-less, left-over, whole-stops, whole-gives}
 use borrow.Author.Needs.{needs}
 use Rattle.eval.proofs.value.Statement.{statement}
 use Rattle.eval.proofs.value.Tie as tie
@@ -16,7 +16,7 @@ operand-requires c κs = search needs
 
 operands-requires : tie.Need-operands-requires
 unfolding heapCells maxNesting
-operands-requires c κs = whole-operating (c .before .operand .result) (c .before .before .before .before .before .before .before .before .before .pre) (whole-task _ (c .before .before .before .before .before .before .before .before .before .args .limit) (c .before .operand .result) (c .before .before .load .result) (c .before .before .before .state .result) (c .before .operand .ensures) (c .before .before .load .ensures) (c .before .before .before .state .ensures))
+operands-requires c κs = (whole-operating (c .before .operand .result) (c .before .before .before .before .before .before .before .before .before .pre) (whole-task _ (c .before .before .before .before .before .before .before .before .before .args .limit) (c .before .operand .result) (c .before .before .load .result) (c .before .before .before .state .result) (c .before .operand .ensures) (c .before .before .load .ensures) (c .before .before .before .state .ensures)), whole-prepared (c .before .before .before .before .before .before .before .before .before .pre))
 
 enum-known-fault : tie.Need-enum-known-fault
 enum-known-fault c = search needs

@@ -58,7 +58,7 @@ eval-enum-known-first : (t : ℕ) → eval-lts.Need-enum-known-first (eval-calls
 eval-enum-known-first t c = search needs
 
 eval-operands-requires : (t : ℕ) → eval-lts.Need-operands-requires (eval-calls t) (eval-at t) eval.Post
-eval-operands-requires t c κs = (omega (arith, first-falls (c .before .before .before .before .start .ensures) (c .before .before .first .given .0 .0) (c .before .before .first .given .0 .1 .0) (c .before .before .first .given .1), c .before .before .before .before .before .before .before .before .before .before .before .before .pre .0), begun-operating (c .before .before .before .before .start .ensures) (c .before .before .first .given .0 .0) (c .before .before .first .given .0 .1 .0) (c .before .before .first .given .1) (c .before .before .before .before .before .before .before .before .before .before .before .before .pre .1))
+eval-operands-requires t c κs = (omega (arith, first-falls (c .before .before .before .before .start .ensures) (c .before .before .first .given .0 .0) (c .before .before .first .given .0 .1 .0) (c .before .before .first .given .1), c .before .before .before .before .before .before .before .before .before .before .before .before .pre .0), (begun-operating (c .before .before .before .before .start .ensures) (c .before .before .first .given .0 .0) (c .before .before .first .given .0 .1 .0) (c .before .before .first .given .1) (c .before .before .before .before .before .before .before .before .before .before .before .before .pre .1 .0), c .before .before .before .before .before .before .before .before .before .before .before .before .pre .1 .1))
 
 eval-resumed-requires-2 : (t : ℕ) → eval-lts.Need-resumed-requires-2 (eval-calls t) (eval-at t) eval.Post
 eval-resumed-requires-2 t c κs = search needs
@@ -82,10 +82,10 @@ abbrev operands-μ-loop : operands-lts.MeasureT-loop
 operands-μ-loop rule-table rule-strings record-table record-strings cells₀ first begun cells task frame = nextLeft (Asks task frame)
 
 operands-loop-holds : (t : ℕ) → operands-lts.Need-loop-holds (operands-calls t) (operands-at t) operands.Post operands-Inv-loop operands-μ-loop
-operands-loop-holds t c = inv-begins (c .before .before .before .before .before .pre .1)
+operands-loop-holds t c = inv-begins (c .before .before .before .before .before .pre .1 .0)
 
 operands-eval-requires : (t : ℕ) → operands-lts.Need-eval-requires (operands-calls t) (operands-at t) operands.Post operands-Inv-loop operands-μ-loop
-operands-eval-requires t c κs = (omega (arith, asked-falls (c .before .loop .inv) (c .before .loop .task) (c .before .loop .frame) refl, c .before .before .before .before .before .before .before .pre .0), asked-room (c .before .loop .inv) (c .before .loop .task) (c .before .loop .frame) refl)
+operands-eval-requires t c κs = (omega (arith, asked-falls (c .before .loop .inv) (c .before .loop .task) (c .before .loop .frame) refl, c .before .before .before .before .before .before .before .pre .0), (asked-room (c .before .loop .inv) (c .before .loop .task) (c .before .loop .frame) refl, c .before .before .before .before .before .before .before .pre .1 .1))
 
 operands-take-requires : (t : ℕ) → operands-lts.Need-take-requires (operands-calls t) (operands-at t) operands.Post operands-Inv-loop operands-μ-loop
 operands-take-requires t c κs = asked-taking (c .before .before .before .before .before .loop .inv) (c .before .before .before .before .before .loop .task) (c .before .before .before .before .before .loop .frame) refl (c .before .before .before .eval .ensures)
@@ -94,7 +94,7 @@ operands-enum-known-end : (t : ℕ) → operands-lts.Need-enum-known-end (operan
 operands-enum-known-end t c = search needs
 
 operands-same-length : (t : ℕ) → operands-lts.Need-same-length (operands-calls t) (operands-at t) operands.Post operands-Inv-loop operands-μ-loop
-operands-same-length t c = inv-next (c .before .before .before .before .before .before .before .before .before .before .before .loop .inv) (c .before .before .before .before .before .before .before .before .before .before .before .loop .task) (c .before .before .before .before .before .before .before .before .before .before .before .loop .frame) refl (c .before .before .before .before .before .before .before .before .before .eval .ensures) (c .before .before .before .before .before .take .ensures) .same (c .before .before .before .before .before .before .before .before .before .before .before .before .before .before .before .before .before .pre .1 .base) (c .before .before .before .before .before .before .before .before .before .before .before .before .before .before .before .before .before .pre .1 .within) .size
+operands-same-length t c = inv-next (c .before .before .before .before .before .before .before .before .before .before .before .loop .inv) (c .before .before .before .before .before .before .before .before .before .before .before .loop .task) (c .before .before .before .before .before .before .before .before .before .before .before .loop .frame) refl (c .before .before .before .before .before .before .before .before .before .eval .ensures) (c .before .before .before .before .before .take .ensures) .same (c .before .before .before .before .before .before .before .before .before .before .before .before .before .before .before .before .before .pre .1 .0 .base) (c .before .before .before .before .before .before .before .before .before .before .before .before .before .before .before .before .before .pre .1 .0 .within) .size
 
 operands-returns : (t : ℕ) → operands-lts.Need-returns (operands-calls t) (operands-at t) operands.Post operands-Inv-loop operands-μ-loop
 operands-returns t c = inv-ends (inv-next (c .before .before .before .before .before .before .before .before .before .before .before .loop .inv) (c .before .before .before .before .before .before .before .before .before .before .before .loop .task) (c .before .before .before .before .before .before .before .before .before .before .before .loop .frame) refl (c .before .before .before .before .before .before .before .before .before .eval .ensures) (c .before .before .before .before .before .take .ensures)) (c .before .end .given .0 .0) (c .before .end .given .1)

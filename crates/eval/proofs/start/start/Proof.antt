@@ -70,7 +70,7 @@ returns-2 : tie.Need-returns-2
 returns-2 c = of-literal _ _ _ _ _ (c .before .before .before .before .before .before .before .before .before .before .before .before .before .before .before .args .task) (omega (arith, c .before .before .before .before .before .before .before .if1 .left)) (c .before .before .before .before .before .state .result) (c .before .before .before .before .before .state .ensures) (c .before .before .before .before .view-at .ensures) _ (c .literal .result) (c .before .before .l .given .1) (c .literal .ensures)
 
 returns-3 : tie.Need-returns-3
-returns-3 c = of-path _ _ _ _ _ (c .before .before .before .before .before .before .before .before .before .before .before .before .before .before .before .before .args .task) (omega (arith, c .before .before .before .before .before .before .before .before .if1 .left)) (c .before .before .before .before .before .before .state .result) (c .before .before .before .before .before .before .state .ensures) (c .before .before .before .before .before .view-at .ensures) _ _ (c .value-at .result) (c .before .before .before .p .given .1) (c .before .bytes-of .ensures) (omega (arith, c .before .before .before .before .before .before .before .before .before .before .before .before .before .before .before .before .pre .fits, c .before .before .before .before .before .before .before .before .before .before .before .before .before .before .before .before .pre .within)) (c .value-at .ensures)
+returns-3 c = of-path _ _ _ _ _ (c .before .before .before .before .before .before .before .before .before .before .before .before .before .before .before .before .args .task) (omega (arith, c .before .before .before .before .before .before .before .before .if1 .left)) (c .before .before .before .before .before .before .state .result) (c .before .before .before .before .before .before .state .ensures) (c .before .before .before .before .before .view-at .ensures) _ _ (c .value-at .result) (c .before .before .before .p .given .1) (c .before .bytes-of .ensures) (omega (arith, c .before .before .before .before .before .before .before .before .before .before .before .before .before .before .before .before .pre .0 .fits, c .before .before .before .before .before .before .before .before .before .before .before .before .before .before .before .before .pre .0 .within)) (c .value-at .ensures)
 
 returns-4 : tie.Need-returns-4
 returns-4 c = of-if _ _ _ _ _ (c .before .before .before .before .before .before .before .before .before .before .before .before .before .before .before .args .task) (omega (arith, c .before .before .before .before .before .before .before .if1 .left)) (c .before .before .before .before .before .state .result) (c .before .before .before .before .before .state .ensures) (c .before .before .before .before .view-at .ensures) _ (c .first .result) (c .first .ensures) (c .before .before .q .given .1)
