@@ -8,8 +8,8 @@ use lib.ListN.{length, length-append}
 use Rattle.area.specs.Words.{wordAt}
 use Rattle.model.specs.Bytes.{Bytes}
 use Rattle.model.specs.Limits.{maxValues}
-use Rattle.model.specs.Size.{valueCount, membersCount}
-use Rattle.model.specs.Value.{Value, object, Values, Members, no-members, member, memberCount}
+use Rattle.model.specs.Size.{valueCount}
+use Rattle.model.specs.Value.{Value, object, Members, no-members, member, memberCount}
 use Rattle.name_index.specs.Contract.{Entry, Named, Indexed}
 use Rattle.name_index.specs.Table.{entriesAt, IndexedObject, IndexedTable}
 use Rattle.syntax.specs.Layout.{rowBytes, entryBytes, tableBytes, rowsOf, memberRows, stringsOf, memberStrings}
@@ -18,7 +18,7 @@ use Rattle.syntax.specs.Laws.Stands.{front, back}
 use Rattle.table.specs.declared.node.Node.the-variants.{Object}
 use Rattle.table.specs.declared.node.Rows.{Rows}
 use Rattle.table.specs.declared.row.Span.{Span}
-use Rattle.table.specs.Node.{nodeAt, nextRow, nameAt}
+use Rattle.table.specs.Node.{nodeAt, nameAt}
 use Rattle.table.specs.Row.{span, rowAt}
 use Rattle.table.specs.Strings.{bytesOf}
 use Rattle.table.specs.WasRead.{WasRead}
