@@ -24,6 +24,8 @@ use type_set::set::items_of;
 use type_set::set::only;
 use type_set::set::passes;
 ghost use Rattle.model.specs.Rule.{if, reduce};
+ghost use Rattle.name_index.specs.Table.{IndexedTable};
+ghost use Rattle.rule.specs.Mark.{Marked};
 ghost use Rattle.type_check.specs.ByRows.{ifBy, reduceBy};
 ghost use Rattle.type_check.specs.Contract.{Checks};
 ghost use Rattle.type_check.specs.Inner.{Finds, FindsThree, FindsAll};
@@ -37,6 +39,7 @@ fn find(
     row: usize,
     s: Scope,
 ) -> Found
+    requires { ⌜ Marked (now «rule_table») (now «rule_strings») × IndexedTable (now «sheet_table») (now «sheet_strings») ⌝ }
     ensures { λ r. ⌜ Finds (now («rule_table» .entry)) (now («rule_strings» .entry)) (now («sheet_table» .entry)) (now («sheet_strings» .entry)) row s r ⌝ }
 {
     match view_at(rule_table, rule_strings, row, s.deep) {
@@ -75,6 +78,7 @@ fn find_all(
     q: Rows,
     s: Scope,
 ) -> FoundAll
+    requires { ⌜ Marked (now «rule_table») (now «rule_strings») × IndexedTable (now «sheet_table») (now «sheet_strings») ⌝ }
     ensures { λ r. ⌜ FindsAll (now («rule_table» .entry)) (now («rule_strings» .entry)) (now («sheet_table» .entry)) (now («sheet_strings» .entry)) q s r ⌝ }
 {
     let mut o = no_operands();
@@ -100,6 +104,7 @@ fn find_if(
     q: Rows,
     s: Scope,
 ) -> Found
+    requires { ⌜ Marked (now «rule_table») (now «rule_strings») × IndexedTable (now «sheet_table») (now «sheet_strings») ⌝ }
     ensures { λ r. ⌜ FindsThree if ifBy (now («rule_table» .entry)) (now («rule_strings» .entry)) (now («sheet_table» .entry)) (now («sheet_strings» .entry)) q s r ⌝ }
 {
     let row = q.first;
@@ -120,6 +125,7 @@ fn find_reduce(
     q: Rows,
     s: Scope,
 ) -> Found
+    requires { ⌜ Marked (now «rule_table») (now «rule_strings») × IndexedTable (now «sheet_table») (now «sheet_strings») ⌝ }
     ensures { λ r. ⌜ FindsThree reduce reduceBy (now («rule_table» .entry)) (now («rule_strings» .entry)) (now («sheet_table» .entry)) (now («sheet_strings» .entry)) q s r ⌝ }
 {
     let row = q.first;
@@ -153,6 +159,7 @@ pub fn check(
     sheet_table: &[u8],
     sheet_strings: &[u8],
 ) -> Found
+    requires { ⌜ Marked (now «rule_table») (now «rule_strings») × IndexedTable (now «sheet_table») (now «sheet_strings») ⌝ }
     ensures { λ r. ⌜ Checks (now («rule_table» .entry)) (now («rule_strings» .entry)) (now («sheet_table» .entry)) (now («sheet_strings» .entry)) r ⌝ }
 {
     let env = Env::Outside;

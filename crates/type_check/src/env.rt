@@ -8,6 +8,7 @@ use type_set::set::any_value;
 use type_set::set::only;
 ghost use mathlib.Core.Path.{_≡_};
 ghost use Prim.Native.Nat.{_≤_};
+ghost use Rattle.name_index.specs.Table.{IndexedTable};
 ghost use Rattle.type_check.specs.ByRows.{partBy, lambdaBy};
 ghost use Rattle.type_check.specs.Inner.{innerOf, VarTypes};
 
@@ -66,6 +67,7 @@ fn lambda_types(path: &[u8], current: TypeSet, accumulator: TypeSet) -> TypeSet
 
 // The types of the variable at a path.
 pub fn var_types(sheet_table: &[u8], sheet_strings: &[u8], path: &[u8], env: Env) -> TypeSet
+    requires { ⌜ IndexedTable (now «sheet_table») (now «sheet_strings») ⌝ }
     ensures { λ r. ⌜ VarTypes (now («sheet_table» .entry)) (now («sheet_strings» .entry)) (now (path .entry)) env r ⌝ }
 {
     match env {

@@ -117,7 +117,7 @@ find-inner-requires : (t : ℕ) → find-lts.Need-inner-requires (find-calls t) 
 find-inner-requires t c κs = nests (c .before .before .before .view-at .ensures) (c .before .q .given .1)
 
 find-find-if-requires : (t : ℕ) → find-lts.Need-find-if-requires (find-calls t) (find-at t) find.Post
-find-find-if-requires t c κs = rw (c .inner .ensures) (omega (arith, c .before .before .before .before .before .before .before .before .before .pre .0, nests (c .before .before .before .before .view-at .ensures) (c .before .before .q .given .1)))
+find-find-if-requires t c κs = rw (c .inner .ensures) (omega (arith, c .before .before .before .before .before .before .before .before .before .pre .0, nests (c .before .before .before .before .view-at .ensures) (c .before .before .q .given .1)), c .before .before .before .before .before .before .before .before .before .pre .1)
 
 find-enum-known-q-2 : (t : ℕ) → find-lts.Need-enum-known-q-2 (find-calls t) (find-at t) find.Post
 find-enum-known-q-2 t c = search needs
@@ -126,7 +126,7 @@ find-inner-requires-2 : (t : ℕ) → find-lts.Need-inner-requires-2 (find-calls
 find-inner-requires-2 t c κs = nests (c .before .before .before .view-at .ensures) (c .before .q2 .given .1)
 
 find-find-all-requires : (t : ℕ) → find-lts.Need-find-all-requires (find-calls t) (find-at t) find.Post
-find-find-all-requires t c κs = rw (c .inner2 .ensures) (omega (arith, c .before .before .before .before .before .before .before .before .before .pre .0, nests (c .before .before .before .before .view-at .ensures) (c .before .before .q2 .given .1)))
+find-find-all-requires t c κs = rw (c .inner2 .ensures) (omega (arith, c .before .before .before .before .before .before .before .before .before .pre .0, nests (c .before .before .before .before .view-at .ensures) (c .before .before .q2 .given .1)), c .before .before .before .before .before .before .before .before .before .pre .1)
 
 find-and-types-requires : (t : ℕ) → find-lts.Need-and-types-requires (find-calls t) (find-at t) find.Post
 find-and-types-requires t c κs = search needs
@@ -138,7 +138,7 @@ find-inner-requires-3 : (t : ℕ) → find-lts.Need-inner-requires-3 (find-calls
 find-inner-requires-3 t c κs = nests (c .before .before .before .view-at .ensures) (c .before .q3 .given .1)
 
 find-find-reduce-requires : (t : ℕ) → find-lts.Need-find-reduce-requires (find-calls t) (find-at t) find.Post
-find-find-reduce-requires t c κs = rw (c .inner3 .ensures) (omega (arith, c .before .before .before .before .before .before .before .before .before .pre .0, nests (c .before .before .before .before .view-at .ensures) (c .before .before .q3 .given .1)))
+find-find-reduce-requires t c κs = rw (c .inner3 .ensures) (omega (arith, c .before .before .before .before .before .before .before .before .before .pre .0, nests (c .before .before .before .before .view-at .ensures) (c .before .before .q3 .given .1)), c .before .before .before .before .before .before .before .before .before .pre .1)
 
 find-enum-known-op : (t : ℕ) → find-lts.Need-enum-known-op (find-calls t) (find-at t) find.Post
 find-enum-known-op t c = search needs
@@ -147,7 +147,7 @@ find-inner-requires-4 : (t : ℕ) → find-lts.Need-inner-requires-4 (find-calls
 find-inner-requires-4 t c κs = nests (c .before .before .before .view-at .ensures) (c .before .op .given .1)
 
 find-find-all-requires-2 : (t : ℕ) → find-lts.Need-find-all-requires-2 (find-calls t) (find-at t) find.Post
-find-find-all-requires-2 t c κs = rw (c .inner4 .ensures) (omega (arith, c .before .before .before .before .before .before .before .before .before .pre .0, nests (c .before .before .before .before .view-at .ensures) (c .before .before .op .given .1)))
+find-find-all-requires-2 t c κs = rw (c .inner4 .ensures) (omega (arith, c .before .before .before .before .before .before .before .before .before .pre .0, nests (c .before .before .before .before .view-at .ensures) (c .before .before .op .given .1)), c .before .before .before .before .before .before .before .before .before .pre .1)
 
 find-operation-types-requires : (t : ℕ) → find-lts.Need-operation-types-requires (find-calls t) (find-at t) find.Post
 find-operation-types-requires t c κs = search needs
@@ -225,7 +225,7 @@ find-if-tail-requires : (t : ℕ) → find-if-lts.Need-tail-requires (find-if-ca
 find-if-tail-requires t c κs = search needs
 
 find-if-find-all-requires : (t : ℕ) → find-if-lts.Need-find-all-requires (find-if-calls t) (find-if-at t) find-if.Post
-find-if-find-all-requires t c κs = omega (arith, c .before .before .before .before .before .before .before .before .pre .0)
+find-if-find-all-requires t c κs = (omega (arith, c .before .before .before .before .before .before .before .before .pre .0), c .before .before .before .before .before .before .before .before .pre .1)
 
 find-if-branch-types-requires : (t : ℕ) → find-if-lts.Need-branch-types-requires (find-if-calls t) (find-if-at t) find-if.Post
 find-if-branch-types-requires t c κs = search needs
@@ -252,7 +252,7 @@ find-reduce-next-row-requires-2 : (t : ℕ) → find-reduce-lts.Need-next-row-re
 find-reduce-next-row-requires-2 t c κs = search needs
 
 find-reduce-find-requires-2 : (t : ℕ) → find-reduce-lts.Need-find-requires-2 (find-reduce-calls t) (find-reduce-at t) find-reduce.Post
-find-reduce-find-requires-2 t c κs = omega (arith, c .before .before .before .before .before .before .before .before .before .before .pre .0)
+find-reduce-find-requires-2 t c κs = (omega (arith, c .before .before .before .before .before .before .before .before .before .before .pre .0), c .before .before .before .before .before .before .before .before .before .before .pre .1)
 
 find-reduce-enum-known-found-2 : (t : ℕ) → find-reduce-lts.Need-enum-known-found-2 (find-reduce-calls t) (find-reduce-at t) find-reduce.Post
 find-reduce-enum-known-found-2 t c = search needs
@@ -276,7 +276,7 @@ find-reduce-items-of-requires : (t : ℕ) → find-reduce-lts.Need-items-of-requ
 find-reduce-items-of-requires t c κs = search needs
 
 find-reduce-find-requires-3 : (t : ℕ) → find-reduce-lts.Need-find-requires-3 (find-reduce-calls t) (find-reduce-at t) find-reduce.Post
-find-reduce-find-requires-3 t c κs = omega (arith, c .before .before .before .before .before .before .before .before .before .before .before .before .before .before .before .before .before .before .pre .0)
+find-reduce-find-requires-3 t c κs = (omega (arith, c .before .before .before .before .before .before .before .before .before .before .before .before .before .before .before .before .before .before .pre .0), c .before .before .before .before .before .before .before .before .before .before .before .before .before .before .before .before .before .before .pre .1)
 
 find-reduce-enum-known-found-3 : (t : ℕ) → find-reduce-lts.Need-enum-known-found-3 (find-reduce-calls t) (find-reduce-at t) find-reduce.Post
 find-reduce-enum-known-found-3 t c = search needs
