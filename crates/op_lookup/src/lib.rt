@@ -87,15 +87,17 @@ fn item_named(fragment: &[u8], cells: &[u8], p: Parts) -> Handle
 fn part(fragment: &[u8], cells: &[u8], h: Handle) -> Handle
     ensures { λ r. ⌜ PartNamed (now (fragment .entry)) (now (cells .entry)) h r ⌝ }
 {
-    let Handle::Compound(p) = h else {
-        return Handle::Null;
-    };
-    let form = p.form;
-    match form {
-        Form::List => item_named(fragment, cells, p),
-        Form::Context => member(fragment, cells, p.first),
-        Form::Items => Handle::Null,
-        Form::Members => Handle::Null,
+    match h {
+        Handle::Compound(p) => {
+            let form = p.form;
+            match form {
+                Form::List => item_named(fragment, cells, p),
+                Form::Context => member(fragment, cells, p.first),
+                Form::Items => Handle::Null,
+                Form::Members => Handle::Null,
+            }
+        }
+        _ => Handle::Null,
     }
 }
 
