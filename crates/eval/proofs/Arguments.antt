@@ -32,7 +32,7 @@ use Rattle.eval.specs.declared.task.Next.the-variants.{Ends, Asks}
 use Rattle.eval.specs.declared.task.Pending.{Pending}
 use Rattle.eval.specs.declared.task.Task.{Task}
 use Rattle.eval.proofs.Bounds.{same-wider}
-use Rattle.eval.specs.Inner.{Room, RowsHold, row-rule, append, applied, Asked, ArgumentsLeft, Argues, Argued, Takes, task}
+use Rattle.eval.specs.Inner.{Room, oneBegun, RowsHold, row-rule, append, applied, Asked, ArgumentsLeft, Argues, Argued, Takes, task}
 
 -- ---- values, one more
 append-one : (vs : Values) (v : Value) (ws : Values) → append vs (item v ws) ≡ append (append vs (item v no-items)) ws
@@ -65,10 +65,7 @@ unfolding plainAll
 applied-none o vs κ n = ap (λ (xs : Values). lift (operate o xs) n) (append-none vs)
 
 -- ---- the next operand, or the operation
--- One operand is begun; all are on the stack; one more is.
-abbrev pub oneBegun : Pending → Pending
-oneBegun p = record { op = p .op; done = p .done; rest = p .rest - 1 }
-
+-- All are on the stack; one more is.
 abbrev pub allDone : Task → Pending → State
 allDone t p = state (t .state .left) (t .state .top) (t .state .bottom + p .done) (t .state .deep)
 
@@ -156,9 +153,9 @@ module _ {T A R B C C₁ C₂ : Bytes} {t : Task} {p : Pending} {h : Handle} {n 
       → s ≡ pushed t
       → t′ ≡ task row (t .context) s
       → p′ ≡ oneDone p
-      → Argued A R B C₁ t′ p′ n C₂
+      → Argues T A R B C₁ t′ p′ n C₂
       → Takes T A R B C t (Argument p) h n C₂
-  takes-argument row t′ s p′ room puts is-row is-state is-task is-more d = go (rw (is-task, is-state, is-row, is-more) at (d .argues T))
+  takes-argument row t′ s p′ room puts is-row is-state is-task is-more d = go (rw (is-task, is-state, is-row, is-more) at d)
     where
       same-pushed : Same C C₁ (t .state .top) (t .state .bottom)
       same-pushed = rw puts (same-put C (t .state .bottom - 1) h (omega (arith, room .fits)) (omega (arith, room .fits)))

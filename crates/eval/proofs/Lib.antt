@@ -3,6 +3,7 @@ pub mod Bounds
 pub mod Frames
 pub mod Arguments
 pub mod Rows
+pub mod Literals
 pub mod Taken
 pub mod Begun
 pub mod Steps

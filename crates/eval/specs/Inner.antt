@@ -1,7 +1,9 @@
 -- Inner: what the private functions do. T and A are the rule's table and strings, R and B the record's, C the cells before and C′ after.
 -- The run is the model's (EvalPlain) for whatever rule the table holds and whatever value the context's handle means.
+use mathlib.Core.Bool.{cond}
 use mathlib.Core.Path.{_≡_}
 use Prim.Native.Nat.{ℕ, zero, suc, _+_, _*_, _-_, _/_, _≤_}
+use lib.Dec.{eqb}
 use lib.ListN.{length}
 use Rattle.model.specs.Bytes.{Bytes}
 use Rattle.model.specs.Eval.{context}
@@ -38,8 +40,12 @@ use Rattle.rule.specs.declared.view.Literal.{Literal}
 use Rattle.rule.specs.declared.view.Literal.the-variants as Literals
 use Rattle.rule.specs.Holds.{Holds, ruleCount}
 use Rattle.rule.specs.Mark.{Marked}
+use Rattle.table.specs.declared.node.Node.{Node}
+use Rattle.table.specs.declared.node.Node.the-variants as Nodes
 use Rattle.table.specs.declared.node.Rows.{Rows}
-use Rattle.table.specs.Node.{nextRow}
+use Rattle.table.specs.Node.{nodeAt, nextRow}
+use Rattle.eval.specs.declared.literal.LiteralValue.{LiteralValue}
+use Rattle.eval.specs.declared.literal.LiteralValue.the-variants.{NotLiteral, Of as LiteralOf}
 use Rattle.eval.specs.declared.take.Elements.{Elements}
 use Rattle.eval.specs.declared.take.Elements.the-variants.{NotArray, Of}
 use Rattle.eval.specs.declared.task.Frame.{Frame}
@@ -125,6 +131,26 @@ literalHandle Literals.False = Handles.False
 literalHandle Literals.True = Handles.True
 literalHandle (Literals.Integer n) = Handles.Integer n
 literalHandle (Literals.String p) = Handles.String (span Areas.Rule (p .start) (p .size))
+
+-- The same by the node of a row, or that it is no literal.
+abbrev pub literalOf : Node → LiteralValue
+literalOf Nodes.Null = NotLiteral
+literalOf Nodes.False = LiteralOf (literalHandle Literals.False)
+literalOf Nodes.True = LiteralOf (literalHandle Literals.True)
+literalOf (Nodes.Integer n) = LiteralOf (literalHandle (Literals.Integer n))
+literalOf (Nodes.String p) = LiteralOf (literalHandle (Literals.String p))
+literalOf (Nodes.Array q) = NotLiteral
+literalOf (Nodes.Object q) = NotLiteral
+
+-- Of the task's operand, if one is left and a step for it.
+abbrev pub literalNext : Bytes → Task → Pending → LiteralValue
+literalNext T t p = cond (eqb (p .rest) 0) NotLiteral (cond (eqb (t .state .left) 0) NotLiteral (literalOf (nodeAt T (t .row))))
+
+abbrev pub oneStep : Task → Task
+oneStep t = task (t .row) (t .context) (state (t .state .left - 1) (t .state .top) (t .state .bottom) (t .state .deep))
+
+abbrev pub oneBegun : Pending → Pending
+oneBegun p = pending (p .op) (p .done) (p .rest - 1)
 
 abbrev pub resumedEnd : State → Ended → Ended
 resumedEnd s (Gives h t) = Gives h (state (t .left) (t .top) (s .bottom) (s .deep))

@@ -18,6 +18,7 @@ ghost use Rattle.operations.specs.Ended.{faultOf};
 ghost use Rattle.eval.specs.Contract.{Reaches};
 ghost use Rattle.eval.specs.Evaluate.{Ready, Evaluates, writtenAnswer};
 
+mod literal;
 mod run;
 mod start;
 mod take;

@@ -1,4 +1,8 @@
 // What an operation does with the value of an operand.
+use crate::literal::LiteralValue;
+use crate::literal::literal_next;
+use crate::literal::one_begun;
+use crate::literal::one_step;
 use crate::task::Frame;
 use crate::task::Next;
 use crate::task::Pending;
@@ -173,40 +177,43 @@ fn arguments<'a>(
     ))
 }
 
-// The value onto the stack; then the next operand, or the operation.
+// The value onto the stack, and then those of the literals that follow; then the next operand, or the operation.
 fn after_argument<'a>(
     rule_table: &[u8],
     rule_strings: &'a [u8],
     record_table: &[u8],
     record_strings: &'a [u8],
     cells: &mut [u8],
-    t: Task,
-    p: Pending,
-    value: Handle,
+    mut t: Task,
+    mut p: Pending,
+    mut value: Handle,
 ) -> Next
     requires { ⌜ Room (now cells) (4 + p .done) (p .done) (t .state) ⌝ }
     ensures { λ r. ⌜ Takes (now («rule_table» .entry)) (now («rule_strings» .entry)) (now («record_table» .entry)) (now («record_strings» .entry)) (now (cells .entry)) t (Frame.Argument p) value r (now (cells .exit)) ⌝ }
 {
-    let context = t.context;
-    let s = t.state;
-    let bottom = s.bottom - 1;
-    put(cells, bottom, value);
-    let after = state(s.left, s.top, bottom, s.deep);
-    let next = operand(next_row(rule_table, t.row), context, after);
-    let op = p.op;
-    let more = Pending {
-        op,
-        done: p.done + 1,
-        rest: p.rest,
-    };
-    arguments(
-        rule_strings,
-        record_table,
-        record_strings,
-        cells,
-        next,
-        more,
-    )
+    loop {
+        let context = t.context;
+        let s = t.state;
+        let op = p.op;
+        let bottom = s.bottom - 1;
+        put(cells, bottom, value);
+        let after = state(s.left, s.top, bottom, s.deep);
+        let next = operand(next_row(rule_table, t.row), context, after);
+        let more = arguments_of(op, p.done + 1, p.rest);
+        let LiteralValue::Of(literal) = literal_next(rule_table, next, more) else {
+            return arguments(
+                rule_strings,
+                record_table,
+                record_strings,
+                cells,
+                next,
+                more,
+            );
+        };
+        value = literal;
+        t = one_step(next);
+        p = one_begun(more);
+    }
 }
 
 // With the value of a task's rule, what its frame says; its refusal ends the rule around it.
