@@ -10,7 +10,7 @@ use Rattle.model.specs.Limits.{maxValues}
 use Rattle.model.specs.Option.{orElse}
 use Rattle.model.specs.Value.{Value, scalar, null}
 use Rattle.table.specs.declared.node.Node.{Node}
-use Rattle.table.specs.declared.node.Node.the-variants.{Null}
+use Rattle.table.specs.declared.node.Node.the-variants.{Null, Object}
 use Rattle.table.specs.declared.node.Rows.{Rows}
 use Rattle.table.specs.Node.{nodeAt}
 use Rattle.table.specs.Placed.{rowAfter}
@@ -37,6 +37,11 @@ pub record AllOf (T : Bytes) (q : Rows) (n : Node) : Type 0 where
   pub after : 1 ≤ q .first
   pub within : q .first ≤ maxValues
   pub is : nodeAt T (q .first - 1) ≡ n
+
+-- They are all members of an object, of which there are some: it has an index.
+pub record Indexable (T : Bytes) (q : Rows) : Type 0 where
+  pub all : AllOf T q (Object q)
+  pub some : 0 < q .count
 
 -- Each is followed by the next row.
 pub record Flat (T : Bytes) (q : Rows) : Type 0 where
