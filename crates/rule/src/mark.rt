@@ -103,12 +103,13 @@ pub fn put_mark(table: &mut [u8], row: usize, mark: u8)
 pub fn mark_at(table: &[u8], row: usize) -> u8
     ensures { λ r. ⌜ r ≡ markAt (now (table .entry)) row ⌝ }
 {
-    let n = table.len();
-    if n <= MARKS {
+    let size = table.len();
+    if size <= MARKS {
         return 0;
     }
-    if n - MARKS <= row {
+    if size - MARKS <= row {
         return 0;
     }
-    table[MARKS + row]
+    let at = MARKS + row;
+    table[at]
 }

@@ -57,7 +57,7 @@ fn and_operands(q: Rows) -> Shape
 }
 
 // The first alone: the one rule among the operands of `plusTime` and `extractFromUVCI`.
-pub fn first_of(q: Rows) -> Rows
+fn first_of(q: Rows) -> Rows
     ensures { λ r. ⌜ r ≡ firstOf q ⌝ }
 {
     Rows {

@@ -1,7 +1,6 @@
 // What stands at a row of a rule's table: the model's six cases, with the rows of the operands. An object is viewed by its mark.
 use crate::mark::mark_at;
 use crate::mark::rows_of;
-use crate::operation::first_of;
 use keywords::Op;
 use model::Comparison;
 use model::Domain;
@@ -67,13 +66,16 @@ fn plus_time_view(rows: &[u8], unit: TimeUnit, q: Rows) -> View
     ensures { λ r. ⌜ r ≡ plusTimeView (now (rows .entry)) unit q ⌝ }
 {
     let amount = bare_integer(rows, q);
-    View::Apply(Op::PlusTime { amount, unit }, first_of(q))
+    let first = q.first;
+    View::Apply(Op::PlusTime { amount, unit }, Rows { first, count: 1 })
 }
 
 fn extract_view(rows: &[u8], q: Rows) -> View
     ensures { λ r. ⌜ r ≡ extractView (now (rows .entry)) q ⌝ }
 {
-    View::Apply(Op::ExtractFromUvci(bare_integer(rows, q)), first_of(q))
+    let index = bare_integer(rows, q);
+    let first = q.first;
+    View::Apply(Op::ExtractFromUvci(index), Rows { first, count: 1 })
 }
 
 fn compare_view(domain: Domain, comparison: Comparison, q: Rows) -> View

@@ -3,105 +3,76 @@ use Rattle.shape.proofs.Loop.{row-plain, row-object}
 use borrow.Author.Needs.{needs}
 use Rattle.shape.proofs.row_is_rule.Statement.{statement}
 use Rattle.shape.proofs.row_is_rule.Tie as tie
-use Rattle.shape.proofs.row_is_rule.Reads as reads
-use Rattle.shape.proofs.row_is_rule.Lts as lts
-use Rattle.rule.proofs.mark.rows_of.Reads as rows-of-reads
-use Rattle.shape.proofs.object_is_rule.Reads as object-is-rule-reads
-use Rattle.table.proofs.node.node_at.Reads as node-at-reads
 
--- src/lib.rt:48:24
 rows-of-requires : tie.Need-rows-of-requires
 rows-of-requires c κs = search needs
 
--- src/lib.rt:48:9
 node-at-requires : tie.Need-node-at-requires
 node-at-requires c κs = search needs
 
--- src/lib.rt:50:23
 enum-told : tie.Need-enum-told
 enum-told c = search needs
 
--- src/lib.rt:51:24
 enum-told-2 : tie.Need-enum-told-2
 enum-told-2 c = search needs
 
--- src/lib.rt:52:23
 enum-told-3 : tie.Need-enum-told-3
 enum-told-3 c = search needs
 
--- src/lib.rt:53:29
 enum-told-4 : tie.Need-enum-told-4
 enum-told-4 c = search needs
 
--- src/lib.rt:54:28
 enum-told-5 : tie.Need-enum-told-5
 enum-told-5 c = search needs
 
--- src/lib.rt:55:27
 enum-told-6 : tie.Need-enum-told-6
 enum-told-6 c = search needs
 
--- src/lib.rt:56:22
 enum-known-node : tie.Need-enum-known-node
 enum-known-node c = search needs
 
--- src/lib.rt:56:28
 object-is-rule-requires : tie.Need-object-is-rule-requires
 object-is-rule-requires c κs = search needs
 
--- src/lib.rt:45:1
 same-length : tie.Need-same-length
 same-length c = search needs
 
--- src/lib.rt:45:1
 returns : tie.Need-returns
 returns c = row-plain _ (sym (rw (c .before .before .before .rows-of .ensures) at (c .before .before .node-at .ensures)) ∙ c .enum-told .given .1) refl refl
 
--- src/lib.rt:45:1
 same-length-2 : tie.Need-same-length-2
 same-length-2 c = search needs
 
--- src/lib.rt:45:1
 returns-2 : tie.Need-returns-2
 returns-2 c = row-plain _ (sym (rw (c .before .before .before .rows-of .ensures) at (c .before .before .node-at .ensures)) ∙ c .enum-told2 .given .1) refl refl
 
--- src/lib.rt:45:1
 same-length-3 : tie.Need-same-length-3
 same-length-3 c = search needs
 
--- src/lib.rt:45:1
 returns-3 : tie.Need-returns-3
 returns-3 c = row-plain _ (sym (rw (c .before .before .before .rows-of .ensures) at (c .before .before .node-at .ensures)) ∙ c .enum-told3 .given .1) refl refl
 
--- src/lib.rt:45:1
 same-length-4 : tie.Need-same-length-4
 same-length-4 c = search needs
 
--- src/lib.rt:45:1
 returns-4 : tie.Need-returns-4
 returns-4 c = row-plain _ (sym (rw (c .before .before .before .rows-of .ensures) at (c .before .before .node-at .ensures)) ∙ c .enum-told4 .given .1) refl refl
 
--- src/lib.rt:45:1
 same-length-5 : tie.Need-same-length-5
 same-length-5 c = search needs
 
--- src/lib.rt:45:1
 returns-5 : tie.Need-returns-5
 returns-5 c = row-plain _ (sym (rw (c .before .before .before .rows-of .ensures) at (c .before .before .node-at .ensures)) ∙ c .enum-told5 .given .1) refl refl
 
--- src/lib.rt:45:1
 same-length-6 : tie.Need-same-length-6
 same-length-6 c = search needs
 
--- src/lib.rt:45:1
 returns-6 : tie.Need-returns-6
 returns-6 c = row-plain _ (sym (rw (c .before .before .before .rows-of .ensures) at (c .before .before .node-at .ensures)) ∙ c .enum-told6 .given .1) refl refl
 
--- src/lib.rt:45:1
 same-length-7 : tie.Need-same-length-7
 same-length-7 c = search needs
 
--- src/lib.rt:45:1
 returns-7 : tie.Need-returns-7
 returns-7 c = row-object (sym (rw (c .before .before .before .before .before .before .before .before .rows-of .ensures) at (c .before .before .before .before .before .before .before .node-at .ensures)) ∙ c .before .before .before .before .before .node .given .1) (c .before .before .object-is-rule .ensures)
 

@@ -1,39 +1,28 @@
 use borrow.Author.Needs.{needs}
 use Rattle.rule.proofs.mark.compare_mark.Statement.{statement}
 use Rattle.rule.proofs.mark.compare_mark.Tie as tie
-use Rattle.rule.proofs.mark.compare_mark.Reads as reads
-use Rattle.rule.proofs.mark.compare_mark.Lts as lts
-use Rattle.rule.proofs.mark.comparison_mark.Reads as comparison-mark-reads
 
--- src/mark.rt:41:36
 enum-told : tie.Need-enum-told
 enum-told c = search needs
 
--- src/mark.rt:41:36
 comparison-mark-requires : tie.Need-comparison-mark-requires
 comparison-mark-requires c κs = search needs
 
--- src/mark.rt:41:31
 add-result : tie.Need-add-result
 add-result c = search needs
 
--- src/mark.rt:42:36
 enum-told-2 : tie.Need-enum-told-2
 enum-told-2 c = search needs
 
--- src/mark.rt:42:36
 comparison-mark-requires-2 : tie.Need-comparison-mark-requires-2
 comparison-mark-requires-2 c κs = search needs
 
--- src/mark.rt:42:31
 add-result-2 : tie.Need-add-result-2
 add-result-2 c = search needs
 
--- src/mark.rt:37:1
 returns : tie.Need-returns
 returns c = rw (c .before .enum-told .given .1, c .comparison-mark .ensures .0)
 
--- src/mark.rt:37:1
 returns-2 : tie.Need-returns-2
 returns-2 c = rw (c .before .enum-told2 .given .1, c .comparison-mark2 .ensures .0)
 

@@ -6,36 +6,27 @@ use Rattle.syntax.specs.Layout.{rowBytes}
 use borrow.Author.Needs.{needs}
 use Rattle.rule.proofs.mark.put_mark.Statement.{statement}
 use Rattle.rule.proofs.mark.put_mark.Tie as tie
-use Rattle.rule.proofs.mark.put_mark.Reads as reads
-use Rattle.rule.proofs.mark.put_mark.Lts as lts
 
--- src/mark.rt:94:9
 returns : tie.Need-returns
 unfolding maxValues rowBytes
 returns c = sym (set-out (c .before .args .table .now) _ (c .before .args .mark) (omega (arith, c .if1 .taken)))
 
--- src/mark.rt:96:8
 sub-if2 : tie.Need-sub-if2
 sub-if2 c = search needs
 
--- src/mark.rt:97:9
 returns-2 : tie.Need-returns-2
 unfolding maxValues rowBytes
 returns-2 c = sym (set-out (c .before .before .args .table .now) _ (c .before .before .args .mark) (omega (arith, c .if2 .taken, c .before .if1 .left)))
 
--- src/mark.rt:99:11
 add-table : tie.Need-add-table
 add-table c = search needs
 
--- src/mark.rt:99:5
 slice-write-table : tie.Need-slice-write-table
 slice-write-table c = search needs
 
--- src/mark.rt:89:1
 same-length : tie.Need-same-length
 same-length c = search needs
 
--- src/mark.rt:89:1
 returns-3 : tie.Need-returns-3
 unfolding maxValues rowBytes
 returns-3 c = search needs

@@ -1,14 +1,10 @@
 use borrow.Author.Tests.{lt-ltb, le-ltb}
 use Rattle.rule.proofs.operation.and_operands.Statement.{statement}
 use Rattle.rule.proofs.operation.and_operands.Tie as tie
-use Rattle.rule.proofs.operation.and_operands.Reads as reads
-use Rattle.rule.proofs.operation.and_operands.Lts as lts
 
--- src/view.rt:77:9
 returns : tie.Need-returns
 returns c = rw (lt-ltb _ _ (c .if1 .taken))
 
--- src/view.rt:73:1
 returns-2 : tie.Need-returns-2
 returns-2 c = rw (le-ltb _ _ (c .if1 .left))
 

@@ -1,18 +1,13 @@
 use borrow.Author.Tests.{lt-ltb, le-ltb}
 use Rattle.rule.proofs.operation.counted_operands.Statement.{statement}
 use Rattle.rule.proofs.operation.counted_operands.Tie as tie
-use Rattle.rule.proofs.operation.counted_operands.Reads as reads
-use Rattle.rule.proofs.operation.counted_operands.Lts as lts
 
--- src/view.rt:64:9
 returns : tie.Need-returns
 returns c = rw (lt-ltb _ _ (c .if1 .taken))
 
--- src/view.rt:67:9
 returns-2 : tie.Need-returns-2
 returns-2 c = rw (le-ltb _ _ (c .before .before .if1 .left), lt-ltb _ _ (c .if2 .taken))
 
--- src/view.rt:60:1
 returns-3 : tie.Need-returns-3
 returns-3 c = rw (le-ltb _ _ (c .before .before .if1 .left), le-ltb _ _ (c .if2 .left))
 

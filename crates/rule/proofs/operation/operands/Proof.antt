@@ -1,98 +1,70 @@
 use borrow.Author.Needs.{needs}
 use Rattle.rule.proofs.operation.operands.Statement.{statement}
 use Rattle.rule.proofs.operation.operands.Tie as tie
-use Rattle.rule.proofs.operation.operands.Reads as reads
-use Rattle.rule.proofs.operation.operands.Lts as lts
-use Rattle.rule.proofs.operation.and_operands.Reads as and-operands-reads
-use Rattle.rule.proofs.operation.counted_operands.Reads as counted-operands-reads
-use Rattle.rule.proofs.operation.extract.Reads as extract-reads
-use Rattle.rule.proofs.operation.plus_time.Reads as plus-time-reads
 
--- src/view.rt:184:31
 enum-told : tie.Need-enum-told
 enum-told c = search needs
 
--- src/view.rt:185:25
 enum-told-2 : tie.Need-enum-told-2
 enum-told-2 c = search needs
 
--- src/view.rt:186:47
 enum-told-3 : tie.Need-enum-told-3
 enum-told-3 c = search needs
 
--- src/view.rt:186:24
 counted-operands-requires : tie.Need-counted-operands-requires
 counted-operands-requires c κs = search needs
 
--- src/view.rt:187:51
 enum-told-4 : tie.Need-enum-told-4
 enum-told-4 c = search needs
 
--- src/view.rt:187:28
 counted-operands-requires-2 : tie.Need-counted-operands-requires-2
 counted-operands-requires-2 c κs = search needs
 
--- src/view.rt:188:25
 enum-told-5 : tie.Need-enum-told-5
 enum-told-5 c = search needs
 
--- src/view.rt:188:25
 and-operands-requires : tie.Need-and-operands-requires
 and-operands-requires c κs = search needs
 
--- src/view.rt:189:30
 enum-told-6 : tie.Need-enum-told-6
 enum-told-6 c = search needs
 
--- src/view.rt:189:30
 plus-time-requires : tie.Need-plus-time-requires
 plus-time-requires c κs = search needs
 
--- src/view.rt:190:37
 enum-told-7 : tie.Need-enum-told-7
 enum-told-7 c = search needs
 
--- src/view.rt:190:37
 extract-requires : tie.Need-extract-requires
 extract-requires c κs = search needs
 
--- src/view.rt:191:28
 enum-known-k : tie.Need-enum-known-k
 enum-known-k c = search needs
 
--- src/view.rt:192:13
 counted-operands-requires-3 : tie.Need-counted-operands-requires-3
 counted-operands-requires-3 c κs = search needs
 
--- src/view.rt:180:1
 returns : tie.Need-returns
 returns c = search needs
 
--- src/view.rt:180:1
 returns-2 : tie.Need-returns-2
 returns-2 c = search needs
 
--- src/view.rt:180:1
 returns-3 : tie.Need-returns-3
 returns-3 c = rw (c .before .enum-told3 .given .1, c .counted-operands .ensures)
 
--- src/view.rt:180:1
 returns-4 : tie.Need-returns-4
 returns-4 c = rw (c .before .enum-told4 .given .1, c .counted-operands2 .ensures)
 
--- src/view.rt:180:1
 returns-5 : tie.Need-returns-5
 returns-5 c = rw (c .before .enum-told5 .given .1, c .and-operands .ensures)
 
--- src/view.rt:180:1
 returns-6 : tie.Need-returns-6
 returns-6 c = rw (c .before .enum-told6 .given .1, c .plus-time .ensures)
 
--- src/view.rt:180:1
 returns-7 : tie.Need-returns-7
 returns-7 c = rw (c .before .enum-told7 .given .1, c .extract .ensures)
 
--- src/view.rt:180:1
 returns-8 : tie.Need-returns-8
 returns-8 c = rw (c .before .before .k .given .1, c .counted-operands3 .ensures)
 

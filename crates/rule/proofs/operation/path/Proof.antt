@@ -1,70 +1,52 @@
 use borrow.Author.Needs.{needs}
 use Rattle.rule.proofs.operation.path.Statement.{statement}
 use Rattle.rule.proofs.operation.path.Tie as tie
-use Rattle.rule.proofs.operation.path.Reads as reads
-use Rattle.rule.proofs.operation.path.Lts as lts
 
--- src/view.rt:164:31
 enum-told : tie.Need-enum-told
 enum-told c = search needs
 
--- src/view.rt:165:37
 enum-told-2 : tie.Need-enum-told-2
 enum-told-2 c = search needs
 
--- src/view.rt:166:24
 enum-told-3 : tie.Need-enum-told-3
 enum-told-3 c = search needs
 
--- src/view.rt:167:28
 enum-told-4 : tie.Need-enum-told-4
 enum-told-4 c = search needs
 
--- src/view.rt:168:25
 enum-told-5 : tie.Need-enum-told-5
 enum-told-5 c = search needs
 
--- src/view.rt:169:30
 enum-told-6 : tie.Need-enum-told-6
 enum-told-6 c = search needs
 
--- src/view.rt:170:37
 enum-told-7 : tie.Need-enum-told-7
 enum-told-7 c = search needs
 
--- src/view.rt:175:14
 enum-told-8 : tie.Need-enum-told-8
 enum-told-8 c = search needs
 
--- src/view.rt:160:1
 returns : tie.Need-returns
 returns c = search needs
 
--- src/view.rt:160:1
 returns-2 : tie.Need-returns-2
 returns-2 c = rw (c .enum-told2 .given .1)
 
--- src/view.rt:160:1
 returns-3 : tie.Need-returns-3
 returns-3 c = search needs
 
--- src/view.rt:160:1
 returns-4 : tie.Need-returns-4
 returns-4 c = search needs
 
--- src/view.rt:160:1
 returns-5 : tie.Need-returns-5
 returns-5 c = search needs
 
--- src/view.rt:160:1
 returns-6 : tie.Need-returns-6
 returns-6 c = search needs
 
--- src/view.rt:160:1
 returns-7 : tie.Need-returns-7
 returns-7 c = search needs
 
--- src/view.rt:160:1
 returns-8 : tie.Need-returns-8
 returns-8 c = search needs
 

@@ -1,27 +1,19 @@
 use borrow.Author.Needs.{needs}
 use Rattle.rule.proofs.operation.plus_time_of.Statement.{statement}
 use Rattle.rule.proofs.operation.plus_time_of.Tie as tie
-use Rattle.rule.proofs.operation.plus_time_of.Reads as reads
-use Rattle.rule.proofs.operation.plus_time_of.Lts as lts
-use Rattle.rule.proofs.operation.first_of.Reads as first-of-reads
 
--- src/view.rt:112:31
 enum-told : tie.Need-enum-told
 enum-told c = search needs
 
--- src/view.rt:113:26
 enum-known-unit : tie.Need-enum-known-unit
 enum-known-unit c = search needs
 
--- src/view.rt:114:71
 first-of-requires : tie.Need-first-of-requires
 first-of-requires c κs = search needs
 
--- src/view.rt:108:1
 returns : tie.Need-returns
 returns c = search needs
 
--- src/view.rt:108:1
 returns-2 : tie.Need-returns-2
 returns-2 c = rw (c .before .before .unit .given .1, c .first-of .ensures)
 

@@ -1,14 +1,10 @@
 use borrow.Author.Tests.{ne-eqb}
 use Rattle.rule.proofs.view.array_view.Statement.{statement}
 use Rattle.rule.proofs.view.array_view.Tie as tie
-use Rattle.rule.proofs.view.array_view.Reads as reads
-use Rattle.rule.proofs.view.array_view.Lts as lts
 
--- src/view.rt:145:9
 returns : tie.Need-returns
 returns c = rw (c .if1 .taken)
 
--- src/view.rt:141:1
 returns-2 : tie.Need-returns-2
 returns-2 c = rw (ne-eqb _ _ (c .if1 .left))
 

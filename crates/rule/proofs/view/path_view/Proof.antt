@@ -4,18 +4,13 @@ use Rattle.rule.specs.Mark.{unmarked}
 use Rattle.rule.proofs.Marks.{no-view}
 use Rattle.rule.proofs.view.path_view.Statement.{statement}
 use Rattle.rule.proofs.view.path_view.Tie as tie
-use Rattle.rule.proofs.view.path_view.Reads as reads
-use Rattle.rule.proofs.view.path_view.Lts as lts
 
--- src/view.rt:118:1
 returns : tie.Need-returns
 returns c = rw (c .match .keys1)
 
--- src/view.rt:118:1
 returns-2 : tie.Need-returns-2
 returns-2 c = rw (c .match .keys2)
 
--- src/view.rt:118:1
 returns-3 : tie.Need-returns-3
 returns-3 c = no-view (unmarked ∷ Var (c .before .args .s) ∷ []) (c .before .args .mark) (c .match .rest)
 

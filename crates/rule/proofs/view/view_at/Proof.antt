@@ -5,82 +5,58 @@ use Rattle.model.specs.Bytes.{Bytes}
 use borrow.Author.Needs.{needs}
 use Rattle.rule.proofs.view.view_at.Statement.{statement}
 use Rattle.rule.proofs.view.view_at.Tie as tie
-use Rattle.rule.proofs.view.view_at.Reads as reads
-use Rattle.rule.proofs.view.view_at.Lts as lts
-use Rattle.rule.proofs.mark.rows_of.Reads as rows-of-reads
-use Rattle.rule.proofs.view.array_view.Reads as array-view-reads
-use Rattle.rule.proofs.view.object_view.Reads as object-view-reads
-use Rattle.table.proofs.node.node_at.Reads as node-at-reads
 
--- src/view.rt:167:24
 rows-of-requires : tie.Need-rows-of-requires
 rows-of-requires c κs = search needs
 
--- src/view.rt:167:9
 node-at-requires : tie.Need-node-at-requires
 node-at-requires c κs = search needs
 
--- src/view.rt:169:37
 enum-told : tie.Need-enum-told
 enum-told c = search needs
 
--- src/view.rt:170:38
 enum-told-2 : tie.Need-enum-told-2
 enum-told-2 c = search needs
 
--- src/view.rt:171:37
 enum-told-3 : tie.Need-enum-told-3
 enum-told-3 c = search needs
 
--- src/view.rt:172:23
 enum-known-node : tie.Need-enum-known-node
 enum-known-node c = search needs
 
--- src/view.rt:173:22
 enum-known-node-2 : tie.Need-enum-known-node-2
 enum-known-node-2 c = search needs
 
--- src/view.rt:174:21
 enum-known-node-3 : tie.Need-enum-known-node-3
 enum-known-node-3 c = search needs
 
--- src/view.rt:174:27
 array-view-requires : tie.Need-array-view-requires
 array-view-requires c κs = search needs
 
--- src/view.rt:175:22
 enum-known-node-4 : tie.Need-enum-known-node-4
 enum-known-node-4 c = search needs
 
--- src/view.rt:175:28
 object-view-requires : tie.Need-object-view-requires
 object-view-requires c κs = search needs
 
--- src/view.rt:163:1
 returns : tie.Need-returns
 returns c = node-view (c .before .before .before .before .before .before .pre) _ (sym (rw (c .before .before .before .rows-of .ensures) at (c .before .before .node-at .ensures)) ∙ c .enum-told .given .1) refl
 
--- src/view.rt:163:1
 returns-2 : tie.Need-returns-2
 returns-2 c = node-view (c .before .before .before .before .before .before .pre) _ (sym (rw (c .before .before .before .rows-of .ensures) at (c .before .before .node-at .ensures)) ∙ c .enum-told2 .given .1) refl
 
--- src/view.rt:163:1
 returns-3 : tie.Need-returns-3
 returns-3 c = node-view (c .before .before .before .before .before .before .pre) _ (sym (rw (c .before .before .before .rows-of .ensures) at (c .before .before .node-at .ensures)) ∙ c .enum-told3 .given .1) refl
 
--- src/view.rt:163:1
 returns-4 : tie.Need-returns-4
 returns-4 c = node-view (c .before .before .before .before .before .before .before .pre) _ (sym (rw (c .before .before .before .before .rows-of .ensures) at (c .before .before .before .node-at .ensures)) ∙ c .before .node .given .1) refl
 
--- src/view.rt:163:1
 returns-5 : tie.Need-returns-5
 returns-5 c = node-view (c .before .before .before .before .before .before .before .pre) _ (sym (rw (c .before .before .before .before .rows-of .ensures) at (c .before .before .before .node-at .ensures)) ∙ c .before .node2 .given .1) refl
 
--- src/view.rt:163:1
 returns-6 : tie.Need-returns-6
 returns-6 c = node-view (c .before .before .before .before .before .before .before .before .pre) _ (sym (rw (c .before .before .before .before .before .rows-of .ensures) at (c .before .before .before .before .node-at .ensures)) ∙ c .before .before .node3 .given .1) (c .array-view .ensures)
 
--- src/view.rt:163:1
 returns-7 : tie.Need-returns-7
 returns-7 c = object-view (c .before .before .before .before .before .before .before .before .pre) _ (sym (rw (c .before .before .before .before .before .rows-of .ensures) at (c .before .before .before .before .node-at .ensures)) ∙ c .before .before .node4 .given .1) (c .object-view .ensures)
 
