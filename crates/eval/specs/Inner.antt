@@ -146,6 +146,7 @@ literalOf (Nodes.Object q) = NotLiteral
 abbrev pub literalNext : Bytes → Task → Pending → LiteralValue
 literalNext T t p = cond (eqb (p .rest) 0) NotLiteral (cond (eqb (t .state .left) 0) NotLiteral (literalOf (nodeAt T (t .row))))
 
+-- With one step less, and with one operand begun.
 abbrev pub oneStep : Task → Task
 oneStep t = task (t .row) (t .context) (state (t .state .left - 1) (t .state .top) (t .state .bottom) (t .state .deep))
 
