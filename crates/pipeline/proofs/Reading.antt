@@ -66,9 +66,9 @@ text-read which {s} {T} {A} {T′} {A′} {x} {r} h e = record {
   stop = e ∙ ap (toldOf which) (h .answer) ∙ told-is which (tooShort T A) (read s);
   areas = by-size (tooShort T A) refl;
   holds = λ v f.
-  let l = lent-passed (textAreas T A) which (readAs which s) v f in
-  let g = read-held which s v (l .is) in
-  record { was-read = h .was-read v (l .long .long) g; indexed = h .indexed v (l .long .long) g };
+      let l = lent-passed (textAreas T A) which (readAs which s) v f in
+      let g = read-held which s v (l .is) in
+      record { was-read = h .was-read v (l .long .long) g; indexed = h .indexed v (l .long .long) g };
 }
   where
     by-text : (g : Read) → tooShort T A ≡ false → read s ≡ g → tidied (textAreas T′ A′) ≡ leftBy s (textAreas T A)

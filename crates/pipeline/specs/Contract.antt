@@ -32,7 +32,6 @@ leftIn s a = cond (isShort a) a (leftBy s a)
 abbrev pub tidiedIn : TextAreas → TextAreas → TextAreas
 tidiedIn a a′ = cond (isShort a) a′ (tidied a′)
 
-
 -- `areas`: the final bytes, but for the work room; `holds`: what the areas hold once the stage is passed.
 pub record Reads (which : ℕ) (s : Bytes) (a : TextAreas) (r : Stop) (a′ : TextAreas) : Type 0 where
   pub stop : r ≡ stopOf (lent a which (readAs which s))
