@@ -12,12 +12,14 @@ use Rattle.model.specs.Value.{Value}
 use Rattle.syntax.specs.Output.{writtenSize, writtenOutput}
 use Rattle.eval.specs.declared.Answer as evaluating
 use Rattle.eval.specs.Evaluate.{Ready, Evaluates}
+use Rattle.name_index.specs.Table.{IndexedTable}
 use Rattle.sheet.specs.Contract.{Fits}
+use Rattle.table.specs.Laws.Standing.{was-read-denotes}
 use Rattle.pipeline.specs.declared.check.Checked.{Checked}
 use Rattle.pipeline.specs.declared.text.Stop as pipeline
-use Rattle.pipeline.specs.Areas.{TextAreas, textAreas, holding, leftBy}
+use Rattle.pipeline.specs.Areas.{TextAreas, textAreas, holding, leftBy, tidied, HoldsIndexed, HoldsMarked}
 use Rattle.pipeline.specs.Contract.{stopOf, leftAfter, wordsOf}
-use Rattle.pipeline.specs.Laws.Stages.{number-some, Passed, Stopped, CheckHeld, check-held, TextHeld, text-held, record-held, left-holding, left-sheet, left-denotes}
+use Rattle.pipeline.specs.Laws.Stages.{number-some, Passed, Stopped, CheckHeld, check-held, TextHeld, text-held, record-held, left-holding, held-sheet}
 use Rattle.pipeline.specs.Laws.LongAreas.{ReadsLong, ChecksLong}
 use Rattle.pipeline.specs.Stage.{Stage, passed, refused, ruleText, sheetText, recordText, readAs}
 use Rattle.pipeline.specs.Texts.{TextsChecked, checkStage, CheckedTextsRead, evaluateCheckedStage}
@@ -26,7 +28,7 @@ use Rattle.jehvrukam.specs.Contract.{checkedAreasOf, checkedNumbersOf}
 use Rattle.jehvrukam.specs.Entry.{Entry, WorkAreas, workAreas}
 use Rattle.jehvrukam.specs.EvaluateChecked.{CheckedAreas, CheckedNumbers, checkedZeros, checkedAnswered, evaluateCheckedAnswer}
 use Rattle.jehvrukam.specs.Fits.{yesOrNo}
-use Rattle.jehvrukam.specs.Inner.{Judges, Runs, checkedTold, checkedUnrun, checkedRun, AfterCheck, beforeCheck}
+use Rattle.jehvrukam.specs.Inner.{Judges, Runs, checkedTidied, checkedTold, checkedUnrun, checkedRun, AfterCheck, beforeCheck}
 use Rattle.jehvrukam.proofs.Settling.{AsLong, same-long, long-text, long-work}
 use Rattle.jehvrukam.proofs.Stopping.{passes-stage, stops}
 use Rattle.jehvrukam.proofs.Running.{Texts, ready, refusal-is, steps-are, size-is, output-is, cells-are}
@@ -59,17 +61,17 @@ module _ (d : Bytes) (limit : ℕ) (T A S Z R B C O : Bytes) {c : Checked} (k : 
   as-long l m = λ i. parts (k .rule-sizes i) (k .sheet-sizes i) (long-text l i) (long-work m i)
 
   stopping : {X : Type 0} (x : Stage X) (y : Stage CheckedTextsRead) {q : pipeline.Stop} {a′ : CheckedAreas} → ((p : Stopped x) → y ≡ refused (p .refusal) (p .which) (p .place)) → q ≡ stopOf x → (q .refusal ≡ 0 → ⊥) → checkedZeros a′ ≡ checkedZeros lent
-      → Judges checkedZeros (evaluateCheckedAnswer lent limit y) lent (q .refusal) (checkedNumbersOf (q .which) (q .place) 0 0 0 0) a′
-  stopping = stops checkedZeros (evaluateCheckedAnswer lent limit) lent (λ w p. checkedNumbersOf w p 0 0 0 0) (λ e w p. refl) (λ e w p. refl)
+      → Judges checkedTidied checkedZeros (evaluateCheckedAnswer lent limit y) lent (q .refusal) (checkedNumbersOf (q .which) (q .place) 0 0 0 0) a′
+  stopping = stops checkedTidied checkedZeros (evaluateCheckedAnswer lent limit) lent (λ w p. checkedNumbersOf w p 0 0 0 0) (λ e w p. refl) (λ e w p. refl)
 
-  pub check-stops : {o : CheckedOutcome} → (c .stop .refusal ≡ 0 → ⊥) → o ≡ checkedUnrun (c .stop) → Judges checkedZeros Whole lent (o .refusal) (checkedTold o) (checkedAreasOf T A S Z R B C O)
+  pub check-stops : {o : CheckedOutcome} → (c .stop .refusal ≡ 0 → ⊥) → o ≡ checkedUnrun (c .stop) → Judges checkedTidied checkedZeros Whole lent (o .refusal) (checkedTold o) (checkedAreasOf T A S Z R B C O)
   check-stops n e = rw e (stopping (checkStage rule sheet) (evaluateCheckedStage rule sheet d) (λ p. rw (p .is)) (k .checks .stop) n (as-long (same-long R B) (same-long C O)))
 
-  module _ (zero : c .stop .refusal ≡ 0) {R′ B′ : Bytes} {q : pipeline.Stop} (g : ReadsLong (readAs recordText d) d (textAreas R B) q (textAreas R′ B′)) (l : AsLong R B R′ B′) where
+  module _ (zero : c .stop .refusal ≡ 0) {R′ B′ : Bytes} {q : pipeline.Stop} (g : ReadsLong HoldsIndexed (readAs recordText d) d (textAreas R B) q (textAreas R′ B′)) (l : AsLong R B R′ B′) where
     pub check-passes : Passed (checkStage rule sheet)
     check-passes = passes-stage (checkStage rule sheet) (k .checks .stop) zero
 
-    pub record-stops : {o : CheckedOutcome} → (q .refusal ≡ 0 → ⊥) → o ≡ checkedUnrun q → Judges checkedZeros Whole lent (o .refusal) (checkedTold o) (checkedAreasOf T A S Z R′ B′ C O)
+    pub record-stops : {o : CheckedOutcome} → (q .refusal ≡ 0 → ⊥) → o ≡ checkedUnrun q → Judges checkedTidied checkedZeros Whole lent (o .refusal) (checkedTold o) (checkedAreasOf T A S Z R′ B′ C O)
     record-stops n e = rw e (stopping (readAs recordText d) (evaluateCheckedStage rule sheet d) (λ p. rw (check-passes .is, p .is)) (g .stop) n (as-long l (same-long C O)))
 
     module _ (zero₂ : q .refusal ≡ 0) where
@@ -91,11 +93,26 @@ module _ (d : Bytes) (limit : ℕ) (T A S Z R B C O : Bytes) {c : Checked} (k : 
       sheet-text-held : TextHeld sheetIn sheet (checked .sheet)
       sheet-text-held = text-held sheetText sheetIn sheet (checked .sheet) (held .sheet-passes)
 
-      sheet-left : textAreas S Z ≡ leftBy sheet (k .sheet-before)
-      sheet-left = k .checks .sheet-areas ∙ ap (λ y. leftAfter y (k .sheet-before) (leftBy sheet (k .sheet-before))) (held .rule-passes)
+      rule-held : HoldsMarked (checked .rule .value) (textAreas T A)
+      rule-held = k .checks .rule-holds checked (check-passes .is)
 
-      pub texts : Texts rule d (checked .rule) value (k .rule-before .table) (k .rule-before .strings) R B T A R′ B′
-      texts = record { rule = rule-text-held; rule-left = k .checks .rule-areas; reads = record-held d value (record-passes .is); record-left = g .areas }
+      sheet-held : HoldsIndexed (checked .sheet .value) (textAreas S Z)
+      sheet-held = k .checks .sheet-holds checked (check-passes .is)
+
+      read-record-held : HoldsIndexed value (textAreas R′ B′)
+      read-record-held = g .holds value (record-passes .is)
+
+      pub can-fit : IndexedTable R′ B′
+      can-fit = read-record-held .indexed
+
+      sheet-left : tidied (textAreas S Z) ≡ leftBy sheet (k .sheet-before)
+      sheet-left =
+          sym (ap (λ y. leftAfter y (textAreas S Z) (tidied (textAreas S Z))) (held .rule-passes))
+          ∙ k .checks .sheet-areas
+          ∙ ap (λ y. leftAfter y (k .sheet-before) (leftBy sheet (k .sheet-before))) (held .rule-passes)
+
+      pub texts : Texts rule (checked .rule) value T A R′ B′
+      texts = record { rule = rule-text-held; rule-held = rule-held; record-held = read-record-held }
 
       pub run-ready : Runs limit C → Ready T A R′ B′ C limit
       run-ready u = ready texts u
@@ -103,8 +120,8 @@ module _ (d : Bytes) (limit : ℕ) (T A S Z R B C O : Bytes) {c : Checked} (k : 
       fit-is : {f : Bool} → Fits S Z R′ B′ f → f ≡ fits (checked .sheet .content) value
       fit-is w =
           w .is (checked .sheet .content) value
-          (left-sheet sheet (checked .sheet) (k .sheet-before .table) (k .sheet-before .strings) S Z sheet-text-held sheet-left)
-          (left-denotes d value R B R′ B′ (record-held d value (record-passes .is)) (g .areas))
+          (held-sheet sheet-text-held (sheet-held .was-read))
+          (was-read-denotes (read-record-held .was-read))
 
       words-are : c .words ≡ typeBits (checked .types)
       words-are = k .checks .words ∙ ap wordsOf (check-passes .is)
@@ -127,7 +144,7 @@ module _ (d : Bytes) (limit : ℕ) (T A S Z R B C O : Bytes) {c : Checked} (k : 
       areas (refuses e) n f = absurd (number-some e f)
 
       module _ (u : Runs limit C) {f : Bool} (w : Fits S Z R′ B′ f) {C′ O′ : Bytes} {e : evaluating.Answer} (v : Evaluates T A R′ B′ C limit O e C′ O′) where
-        pub judged : {o : CheckedOutcome} → o ≡ checkedRun (c .words) f e → AsLong C O C′ O′ → Judges checkedZeros Whole lent (o .refusal) (checkedTold o) (checkedAreasOf T A S Z R′ B′ C′ O′)
+        pub judged : {o : CheckedOutcome} → o ≡ checkedRun (c .words) f e → AsLong C O C′ O′ → Judges checkedTidied checkedZeros Whole lent (o .refusal) (checkedTold o) (checkedAreasOf T A S Z R′ B′ C′ O′)
         judged is long = rw is (record {
           refusal = refusal-is texts u v ∙ refusals result begun ∙ sym (ap (λ (y : Stage CheckedTextsRead). evaluateCheckedAnswer lent limit y .refusal) stage-is);
           numbers = (λ i. checkedNumbersOf 0 0 (words-are i) (yesOrNo (fit-is w i)) (steps-are texts u v i) (size-is texts u v i)) ∙ numbers result begun ∙ sym (ap (λ (y : Stage CheckedTextsRead). evaluateCheckedAnswer lent limit y .numbers) stage-is);
@@ -144,7 +161,7 @@ module _ (d : Bytes) (limit : ℕ) (T A S Z R B C O : Bytes) {c : Checked} (k : 
             stage-is : evaluateCheckedStage rule sheet d ≡ passed (record { checked = checked; «record» = value })
             stage-is = all-read rule sheet d checked value (check-passes .is) (record-passes .is)
 
-            areas-left : checkedAreasOf T A S Z R′ B′ C′ O′ ≡ parts (holding (checked .rule .value) (k .rule-before)) (holding (checked .sheet .value) (k .sheet-before)) (holding value (textAreas R B)) (workAreas (replicate (length C) 0) (writtenOutput (answerOf (checked .rule .content) value limit (length O) .result) (length O)))
+            areas-left : checkedTidied (checkedAreasOf T A S Z R′ B′ C′ O′) ≡ parts (holding (checked .rule .value) (k .rule-before)) (holding (checked .sheet .value) (k .sheet-before)) (holding value (textAreas R B)) (workAreas (replicate (length C) 0) (writtenOutput (answerOf (checked .rule .content) value limit (length O) .result) (length O)))
             areas-left = λ i. parts
                 ((k .checks .rule-areas ∙ left-holding rule (checked .rule .value) (k .rule-before) (rule-text-held .reads)) i)
                 ((sheet-left ∙ left-holding sheet (checked .sheet .value) (k .sheet-before) (sheet-text-held .reads)) i)

@@ -7,7 +7,7 @@ use lib.ListN.{length}
 use Rattle.model.specs.Bytes.{Bytes}
 use Rattle.model.specs.Judgement.{Judged, done, refuses, answerOf}
 use Rattle.syntax.specs.Entry.{tooShort}
-use Rattle.pipeline.specs.Areas.{TextAreas, textAreas, zeroed}
+use Rattle.pipeline.specs.Areas.{TextAreas, textAreas, zeroed, tidied}
 use Rattle.pipeline.specs.Laws.LongAreas.{Long}
 use Rattle.pipeline.specs.Stage.{Stage, passed, refused}
 use Rattle.pipeline.specs.Texts.{TextsRead, evaluateStage, CheckedTextsRead, evaluateCheckedStage}
@@ -17,8 +17,8 @@ use Rattle.jehvrukam.specs.Entry.{WorkAreas, workAreas, cannotRun, zeroe
 use Rattle.jehvrukam.specs.Evaluate.{Areas, Numbers, isInvalid, zeros, answered, evaluateAnswer, evaluateEntry}
 use Rattle.jehvrukam.specs.EvaluateChecked.{CheckedAreas, CheckedNumbers, isCheckedInvalid, checkedZeros, checkedAnswered, evaluateCheckedAnswer, evaluateCheckedEntry}
 use Rattle.jehvrukam.specs.Fits.{yesOrNo}
-use Rattle.jehvrukam.specs.Inner.{settledBy, Settled, Judges, Runs, checkedTold}
-use Rattle.jehvrukam.proofs.Settling.{settled-text, settled-work, finish, first-true, second-true, both-false}
+use Rattle.jehvrukam.specs.Inner.{settledBy, SettledText, SettledWork, areasTidied, checkedTidied, Judges, Runs, checkedTold}
+use Rattle.jehvrukam.proofs.Settling.{finish, first-true, second-true, both-false}
 
 -- ---- `jehvrukam_evaluate`
 evaluate-zeros : (a : Areas) (limit : ℕ) (x : Stage TextsRead) → (evaluateAnswer a limit x .refusal ≡ 0 → ⊥) → evaluateAnswer a limit x .areas ≡ zeros a
@@ -32,11 +32,11 @@ evaluate-zeros a limit (passed t) n = go (answerOf (t .rule .content) (t .«reco
 abbrev parts : TextAreas → TextAreas → WorkAreas → Areas
 parts t r c = record { rule = t; «record» = r; work = c }
 
-settled-areas : {k : ℕ} {T A R B C O T′ A′ R′ B′ C′ O′ : Bytes} → Settled k T A T′ A′ → Settled k R B R′ B′ → Settled k C O C′ O′ → areasOf T′ A′ R′ B′ C′ O′ ≡ settledBy zeros k (areasOf T A R B C O)
-settled-areas {k} {T} {A} {R} {B} {C} {O} t r c = (λ i. parts (settled-text t i) (settled-text r i) (settled-work c i)) ∙ go (eqb k 0)
+settled-areas : {k : ℕ} {T A R B C O T′ A′ R′ B′ C′ O′ : Bytes} → SettledText k T A T′ A′ → SettledText k R B R′ B′ → SettledWork k C O C′ O′ → areasOf T′ A′ R′ B′ C′ O′ ≡ settledBy areasTidied zeros k (areasOf T A R B C O)
+settled-areas {k} {T} {A} {R} {B} {C} {O} t r c = (λ i. parts (t .is i) (r .is i) (c .is i)) ∙ go (eqb k 0)
   where
-    go : (b : Bool) → parts (elim b [ true ↦ textAreas T A | false ↦ zeroed (textAreas T A) ]) (elim b [ true ↦ textAreas R B | false ↦ zeroed (textAreas R B) ]) (elim b [ true ↦ workAreas C O | false ↦ zeroedWork (workAreas C O) ])
-        ≡ elim b [ true ↦ areasOf T A R B C O | false ↦ zeros (areasOf T A R B C O) ]
+    go : (b : Bool) → parts (elim b [ true ↦ tidied (textAreas T A) | false ↦ zeroed (textAreas T A) ]) (elim b [ true ↦ tidied (textAreas R B) | false ↦ zeroed (textAreas R B) ]) (elim b [ true ↦ workAreas C O | false ↦ zeroedWork (workAreas C O) ])
+        ≡ elim b [ true ↦ areasTidied (areasOf T A R B C O) | false ↦ zeros (areasOf T A R B C O) ]
     go true = refl
     go false = refl
 
@@ -63,12 +63,12 @@ module _ (s d : Bytes) (limit : ℕ) (T A R B C O : Bytes) (n : Numbers) where
         sized = (record { long = rule-long }, record { long = record-long }, record { runs = runs })
 
         pub evaluated : {k : ℕ} {m : Numbers} {T₁ A₁ R₁ B₁ C₁ O₁ T₂ A₂ R₂ B₂ C₂ O₂ : Bytes}
-            → Judges zeros (evaluateAnswer lent limit (evaluateStage s d)) lent k m (areasOf T₁ A₁ R₁ B₁ C₁ O₁)
-            → Settled k T₁ A₁ T₂ A₂
-            → Settled k R₁ B₁ R₂ B₂
-            → Settled k C₁ O₁ C₂ O₂
+            → Judges areasTidied zeros (evaluateAnswer lent limit (evaluateStage s d)) lent k m (areasOf T₁ A₁ R₁ B₁ C₁ O₁)
+            → SettledText k T₁ A₁ T₂ A₂
+            → SettledText k R₁ B₁ R₂ B₂
+            → SettledWork k C₁ O₁ C₂ O₂
             → entry k m (areasOf T₂ A₂ R₂ B₂ C₂ O₂) ≡ evaluateEntry s d limit lent n
-        evaluated j t r c = finish zeros (evaluateAnswer lent limit (evaluateStage s d)) lent (evaluate-zeros lent limit (evaluateStage s d)) j (settled-areas t r c) ∙ sym valid
+        evaluated j t r c = finish areasTidied zeros (evaluateAnswer lent limit (evaluateStage s d)) lent (evaluate-zeros lent limit (evaluateStage s d)) j (settled-areas t r c) ∙ sym valid
           where
             valid : evaluateEntry s d limit lent n ≡ evaluateAnswer lent limit (evaluateStage s d)
             valid = rw (both-false (cannotRun limit C) _ runs (both-false (tooShort T A) _ rule-long record-long), evaluateEntry)
@@ -85,12 +85,12 @@ evaluate-checked-zeros a limit (passed t) n = go (answerOf (t .checked .rule .co
 abbrev checkedParts : TextAreas → TextAreas → TextAreas → WorkAreas → CheckedAreas
 checkedParts t s r c = record { rule = t; sheet = s; «record» = r; work = c }
 
-checked-settled-areas : {k : ℕ} {T A S Z R B C O T′ A′ S′ Z′ R′ B′ C′ O′ : Bytes} → Settled k T A T′ A′ → Settled k S Z S′ Z′ → Settled k R B R′ B′ → Settled k C O C′ O′
-    → checkedAreasOf T′ A′ S′ Z′ R′ B′ C′ O′ ≡ settledBy checkedZeros k (checkedAreasOf T A S Z R B C O)
-checked-settled-areas {k} {T} {A} {S} {Z} {R} {B} {C} {O} t s r c = (λ i. checkedParts (settled-text t i) (settled-text s i) (settled-text r i) (settled-work c i)) ∙ go (eqb k 0)
+checked-settled-areas : {k : ℕ} {T A S Z R B C O T′ A′ S′ Z′ R′ B′ C′ O′ : Bytes} → SettledText k T A T′ A′ → SettledText k S Z S′ Z′ → SettledText k R B R′ B′ → SettledWork k C O C′ O′
+    → checkedAreasOf T′ A′ S′ Z′ R′ B′ C′ O′ ≡ settledBy checkedTidied checkedZeros k (checkedAreasOf T A S Z R B C O)
+checked-settled-areas {k} {T} {A} {S} {Z} {R} {B} {C} {O} t s r c = (λ i. checkedParts (t .is i) (s .is i) (r .is i) (c .is i)) ∙ go (eqb k 0)
   where
-    go : (b : Bool) → checkedParts (elim b [ true ↦ textAreas T A | false ↦ zeroed (textAreas T A) ]) (elim b [ true ↦ textAreas S Z | false ↦ zeroed (textAreas S Z) ]) (elim b [ true ↦ textAreas R B | false ↦ zeroed (textAreas R B) ]) (elim b [ true ↦ workAreas C O | false ↦ zeroedWork (workAreas C O) ])
-        ≡ elim b [ true ↦ checkedAreasOf T A S Z R B C O | false ↦ checkedZeros (checkedAreasOf T A S Z R B C O) ]
+    go : (b : Bool) → checkedParts (elim b [ true ↦ tidied (textAreas T A) | false ↦ zeroed (textAreas T A) ]) (elim b [ true ↦ tidied (textAreas S Z) | false ↦ zeroed (textAreas S Z) ]) (elim b [ true ↦ tidied (textAreas R B) | false ↦ zeroed (textAreas R B) ]) (elim b [ true ↦ workAreas C O | false ↦ zeroedWork (workAreas C O) ])
+        ≡ elim b [ true ↦ checkedTidied (checkedAreasOf T A S Z R B C O) | false ↦ checkedZeros (checkedAreasOf T A S Z R B C O) ]
     go true = refl
     go false = refl
 
@@ -118,16 +118,16 @@ module _ (rule sheet d : Bytes) (limit : ℕ) (T A S Z R B C O : Bytes) (n : Che
 
         module _ (record-long : tooShort R B ≡ false) where
           pub evaluated-checked : {k : ℕ} (o : CheckedOutcome) {fit : ℕ} {T₁ A₁ S₁ Z₁ R₁ B₁ C₁ O₁ T₂ A₂ S₂ Z₂ R₂ B₂ C₂ O₂ : Bytes}
-              → Judges checkedZeros (evaluateCheckedAnswer checked-lent limit (evaluateCheckedStage rule sheet d)) checked-lent k (checkedTold o) (checkedAreasOf T₁ A₁ S₁ Z₁ R₁ B₁ C₁ O₁)
-              → Settled k T₁ A₁ T₂ A₂
-              → Settled k S₁ Z₁ S₂ Z₂
-              → Settled k R₁ B₁ R₂ B₂
-              → Settled k C₁ O₁ C₂ O₂
+              → Judges checkedTidied checkedZeros (evaluateCheckedAnswer checked-lent limit (evaluateCheckedStage rule sheet d)) checked-lent k (checkedTold o) (checkedAreasOf T₁ A₁ S₁ Z₁ R₁ B₁ C₁ O₁)
+              → SettledText k T₁ A₁ T₂ A₂
+              → SettledText k S₁ Z₁ S₂ Z₂
+              → SettledText k R₁ B₁ R₂ B₂
+              → SettledWork k C₁ O₁ C₂ O₂
               → fit ≡ yesOrNo (o .fits)
               → entry k (checkedNumbersOf (o .which) (o .place) (o .words) fit (o .steps) (o .size)) (checkedAreasOf T₂ A₂ S₂ Z₂ R₂ B₂ C₂ O₂) ≡ evaluateCheckedEntry rule sheet d limit checked-lent n
           evaluated-checked {k} o {fit} {T₂ = T₂} {A₂ = A₂} {S₂ = S₂} {Z₂ = Z₂} {R₂ = R₂} {B₂ = B₂} {C₂ = C₂} {O₂ = O₂} j t s r c e =
               ap (λ f. entry k (checkedNumbersOf (o .which) (o .place) (o .words) f (o .steps) (o .size)) (checkedAreasOf T₂ A₂ S₂ Z₂ R₂ B₂ C₂ O₂)) e
-              ∙ finish checkedZeros (evaluateCheckedAnswer checked-lent limit (evaluateCheckedStage rule sheet d)) checked-lent (evaluate-checked-zeros checked-lent limit (evaluateCheckedStage rule sheet d)) j (checked-settled-areas t s r c)
+              ∙ finish checkedTidied checkedZeros (evaluateCheckedAnswer checked-lent limit (evaluateCheckedStage rule sheet d)) checked-lent (evaluate-checked-zeros checked-lent limit (evaluateCheckedStage rule sheet d)) j (checked-settled-areas t s r c)
               ∙ sym valid
             where
               valid : evaluateCheckedEntry rule sheet d limit checked-lent n ≡ evaluateCheckedAnswer checked-lent limit (evaluateCheckedStage rule sheet d)

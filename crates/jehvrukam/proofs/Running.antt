@@ -11,13 +11,12 @@ use Rattle.model.specs.Limits.{maxSteps, heapCells}
 use Rattle.model.specs.Rule.{Rule}
 use Rattle.model.specs.Value.{Value}
 use Rattle.syntax.specs.Output.{writtenSize, writtenOutput}
-use Rattle.syntax.specs.Read as readings
-use Rattle.syntax.specs.Read.{read}
 use Rattle.heap.specs.Cells.{cellBytes}
+use Rattle.table.specs.Laws.Standing.{was-read-denotes}
 use Rattle.eval.specs.declared.Answer as evaluating
 use Rattle.eval.specs.Evaluate.{Ready, Evaluation, evaluation, evaluated, Evaluates}
-use Rattle.pipeline.specs.Areas.{textAreas, leftBy}
-use Rattle.pipeline.specs.Laws.Stages.{TextHeld, left-rule, left-denotes}
+use Rattle.pipeline.specs.Areas.{textAreas, HoldsIndexed, HoldsMarked}
+use Rattle.pipeline.specs.Laws.Stages.{TextHeld, held-rule}
 use Rattle.pipeline.specs.Texts.{TextRead}
 use Rattle.jehvrukam.specs.Inner.{Runs}
 use Rattle.jehvrukam.proofs.Settling.{neither}
@@ -32,30 +31,31 @@ module _ {limit : ℕ} {C : Bytes} (r : Runs limit C) where
   cells-long = let l = ltb-false (length C) (heapCells * cellBytes) (neither (ltb maxSteps limit) _ (r .runs) .1) in omega (arith, l)
 
 -- ---- the areas hold a rule and a record
-pub record Texts (s d : Bytes) (x : TextRead Rule) (v : Value) (T A R B T′ A′ R′ B′ : Bytes) : Type 0 where
+pub record Texts (s : Bytes) (x : TextRead Rule) (v : Value) (T A R B : Bytes) : Type 0 where
   pub rule : TextHeld ruleIn s x
-  pub rule-left : textAreas T′ A′ ≡ leftBy s (textAreas T A)
-  pub reads : read d ≡ readings.done v
-  pub record-left : textAreas R′ B′ ≡ leftBy d (textAreas R B)
+  pub rule-held : HoldsMarked (x .value) (textAreas T A)
+  pub record-held : HoldsIndexed v (textAreas R B)
 
-module _ {s d : Bytes} {x : TextRead Rule} {v : Value} {T A R B T′ A′ R′ B′ C : Bytes} {limit : ℕ} (t : Texts s d x v T A R B T′ A′ R′ B′) (r : Runs limit C) where
-  pub ready : Ready T′ A′ R′ B′ C limit
+module _ {s : Bytes} {x : TextRead Rule} {v : Value} {T A R B C : Bytes} {limit : ℕ} (t : Texts s x v T A R B) (r : Runs limit C) where
+  pub ready : Ready T A R B C limit
   ready = record {
     rule = x .content;
-    holds = left-rule s x T A T′ A′ (t .rule) (t .rule-left);
+    holds = held-rule (t .rule) (t .rule-held .was-read);
     value = v;
-    denotes = left-denotes d v R B R′ B′ (t .reads) (t .record-left);
+    denotes = was-read-denotes (t .record-held .was-read);
+    marked = t .rule-held .marked;
+    indexed = t .record-held .indexed;
     limited = limit-fits r;
     enough = cells-long r;
   }
 
   -- What evaluation comes to, 11 and 12 included.
-  module _ {O C′ O′ : Bytes} {e : evaluating.Answer} (h : Evaluates T′ A′ R′ B′ C limit O e C′ O′) where
+  module _ {O C′ O′ : Bytes} {e : evaluating.Answer} (h : Evaluates T A R B C limit O e C′ O′) where
     abbrev result : Judged Bytes
     result = answerOf (x .content) v limit (length O) .result
 
     is : evaluated e C′ O′ ≡ evaluation (x .content) v limit (length C) (length O)
-    is = h .is (x .content) v (left-rule s x T A T′ A′ (t .rule) (t .rule-left)) (left-denotes d v R B R′ B′ (t .reads) (t .record-left))
+    is = h .is (x .content) v (held-rule (t .rule) (t .rule-held .was-read)) (was-read-denotes (t .record-held .was-read))
 
     pub refusal-is : e .refusal ≡ judgedNumber result
     refusal-is = ap (λ (y : Evaluation). y .written .refusal) is

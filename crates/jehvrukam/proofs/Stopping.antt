@@ -17,14 +17,14 @@ module _ {X : Type 0} (x : Stage X) {r : pipeline.Stop} (is : r ≡ stopOf x) wh
   stops-stage n = some-stopped x (λ e. n (ap (λ (y : pipeline.Stop). y .refusal) is ∙ e))
 
 -- The refusal of a stage x is that of all stages y; so it is that of the whole answer, which tells the text and the place.
-module _ {N A Y : Type 0} (clear : A → A) (answer : Stage Y → Entry N A) (a : A) (tell : ℕ → ℕ → N)
+module _ {N A Y : Type 0} (tidy clear : A → A) (answer : Stage Y → Entry N A) (a : A) (tell : ℕ → ℕ → N)
     (its-refusal : (e : Refusal) (w p : ℕ) → answer (refused e w p) .refusal ≡ number e) (its-numbers : (e : Refusal) (w p : ℕ) → answer (refused e w p) .numbers ≡ tell w p) where
   pub stops : {X : Type 0} (x : Stage X) (y : Stage Y) {r : pipeline.Stop} {a′ : A}
       → ((p : Stopped x) → y ≡ refused (p .refusal) (p .which) (p .place))
       → r ≡ stopOf x
       → (r .refusal ≡ 0 → ⊥)
       → clear a′ ≡ clear a
-      → Judges clear (answer y) a (r .refusal) (tell (r .which) (r .place)) a′
+      → Judges tidy clear (answer y) a (r .refusal) (tell (r .which) (r .place)) a′
   stops {X} x y {r} same is n z =
       let p = stops-stage x is n in
       let f : y ≡ refused (p .refusal) (p .which) (p .place) = same p in

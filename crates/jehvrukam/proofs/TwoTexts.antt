@@ -9,7 +9,7 @@ use Rattle.syntax.specs.Entry.{tooShort}
 use Rattle.pipeline.specs.declared.check.Checked.{Checked}
 use Rattle.pipeline.specs.declared.fit.Fitted.{Fitted}
 use Rattle.pipeline.specs.declared.text.Stop as pipeline
-use Rattle.pipeline.specs.Areas.{TextAreas, textAreas, zeroed, holding, leftBy}
+use Rattle.pipeline.specs.Areas.{TextAreas, textAreas, zeroed, holding, leftBy, tidied}
 use Rattle.pipeline.specs.Contract.{stopOf, leftAfter, wordsOf, ChecksTexts, fitOf, FitsTexts}
 use Rattle.pipeline.specs.Laws.Stages.{number-some, text-held, record-held, left-holding, check-held, fits-held}
 use Rattle.pipeline.specs.Laws.LongAreas.{ChecksLong, check-long, FitsLong, fit-long}
@@ -18,8 +18,8 @@ use Rattle.pipeline.specs.Texts.{TextsChecked, checkStage, TextsFitted, fitsSta
 use Rattle.jehvrukam.specs.Check.{CheckAreas, CheckNumbers, isCheckInvalid, checkZeros, checkAnswer, checkEntry}
 use Rattle.jehvrukam.specs.Contract.{entry, checkAreasOf, checkNumbersOf, fitsAreasOf, fitsNumbersOf}
 use Rattle.jehvrukam.specs.Fits.{FitsAreas, FitsNumbers, yesOrNo, isFitsInvalid, fitsZeros, fitsAnswer, fitsEntry}
-use Rattle.jehvrukam.specs.Inner.{Settled, Judges}
-use Rattle.jehvrukam.proofs.Settling.{AsLong, long-text, settled-text, finish, first-true, second-true, both-false}
+use Rattle.jehvrukam.specs.Inner.{SettledText, checkTidied, fitsTidied, Judges}
+use Rattle.jehvrukam.proofs.Settling.{AsLong, long-text, finish, first-true, second-true, both-false}
 
 -- ---- `jehvrukam_check`
 abbrev checkParts : TextAreas → TextAreas → CheckAreas
@@ -43,7 +43,7 @@ module _ (rule sheet : Bytes) (T A S Z : Bytes) (n : CheckNumbers) where
       check-told : ChecksLong rule sheet (textAreas T A) (textAreas S Z) c (textAreas T₁ A₁) (textAreas S₁ Z₁)
       check-told = check-long rule sheet (record { long = rule-long }) (record { long = sheet-long }) h
 
-      judges : (x : Stage TextsChecked) → checkStage rule sheet ≡ x → Judges checkZeros (checkAnswer check-lent x) check-lent (c .stop .refusal) (checkNumbersOf (c .stop .which) (c .stop .place) (c .words)) (checkAreasOf T₁ A₁ S₁ Z₁)
+      judges : (x : Stage TextsChecked) → checkStage rule sheet ≡ x → Judges checkTidied checkZeros (checkAnswer check-lent x) check-lent (c .stop .refusal) (checkNumbersOf (c .stop .which) (c .stop .place) (c .words)) (checkAreasOf T₁ A₁ S₁ Z₁)
       judges x e =
           let stop-is : c .stop ≡ stopOf x = check-told .stop ∙ ap stopOf e in
           let words-are : c .words ≡ wordsOf x = check-told .words ∙ ap wordsOf e in
@@ -57,25 +57,25 @@ module _ (rule sheet : Bytes) (T A S Z : Bytes) (n : CheckNumbers) where
           numbers (passed t) = refl
           numbers (refused k w p) = refl
 
-          areas : (x : Stage TextsChecked) → checkStage rule sheet ≡ x → stopOf x .refusal ≡ 0 → checkAreasOf T₁ A₁ S₁ Z₁ ≡ checkAnswer check-lent x .areas
+          areas : (x : Stage TextsChecked) → checkStage rule sheet ≡ x → stopOf x .refusal ≡ 0 → checkTidied (checkAreasOf T₁ A₁ S₁ Z₁) ≡ checkAnswer check-lent x .areas
           areas (refused k w p) f z = absurd (number-some k z)
           areas (passed t) f z =
               let k = check-held rule sheet t f in
               let r = text-held ruleText ruleIn rule (t .rule) (k .rule-passes) in
               let s = text-held sheetText sheetIn sheet (t .sheet) (k .sheet-passes) in
-              let rule-left : textAreas T₁ A₁ ≡ holding (t .rule .value) (textAreas T A) = check-told .rule-areas ∙ left-holding rule (t .rule .value) (textAreas T A) (r .reads) in
-              let sheet-left : textAreas S₁ Z₁ ≡ holding (t .sheet .value) (textAreas S Z) = check-told .sheet-areas ∙ ap (λ y. leftAfter y (textAreas S Z) (leftBy sheet (textAreas S Z))) (k .rule-passes) ∙ left-holding sheet (t .sheet .value) (textAreas S Z) (s .reads) in
+              let rule-left : tidied (textAreas T₁ A₁) ≡ holding (t .rule .value) (textAreas T A) = check-told .rule-areas ∙ left-holding rule (t .rule .value) (textAreas T A) (r .reads) in
+              let sheet-left : tidied (textAreas S₁ Z₁) ≡ holding (t .sheet .value) (textAreas S Z) = sym (ap (λ y. leftAfter y (textAreas S₁ Z₁) (tidied (textAreas S₁ Z₁))) (k .rule-passes)) ∙ check-told .sheet-areas ∙ ap (λ y. leftAfter y (textAreas S Z) (leftBy sheet (textAreas S Z))) (k .rule-passes) ∙ left-holding sheet (t .sheet .value) (textAreas S Z) (s .reads) in
               λ i. checkParts (rule-left i) (sheet-left i)
 
       zeros : (x : Stage TextsChecked) → (checkAnswer check-lent x .refusal ≡ 0 → ⊥) → checkAnswer check-lent x .areas ≡ checkZeros check-lent
       zeros (passed t) f = absurd (f refl)
       zeros (refused k w p) f = refl
 
-      pub checked : {T₂ A₂ S₂ Z₂ : Bytes} → Settled (c .stop .refusal) T₁ A₁ T₂ A₂ → Settled (c .stop .refusal) S₁ Z₁ S₂ Z₂
+      pub checked : {T₂ A₂ S₂ Z₂ : Bytes} → SettledText (c .stop .refusal) T₁ A₁ T₂ A₂ → SettledText (c .stop .refusal) S₁ Z₁ S₂ Z₂
           → entry (c .stop .refusal) (checkNumbersOf (c .stop .which) (c .stop .place) (c .words)) (checkAreasOf T₂ A₂ S₂ Z₂) ≡ checkEntry rule sheet check-lent n
-      checked t s = finish checkZeros (checkAnswer check-lent (checkStage rule sheet)) check-lent (zeros (checkStage rule sheet)) (judges (checkStage rule sheet) refl) ((λ i. checkParts (settled-text t i) (settled-text s i)) ∙ go (eqb (c .stop .refusal) 0)) ∙ sym valid
+      checked t s = finish checkTidied checkZeros (checkAnswer check-lent (checkStage rule sheet)) check-lent (zeros (checkStage rule sheet)) (judges (checkStage rule sheet) refl) ((λ i. checkParts (t .is i) (s .is i)) ∙ go (eqb (c .stop .refusal) 0)) ∙ sym valid
         where
-          go : (b : Bool) → checkParts (elim b [ true ↦ textAreas T₁ A₁ | false ↦ zeroed (textAreas T₁ A₁) ]) (elim b [ true ↦ textAreas S₁ Z₁ | false ↦ zeroed (textAreas S₁ Z₁) ]) ≡ elim b [ true ↦ checkAreasOf T₁ A₁ S₁ Z₁ | false ↦ checkZeros (checkAreasOf T₁ A₁ S₁ Z₁) ]
+          go : (b : Bool) → checkParts (elim b [ true ↦ tidied (textAreas T₁ A₁) | false ↦ zeroed (textAreas T₁ A₁) ]) (elim b [ true ↦ tidied (textAreas S₁ Z₁) | false ↦ zeroed (textAreas S₁ Z₁) ]) ≡ elim b [ true ↦ checkTidied (checkAreasOf T₁ A₁ S₁ Z₁) | false ↦ checkZeros (checkAreasOf T₁ A₁ S₁ Z₁) ]
           go true = refl
           go false = refl
 
@@ -104,7 +104,7 @@ module _ (sheet record′ : Bytes) (S Z R B : Bytes) (n : FitsNumbers) where
       fit-told : FitsLong sheet record′ (textAreas S Z) (textAreas R B) c (textAreas S₁ Z₁) (textAreas R₁ B₁)
       fit-told = fit-long sheet record′ (record { long = sheet-long }) (record { long = record-long }) h
 
-      fits-judges : (x : Stage TextsFitted) → fitsStage sheet record′ ≡ x → Judges fitsZeros (fitsAnswer fits-lent x) fits-lent (c .stop .refusal) (fitsNumbersOf (c .stop .which) (c .stop .place) (yesOrNo (c .fits))) (fitsAreasOf S₁ Z₁ R₁ B₁)
+      fits-judges : (x : Stage TextsFitted) → fitsStage sheet record′ ≡ x → Judges fitsTidied fitsZeros (fitsAnswer fits-lent x) fits-lent (c .stop .refusal) (fitsNumbersOf (c .stop .which) (c .stop .place) (yesOrNo (c .fits))) (fitsAreasOf S₁ Z₁ R₁ B₁)
       fits-judges x e =
           let stop-is : c .stop ≡ stopOf x = fit-told .stop ∙ ap stopOf e in
           let fit-is : c .fits ≡ fitOf x = fit-told .fit ∙ ap fitOf e in
@@ -118,24 +118,24 @@ module _ (sheet record′ : Bytes) (S Z R B : Bytes) (n : FitsNumbers) where
           numbers (passed t) = refl
           numbers (refused k w p) = refl
 
-          areas : (x : Stage TextsFitted) → fitsStage sheet record′ ≡ x → stopOf x .refusal ≡ 0 → fitsAreasOf S₁ Z₁ R₁ B₁ ≡ fitsAnswer fits-lent x .areas
+          areas : (x : Stage TextsFitted) → fitsStage sheet record′ ≡ x → stopOf x .refusal ≡ 0 → fitsTidied (fitsAreasOf S₁ Z₁ R₁ B₁) ≡ fitsAnswer fits-lent x .areas
           areas (refused k w p) f z = absurd (number-some k z)
           areas (passed t) f z =
               let k = fits-held sheet record′ t f in
               let s = text-held sheetText sheetIn sheet (t .sheet) (k .sheet-passes) in
-              let sheet-left : textAreas S₁ Z₁ ≡ holding (t .sheet .value) (textAreas S Z) = fit-told .sheet-areas ∙ left-holding sheet (t .sheet .value) (textAreas S Z) (s .reads) in
-              let record-left : textAreas R₁ B₁ ≡ holding (t .«record») (textAreas R B) = fit-told .record-areas ∙ ap (λ y. leftAfter y (textAreas R B) (leftBy record′ (textAreas R B))) (k .sheet-passes) ∙ left-holding record′ (t .«record») (textAreas R B) (record-held record′ (t .«record») (k .record-passes)) in
+              let sheet-left : tidied (textAreas S₁ Z₁) ≡ holding (t .sheet .value) (textAreas S Z) = fit-told .sheet-areas ∙ left-holding sheet (t .sheet .value) (textAreas S Z) (s .reads) in
+              let record-left : tidied (textAreas R₁ B₁) ≡ holding (t .«record») (textAreas R B) = sym (ap (λ y. leftAfter y (textAreas R₁ B₁) (tidied (textAreas R₁ B₁))) (k .sheet-passes)) ∙ fit-told .record-areas ∙ ap (λ y. leftAfter y (textAreas R B) (leftBy record′ (textAreas R B))) (k .sheet-passes) ∙ left-holding record′ (t .«record») (textAreas R B) (record-held record′ (t .«record») (k .record-passes)) in
               λ i. fitsParts (sheet-left i) (record-left i)
 
       fits-zeros : (x : Stage TextsFitted) → (fitsAnswer fits-lent x .refusal ≡ 0 → ⊥) → fitsAnswer fits-lent x .areas ≡ fitsZeros fits-lent
       fits-zeros (passed t) f = absurd (f refl)
       fits-zeros (refused k w p) f = refl
 
-      pub fitted : {S₂ Z₂ R₂ B₂ : Bytes} {fit : ℕ} → Settled (c .stop .refusal) S₁ Z₁ S₂ Z₂ → Settled (c .stop .refusal) R₁ B₁ R₂ B₂ → fit ≡ yesOrNo (c .fits)
+      pub fitted : {S₂ Z₂ R₂ B₂ : Bytes} {fit : ℕ} → SettledText (c .stop .refusal) S₁ Z₁ S₂ Z₂ → SettledText (c .stop .refusal) R₁ B₁ R₂ B₂ → fit ≡ yesOrNo (c .fits)
           → entry (c .stop .refusal) (fitsNumbersOf (c .stop .which) (c .stop .place) fit) (fitsAreasOf S₂ Z₂ R₂ B₂) ≡ fitsEntry sheet record′ fits-lent n
-      fitted {S₂} {Z₂} {R₂} {B₂} s r e = ap (λ k. entry (c .stop .refusal) (fitsNumbersOf (c .stop .which) (c .stop .place) k) (fitsAreasOf S₂ Z₂ R₂ B₂)) e ∙ finish fitsZeros (fitsAnswer fits-lent (fitsStage sheet record′)) fits-lent (fits-zeros (fitsStage sheet record′)) (fits-judges (fitsStage sheet record′) refl) ((λ i. fitsParts (settled-text s i) (settled-text r i)) ∙ go (eqb (c .stop .refusal) 0)) ∙ sym valid
+      fitted {S₂} {Z₂} {R₂} {B₂} s r e = ap (λ k. entry (c .stop .refusal) (fitsNumbersOf (c .stop .which) (c .stop .place) k) (fitsAreasOf S₂ Z₂ R₂ B₂)) e ∙ finish fitsTidied fitsZeros (fitsAnswer fits-lent (fitsStage sheet record′)) fits-lent (fits-zeros (fitsStage sheet record′)) (fits-judges (fitsStage sheet record′) refl) ((λ i. fitsParts (s .is i) (r .is i)) ∙ go (eqb (c .stop .refusal) 0)) ∙ sym valid
         where
-          go : (b : Bool) → fitsParts (elim b [ true ↦ textAreas S₁ Z₁ | false ↦ zeroed (textAreas S₁ Z₁) ]) (elim b [ true ↦ textAreas R₁ B₁ | false ↦ zeroed (textAreas R₁ B₁) ]) ≡ elim b [ true ↦ fitsAreasOf S₁ Z₁ R₁ B₁ | false ↦ fitsZeros (fitsAreasOf S₁ Z₁ R₁ B₁) ]
+          go : (b : Bool) → fitsParts (elim b [ true ↦ tidied (textAreas S₁ Z₁) | false ↦ zeroed (textAreas S₁ Z₁) ]) (elim b [ true ↦ tidied (textAreas R₁ B₁) | false ↦ zeroed (textAreas R₁ B₁) ]) ≡ elim b [ true ↦ fitsTidied (fitsAreasOf S₁ Z₁ R₁ B₁) | false ↦ fitsZeros (fitsAreasOf S₁ Z₁ R₁ B₁) ]
           go true = refl
           go false = refl
 

@@ -3,40 +3,53 @@ use mathlib.Core.Bool.{Bool, true, false}
 use mathlib.Core.Path.{_≡_}
 use Prim.Native.Nat.{ℕ}
 use lib.Dec.{eqb}
-use lib.ListN.{length, replicate}
 use Rattle.model.specs.Bytes.{Bytes}
 use Rattle.eval.specs.declared.Answer as evaluating
 use Rattle.pipeline.specs.declared.check.Checked.{Checked}
 use Rattle.pipeline.specs.declared.text.Stop as pipeline
-use Rattle.pipeline.specs.Areas.{TextAreas, zeroed}
+use Rattle.pipeline.specs.Areas.{TextAreas, textAreas, zeroed, tidied}
 use Rattle.pipeline.specs.Laws.LongAreas.{ChecksLong}
 use Rattle.pipeline.specs.Texts.{evaluateCheckedStage}
 use Rattle.jehvrukam.specs.declared.evaluate.Outcome.{Outcome}
 use Rattle.jehvrukam.specs.declared.evaluate_checked.CheckedOutcome.{CheckedOutcome}
+use Rattle.jehvrukam.specs.Check.{CheckAreas}
 use Rattle.jehvrukam.specs.Contract.{numbersOf, checkedNumbersOf}
-use Rattle.jehvrukam.specs.Entry.{Entry, WorkAreas, cannotRun}
-use Rattle.jehvrukam.specs.Evaluate.{Numbers}
+use Rattle.jehvrukam.specs.Entry.{Entry, WorkAreas, workAreas, cannotRun, zeroedWork}
+use Rattle.jehvrukam.specs.Evaluate.{Areas, Numbers}
 use Rattle.jehvrukam.specs.EvaluateChecked.{CheckedAreas, CheckedNumbers, checkedZeros, evaluateCheckedAnswer}
-use Rattle.jehvrukam.specs.Fits.{yesOrNo}
+use Rattle.jehvrukam.specs.Fits.{FitsAreas, yesOrNo}
 
--- ---- areas after a refusal
--- What stays after success is cleared after a refusal k.
-abbrev pub settledBy : {A : Type 0} → (A → A) → ℕ → A → A
-settledBy clear k a = elim (eqb k 0) [ true ↦ a | false ↦ clear a ]
+-- ---- areas at the end of a call
+-- Tidied after success, cleared after a refusal k.
+abbrev pub settledBy : {A : Type 0} → (tidy clear : A → A) → ℕ → A → A
+settledBy tidy clear k a = elim (eqb k 0) [ true ↦ tidy a | false ↦ clear a ]
 
-abbrev pub settled : ℕ → Bytes → Bytes
-settled k s = settledBy (λ t. replicate (length t) 0) k s
+pub record SettledText (k : ℕ) (T A T′ A′ : Bytes) : Type 0 where
+  pub is : textAreas T′ A′ ≡ settledBy tidied zeroed k (textAreas T A)
 
-pub record Settled (k : ℕ) (S Z S′ Z′ : Bytes) : Type 0 where
-  pub first : S′ ≡ settled k S
-  pub second : Z′ ≡ settled k Z
+-- Evaluation leaves nothing to tidy.
+pub record SettledWork (k : ℕ) (C O C′ O′ : Bytes) : Type 0 where
+  pub is : workAreas C′ O′ ≡ settledBy (λ w. w) zeroedWork k (workAreas C O)
 
--- ---- the stages of an entry, before areas are cleared
--- The refusal k and the numbers n are those of the whole answer; after success the areas a′ are too; after a refusal they are as long as they were.
-pub record Judges {N A : Type 0} (clear : A → A) (whole : Entry N A) (a : A) (k : ℕ) (n : N) (a′ : A) : Type 0 where
+-- All areas of an entry, those of each text tidied.
+abbrev pub checkTidied : CheckAreas → CheckAreas
+checkTidied a = record { rule = tidied (a .rule); sheet = tidied (a .sheet) }
+
+abbrev pub fitsTidied : FitsAreas → FitsAreas
+fitsTidied a = record { sheet = tidied (a .sheet); «record» = tidied (a .«record») }
+
+abbrev pub areasTidied : Areas → Areas
+areasTidied a = record { rule = tidied (a .rule); «record» = tidied (a .«record»); work = a .work }
+
+abbrev pub checkedTidied : CheckedAreas → CheckedAreas
+checkedTidied a = record { rule = tidied (a .rule); sheet = tidied (a .sheet); «record» = tidied (a .«record»); work = a .work }
+
+-- ---- the stages of an entry, before areas are settled
+-- The refusal k and the numbers n are those of the whole answer; after success the areas a′ are too, once tidied; after a refusal they are as long as they were.
+pub record Judges {N A : Type 0} (tidy clear : A → A) (whole : Entry N A) (a : A) (k : ℕ) (n : N) (a′ : A) : Type 0 where
   pub refusal : k ≡ whole .refusal
   pub numbers : n ≡ whole .numbers
-  pub areas : k ≡ 0 → a′ ≡ whole .areas
+  pub areas : k ≡ 0 → tidy a′ ≡ whole .areas
   pub sizes : clear a′ ≡ clear a
 
 -- ---- evaluation
@@ -78,4 +91,4 @@ beforeCheck a k = record { rule = k .rule-before; sheet = k .sheet-before; «rec
 pub record JudgesAfter (c : Checked) (d : Bytes) (limit : ℕ) (a : CheckedAreas) (r : CheckedOutcome) (recordAreas : TextAreas) (work : WorkAreas) : Type 0 where
   pub is :
       (k : AfterCheck c (a .rule) (a .sheet))
-      → Judges checkedZeros (evaluateCheckedAnswer (beforeCheck a k) limit (evaluateCheckedStage (k .rule) (k .sheet) d)) (beforeCheck a k) (r .refusal) (checkedTold r) (record { rule = a .rule; sheet = a .sheet; «record» = recordAreas; work = work })
+      → Judges checkedTidied checkedZeros (evaluateCheckedAnswer (beforeCheck a k) limit (evaluateCheckedStage (k .rule) (k .sheet) d)) (beforeCheck a k) (r .refusal) (checkedTold r) (record { rule = a .rule; sheet = a .sheet; «record» = recordAreas; work = work })

@@ -13,7 +13,7 @@ ghost use Rattle.pipeline.specs.Texts.{evaluateStage};
 ghost use Rattle.jehvrukam.specs.Contract.{areasOf};
 ghost use Rattle.jehvrukam.specs.Entry.{cannotRun};
 ghost use Rattle.jehvrukam.specs.Evaluate.{zeros, evaluateAnswer};
-ghost use Rattle.jehvrukam.specs.Inner.{Judges, Runs, told, unrun};
+ghost use Rattle.jehvrukam.specs.Inner.{Judges, Runs, areasTidied, told, unrun};
 
 // A refusal's number, or 0, and the numbers that are told with it.
 pub struct Outcome {
@@ -60,7 +60,7 @@ pub fn judge(
     output: &mut [u8],
 ) -> Outcome
     requires { ⌜ Long (textAreas (now «rule_table») (now «rule_strings»)) × Long (textAreas (now «record_table») (now «record_strings»)) × Runs limit (now cells) ⌝ }
-    ensures { λ r. ⌜ Judges zeros (evaluateAnswer (areasOf (now («rule_table» .entry)) (now («rule_strings» .entry)) (now («record_table» .entry)) (now («record_strings» .entry)) (now (cells .entry)) (now (output .entry))) limit (evaluateStage (now («rule_text» .entry)) (now («record_text» .entry)))) (areasOf (now («rule_table» .entry)) (now («rule_strings» .entry)) (now («record_table» .entry)) (now («record_strings» .entry)) (now (cells .entry)) (now (output .entry))) (r .refusal) (told r) (areasOf (now («rule_table» .exit)) (now («rule_strings» .exit)) (now («record_table» .exit)) (now («record_strings» .exit)) (now (cells .exit)) (now (output .exit))) ⌝ }
+    ensures { λ r. ⌜ Judges areasTidied zeros (evaluateAnswer (areasOf (now («rule_table» .entry)) (now («rule_strings» .entry)) (now («record_table» .entry)) (now («record_strings» .entry)) (now (cells .entry)) (now (output .entry))) limit (evaluateStage (now («rule_text» .entry)) (now («record_text» .entry)))) (areasOf (now («rule_table» .entry)) (now («rule_strings» .entry)) (now («record_table» .entry)) (now («record_strings» .entry)) (now (cells .entry)) (now (output .entry))) (r .refusal) (told r) (areasOf (now («rule_table» .exit)) (now («rule_strings» .exit)) (now («record_table» .exit)) (now («record_strings» .exit)) (now (cells .exit)) (now (output .exit))) ⌝ }
 {
     let a = read_rule(rule_text, rule_table, rule_strings);
     if a.refusal != 0 {

@@ -13,7 +13,7 @@ ghost use Rattle.pipeline.specs.Texts.{evaluateCheckedStage};
 ghost use Rattle.jehvrukam.specs.Contract.{checkedAreasOf};
 ghost use Rattle.jehvrukam.specs.Entry.{workAreas};
 ghost use Rattle.jehvrukam.specs.EvaluateChecked.{checkedZeros, evaluateCheckedAnswer};
-ghost use Rattle.jehvrukam.specs.Inner.{AfterCheck, Judges, JudgesAfter, Runs, checkedRun, checkedTold, checkedUnrun};
+ghost use Rattle.jehvrukam.specs.Inner.{AfterCheck, Judges, JudgesAfter, Runs, checkedRun, checkedTidied, checkedTold, checkedUnrun};
 
 // A refusal's number, or 0, and the numbers that are told with it.
 pub struct CheckedOutcome {
@@ -110,7 +110,7 @@ pub fn judge(
     output: &mut [u8],
 ) -> CheckedOutcome
     requires { ⌜ Long (textAreas (now «rule_table») (now «rule_strings»)) × Long (textAreas (now «sheet_table») (now «sheet_strings»)) × Long (textAreas (now «record_table») (now «record_strings»)) × Runs limit (now cells) ⌝ }
-    ensures { λ r. ⌜ Judges checkedZeros (evaluateCheckedAnswer (checkedAreasOf (now («rule_table» .entry)) (now («rule_strings» .entry)) (now («sheet_table» .entry)) (now («sheet_strings» .entry)) (now («record_table» .entry)) (now («record_strings» .entry)) (now (cells .entry)) (now (output .entry))) limit (evaluateCheckedStage (now («rule_text» .entry)) (now («sheet_text» .entry)) (now («record_text» .entry)))) (checkedAreasOf (now («rule_table» .entry)) (now («rule_strings» .entry)) (now («sheet_table» .entry)) (now («sheet_strings» .entry)) (now («record_table» .entry)) (now («record_strings» .entry)) (now (cells .entry)) (now (output .entry))) (r .refusal) (checkedTold r) (checkedAreasOf (now («rule_table» .exit)) (now («rule_strings» .exit)) (now («sheet_table» .exit)) (now («sheet_strings» .exit)) (now («record_table» .exit)) (now («record_strings» .exit)) (now (cells .exit)) (now (output .exit))) ⌝ }
+    ensures { λ r. ⌜ Judges checkedTidied checkedZeros (evaluateCheckedAnswer (checkedAreasOf (now («rule_table» .entry)) (now («rule_strings» .entry)) (now («sheet_table» .entry)) (now («sheet_strings» .entry)) (now («record_table» .entry)) (now («record_strings» .entry)) (now (cells .entry)) (now (output .entry))) limit (evaluateCheckedStage (now («rule_text» .entry)) (now («sheet_text» .entry)) (now («record_text» .entry)))) (checkedAreasOf (now («rule_table» .entry)) (now («rule_strings» .entry)) (now («sheet_table» .entry)) (now («sheet_strings» .entry)) (now («record_table» .entry)) (now («record_strings» .entry)) (now (cells .entry)) (now (output .entry))) (r .refusal) (checkedTold r) (checkedAreasOf (now («rule_table» .exit)) (now («rule_strings» .exit)) (now («sheet_table» .exit)) (now («sheet_strings» .exit)) (now («record_table» .exit)) (now («record_strings» .exit)) (now (cells .exit)) (now (output .exit))) ⌝ }
 {
     let a = check_texts(
         rule_text,

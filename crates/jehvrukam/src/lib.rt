@@ -3,7 +3,8 @@
 use crate::evaluate::cannot_run;
 use crate::evaluate::judge;
 use crate::evaluate_checked::judge as judge_checked;
-use crate::settle::settle;
+use crate::settle::settle_text;
+use crate::settle::settle_work;
 use crate::told::yes_or_no;
 use json::read;
 use pipeline::check::check_texts;
@@ -70,8 +71,8 @@ pub extern "C" fn jehvrukam_check(
         sheet_strings,
     );
     let s = c.stop;
-    settle(s.refusal, rule_table, rule_strings);
-    settle(s.refusal, sheet_table, sheet_strings);
+    settle_text(s.refusal, rule_table, rule_strings);
+    settle_text(s.refusal, sheet_table, sheet_strings);
     *which = s.which as u64;
     *place = s.place as u64;
     *words = c.words;
@@ -108,8 +109,8 @@ pub extern "C" fn jehvrukam_fits(
         record_strings,
     );
     let s = f.stop;
-    settle(s.refusal, sheet_table, sheet_strings);
-    settle(s.refusal, record_table, record_strings);
+    settle_text(s.refusal, sheet_table, sheet_strings);
+    settle_text(s.refusal, record_table, record_strings);
     *which = s.which as u64;
     *place = s.place as u64;
     *fits = yes_or_no(f.fits);
@@ -155,9 +156,9 @@ pub extern "C" fn jehvrukam_evaluate(
         cells,
         output,
     );
-    settle(e.refusal, rule_table, rule_strings);
-    settle(e.refusal, record_table, record_strings);
-    settle(e.refusal, cells, output);
+    settle_text(e.refusal, rule_table, rule_strings);
+    settle_text(e.refusal, record_table, record_strings);
+    settle_work(e.refusal, cells, output);
     *which = e.which as u64;
     *place = e.place as u64;
     *steps = e.steps as u64;
@@ -215,10 +216,10 @@ pub extern "C" fn jehvrukam_evaluate_checked(
         cells,
         output,
     );
-    settle(o.refusal, rule_table, rule_strings);
-    settle(o.refusal, sheet_table, sheet_strings);
-    settle(o.refusal, record_table, record_strings);
-    settle(o.refusal, cells, output);
+    settle_text(o.refusal, rule_table, rule_strings);
+    settle_text(o.refusal, sheet_table, sheet_strings);
+    settle_text(o.refusal, record_table, record_strings);
+    settle_work(o.refusal, cells, output);
     *which = o.which as u64;
     *place = o.place as u64;
     *words = o.words;

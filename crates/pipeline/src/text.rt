@@ -1,7 +1,7 @@
 // One text, read into its two areas.
 use crate::number::numbered;
 use json::Answer as Reading;
-use json::read;
+use json::read_rows;
 use shape::is_rule;
 use syntax::STRINGS_BYTES;
 use syntax::TABLE_BYTES;
@@ -46,7 +46,7 @@ fn told(which: usize, a: Reading) -> Stop
 pub fn read_text(which: usize, text: &[u8], table: &mut [u8], strings: &mut [u8]) -> Stop
     ensures { λ r. ⌜ Reads which (now (text .entry)) (textAreas (now (table .entry)) (now (strings .entry))) r (textAreas (now (table .exit)) (now (strings .exit))) ⌝ }
 {
-    told(which, read(text, table, strings))
+    told(which, read_rows(text, table, strings))
 }
 
 // A rule's text; 6 where it is not one.

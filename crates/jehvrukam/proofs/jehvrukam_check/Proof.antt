@@ -49,32 +49,32 @@ check-texts-requires : tie.Need-check-texts-requires
 check-texts-requires c κs = search needs
 
 -- src/lib.rt:70:5
-settle-requires : tie.Need-settle-requires
-settle-requires c κs = search needs
+settle-text-requires : tie.Need-settle-text-requires
+settle-text-requires c κs = search needs
 
 -- src/lib.rt:71:5
-settle-requires-2 : tie.Need-settle-requires-2
-settle-requires-2 c κs = search needs
+settle-text-requires-2 : tie.Need-settle-text-requires-2
+settle-text-requires-2 c κs = search needs
 
 -- src/lib.rt:41:1
 same-length-7 : tie.Need-same-length-7
-same-length-7 c = c .before .before .before .before .before .before .before .before .before .before .before .settle .kept .1 .0 ∙ c .before .before .before .before .before .before .before .before .before .before .before .before .before .before .before .before .before .before .before .before .before .before .before .check-texts .kept .1 .1 .0
+same-length-7 c = c .before .before .before .before .before .before .before .before .before .before .before .settle-text .kept .1 .0 ∙ c .before .before .before .before .before .before .before .before .before .before .before .before .before .before .before .before .before .before .before .before .before .before .before .check-texts .kept .1 .1 .0
 
 -- src/lib.rt:41:1
 same-length-8 : tie.Need-same-length-8
-same-length-8 c = c .before .before .before .before .before .before .before .before .before .before .before .settle .kept .1 .1 .0 ∙ c .before .before .before .before .before .before .before .before .before .before .before .before .before .before .before .before .before .before .before .before .before .before .before .check-texts .kept .1 .1 .1 .0
+same-length-8 c = c .before .before .before .before .before .before .before .before .before .before .before .settle-text .kept .1 .1 .0 ∙ c .before .before .before .before .before .before .before .before .before .before .before .before .before .before .before .before .before .before .before .before .before .before .before .check-texts .kept .1 .1 .1 .0
 
 -- src/lib.rt:41:1
 same-length-9 : tie.Need-same-length-9
-same-length-9 c = c .before .before .before .before .settle2 .kept .1 .0 ∙ c .before .before .before .before .before .before .before .before .before .before .before .before .before .before .before .before .before .before .before .before .before .before .before .check-texts .kept .1 .1 .1 .1 .0
+same-length-9 c = c .before .before .before .before .settle-text2 .kept .1 .0 ∙ c .before .before .before .before .before .before .before .before .before .before .before .before .before .before .before .before .before .before .before .before .before .before .before .check-texts .kept .1 .1 .1 .1 .0
 
 -- src/lib.rt:41:1
 same-length-10 : tie.Need-same-length-10
-same-length-10 c = c .before .before .before .before .settle2 .kept .1 .1 .0 ∙ c .before .before .before .before .before .before .before .before .before .before .before .before .before .before .before .before .before .before .before .before .before .before .before .check-texts .kept .1 .1 .1 .1 .1 .0
+same-length-10 c = c .before .before .before .before .settle-text2 .kept .1 .1 .0 ∙ c .before .before .before .before .before .before .before .before .before .before .before .before .before .before .before .before .before .before .before .before .before .before .before .check-texts .kept .1 .1 .1 .1 .1 .0
 
 -- src/lib.rt:41:1
 returns-3 : tie.Need-returns-3
-returns-3 c = checked _ _ _ _ _ _ _ (sym (c .before .before .before .before .before .before .before .before .before .before .before .before .before .before .before .before .before .before .before .before .before .before .before .before .before .before .before .before .before .before .before .before .before .is-short .ensures) ∙ c .before .before .before .before .before .before .before .before .before .before .before .before .before .before .before .before .before .before .before .before .before .before .before .before .before .before .before .before .before .before .before .before .if1 .left) (sym (c .before .before .before .before .before .before .before .before .before .before .before .before .before .before .before .before .before .before .before .before .before .before .before .before .before .before .before .before .before .is-short2 .ensures) ∙ c .before .before .before .before .before .before .before .before .before .before .before .before .before .before .before .before .before .before .before .before .before .before .before .before .before .before .before .before .if2 .left) (c .before .before .before .before .before .before .before .before .before .before .before .before .before .before .before .before .before .before .before .before .before .before .before .check-texts .ensures) (record { first = c .before .before .before .before .before .before .before .before .before .before .before .before .before .before .before .before .before .before .before .before .before .before .before .check-texts .kept .1 .1 .0; second = c .before .before .before .before .before .before .before .before .before .before .before .before .before .before .before .before .before .before .before .before .before .before .before .check-texts .kept .1 .1 .1 .0 }) (record { first = c .before .before .before .before .before .before .before .before .before .before .before .before .before .before .before .before .before .before .before .before .before .before .before .check-texts .kept .1 .1 .1 .1 .0; second = c .before .before .before .before .before .before .before .before .before .before .before .before .before .before .before .before .before .before .before .before .before .before .before .check-texts .kept .1 .1 .1 .1 .1 .0 }) (c .before .before .before .before .before .before .before .before .before .before .before .settle .ensures) (c .before .before .before .before .settle2 .ensures)
+returns-3 c = checked _ _ _ _ _ _ _ (sym (c .before .before .before .before .before .before .before .before .before .before .before .before .before .before .before .before .before .before .before .before .before .before .before .before .before .before .before .before .before .before .before .before .before .is-short .ensures) ∙ c .before .before .before .before .before .before .before .before .before .before .before .before .before .before .before .before .before .before .before .before .before .before .before .before .before .before .before .before .before .before .before .before .if1 .left) (sym (c .before .before .before .before .before .before .before .before .before .before .before .before .before .before .before .before .before .before .before .before .before .before .before .before .before .before .before .before .before .is-short2 .ensures) ∙ c .before .before .before .before .before .before .before .before .before .before .before .before .before .before .before .before .before .before .before .before .before .before .before .before .before .before .before .before .if2 .left) (c .before .before .before .before .before .before .before .before .before .before .before .before .before .before .before .before .before .before .before .before .before .before .before .check-texts .ensures) (record { first = c .before .before .before .before .before .before .before .before .before .before .before .before .before .before .before .before .before .before .before .before .before .before .before .check-texts .kept .1 .1 .0; second = c .before .before .before .before .before .before .before .before .before .before .before .before .before .before .before .before .before .before .before .before .before .before .before .check-texts .kept .1 .1 .1 .0 }) (record { first = c .before .before .before .before .before .before .before .before .before .before .before .before .before .before .before .before .before .before .before .before .before .before .before .check-texts .kept .1 .1 .1 .1 .0; second = c .before .before .before .before .before .before .before .before .before .before .before .before .before .before .before .before .before .before .before .before .before .before .before .check-texts .kept .1 .1 .1 .1 .1 .0 }) (c .before .before .before .before .before .before .before .before .before .before .before .settle-text .ensures) (c .before .before .before .before .settle-text2 .ensures)
 
 pub jehvrukam-check-spec : {M : Type 1} → statement M
 jehvrukam-check-spec =
@@ -91,8 +91,8 @@ jehvrukam-check-spec =
     same-length-6
     returns-2
     check-texts-requires
-    settle-requires
-    settle-requires-2
+    settle-text-requires
+    settle-text-requires-2
     same-length-7
     same-length-8
     same-length-9

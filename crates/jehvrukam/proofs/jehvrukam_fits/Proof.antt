@@ -49,12 +49,12 @@ fit-texts-requires : tie.Need-fit-texts-requires
 fit-texts-requires c κs = search needs
 
 -- src/lib.rt:110:5
-settle-requires : tie.Need-settle-requires
-settle-requires c κs = search needs
+settle-text-requires : tie.Need-settle-text-requires
+settle-text-requires c κs = search needs
 
 -- src/lib.rt:111:5
-settle-requires-2 : tie.Need-settle-requires-2
-settle-requires-2 c κs = search needs
+settle-text-requires-2 : tie.Need-settle-text-requires-2
+settle-text-requires-2 c κs = search needs
 
 -- src/lib.rt:114:13
 yes-or-no-requires : tie.Need-yes-or-no-requires
@@ -62,23 +62,23 @@ yes-or-no-requires c κs = search needs
 
 -- src/lib.rt:81:1
 same-length-7 : tie.Need-same-length-7
-same-length-7 c = c .before .before .before .before .before .before .before .before .before .before .before .before .settle .kept .1 .0 ∙ c .before .before .before .before .before .before .before .before .before .before .before .before .before .before .before .before .before .before .before .before .before .before .before .before .fit-texts .kept .1 .1 .0
+same-length-7 c = c .before .before .before .before .before .before .before .before .before .before .before .before .settle-text .kept .1 .0 ∙ c .before .before .before .before .before .before .before .before .before .before .before .before .before .before .before .before .before .before .before .before .before .before .before .before .fit-texts .kept .1 .1 .0
 
 -- src/lib.rt:81:1
 same-length-8 : tie.Need-same-length-8
-same-length-8 c = c .before .before .before .before .before .before .before .before .before .before .before .before .settle .kept .1 .1 .0 ∙ c .before .before .before .before .before .before .before .before .before .before .before .before .before .before .before .before .before .before .before .before .before .before .before .before .fit-texts .kept .1 .1 .1 .0
+same-length-8 c = c .before .before .before .before .before .before .before .before .before .before .before .before .settle-text .kept .1 .1 .0 ∙ c .before .before .before .before .before .before .before .before .before .before .before .before .before .before .before .before .before .before .before .before .before .before .before .before .fit-texts .kept .1 .1 .1 .0
 
 -- src/lib.rt:81:1
 same-length-9 : tie.Need-same-length-9
-same-length-9 c = c .before .before .before .before .before .settle2 .kept .1 .0 ∙ c .before .before .before .before .before .before .before .before .before .before .before .before .before .before .before .before .before .before .before .before .before .before .before .before .fit-texts .kept .1 .1 .1 .1 .0
+same-length-9 c = c .before .before .before .before .before .settle-text2 .kept .1 .0 ∙ c .before .before .before .before .before .before .before .before .before .before .before .before .before .before .before .before .before .before .before .before .before .before .before .before .fit-texts .kept .1 .1 .1 .1 .0
 
 -- src/lib.rt:81:1
 same-length-10 : tie.Need-same-length-10
-same-length-10 c = c .before .before .before .before .before .settle2 .kept .1 .1 .0 ∙ c .before .before .before .before .before .before .before .before .before .before .before .before .before .before .before .before .before .before .before .before .before .before .before .before .fit-texts .kept .1 .1 .1 .1 .1 .0
+same-length-10 c = c .before .before .before .before .before .settle-text2 .kept .1 .1 .0 ∙ c .before .before .before .before .before .before .before .before .before .before .before .before .before .before .before .before .before .before .before .before .before .before .before .before .fit-texts .kept .1 .1 .1 .1 .1 .0
 
 -- src/lib.rt:81:1
 returns-3 : tie.Need-returns-3
-returns-3 c = fitted _ _ _ _ _ _ _ (sym (c .before .before .before .before .before .before .before .before .before .before .before .before .before .before .before .before .before .before .before .before .before .before .before .before .before .before .before .before .before .before .before .before .before .before .is-short .ensures) ∙ c .before .before .before .before .before .before .before .before .before .before .before .before .before .before .before .before .before .before .before .before .before .before .before .before .before .before .before .before .before .before .before .before .before .if1 .left) (sym (c .before .before .before .before .before .before .before .before .before .before .before .before .before .before .before .before .before .before .before .before .before .before .before .before .before .before .before .before .before .before .is-short2 .ensures) ∙ c .before .before .before .before .before .before .before .before .before .before .before .before .before .before .before .before .before .before .before .before .before .before .before .before .before .before .before .before .before .if2 .left) (c .before .before .before .before .before .before .before .before .before .before .before .before .before .before .before .before .before .before .before .before .before .before .before .before .fit-texts .ensures) (record { first = c .before .before .before .before .before .before .before .before .before .before .before .before .before .before .before .before .before .before .before .before .before .before .before .before .fit-texts .kept .1 .1 .0; second = c .before .before .before .before .before .before .before .before .before .before .before .before .before .before .before .before .before .before .before .before .before .before .before .before .fit-texts .kept .1 .1 .1 .0 }) (record { first = c .before .before .before .before .before .before .before .before .before .before .before .before .before .before .before .before .before .before .before .before .before .before .before .before .fit-texts .kept .1 .1 .1 .1 .0; second = c .before .before .before .before .before .before .before .before .before .before .before .before .before .before .before .before .before .before .before .before .before .before .before .before .fit-texts .kept .1 .1 .1 .1 .1 .0 }) (c .before .before .before .before .before .before .before .before .before .before .before .before .settle .ensures) (c .before .before .before .before .before .settle2 .ensures) (c .yes-or-no .ensures)
+returns-3 c = fitted _ _ _ _ _ _ _ (sym (c .before .before .before .before .before .before .before .before .before .before .before .before .before .before .before .before .before .before .before .before .before .before .before .before .before .before .before .before .before .before .before .before .before .before .is-short .ensures) ∙ c .before .before .before .before .before .before .before .before .before .before .before .before .before .before .before .before .before .before .before .before .before .before .before .before .before .before .before .before .before .before .before .before .before .if1 .left) (sym (c .before .before .before .before .before .before .before .before .before .before .before .before .before .before .before .before .before .before .before .before .before .before .before .before .before .before .before .before .before .before .is-short2 .ensures) ∙ c .before .before .before .before .before .before .before .before .before .before .before .before .before .before .before .before .before .before .before .before .before .before .before .before .before .before .before .before .before .if2 .left) (c .before .before .before .before .before .before .before .before .before .before .before .before .before .before .before .before .before .before .before .before .before .before .before .before .fit-texts .ensures) (record { first = c .before .before .before .before .before .before .before .before .before .before .before .before .before .before .before .before .before .before .before .before .before .before .before .before .fit-texts .kept .1 .1 .0; second = c .before .before .before .before .before .before .before .before .before .before .before .before .before .before .before .before .before .before .before .before .before .before .before .before .fit-texts .kept .1 .1 .1 .0 }) (record { first = c .before .before .before .before .before .before .before .before .before .before .before .before .before .before .before .before .before .before .before .before .before .before .before .before .fit-texts .kept .1 .1 .1 .1 .0; second = c .before .before .before .before .before .before .before .before .before .before .before .before .before .before .before .before .before .before .before .before .before .before .before .before .fit-texts .kept .1 .1 .1 .1 .1 .0 }) (c .before .before .before .before .before .before .before .before .before .before .before .before .settle-text .ensures) (c .before .before .before .before .before .settle-text2 .ensures) (c .yes-or-no .ensures)
 
 pub jehvrukam-fits-spec : {M : Type 1} → statement M
 jehvrukam-fits-spec =
@@ -95,8 +95,8 @@ jehvrukam-fits-spec =
     same-length-6
     returns-2
     fit-texts-requires
-    settle-requires
-    settle-requires-2
+    settle-text-requires
+    settle-text-requires-2
     yes-or-no-requires
     same-length-7
     same-length-8

@@ -15,16 +15,14 @@ use Rattle.model.specs.Sheet.{Sheet, sheetOf}
 use Rattle.model.specs.TypeCheck.{check}
 use Rattle.model.specs.Value.{Value}
 use Rattle.syntax.specs.Entry.{readInto}
-use Rattle.syntax.specs.Laws.Sound.{sound}
 use Rattle.syntax.specs.Read as readings
 use Rattle.syntax.specs.Read.{Read, read}
 use Rattle.rule.specs.Holds.{Holds}
-use Rattle.shape.specs.Contract.{Readable}
+use Rattle.shape.specs.Laws.Holds.{holds-rule}
 use Rattle.sheet.specs.Contract.{HoldsSheet}
-use Rattle.table.specs.Denotes.{Denotes}
-use Rattle.table.specs.Main.{what-was-read}
-use Rattle.table.specs.Node.{nodeAt}
-use Rattle.pipeline.specs.Areas.{TextAreas, textAreas, holding, readAreasOf, leftBy}
+use Rattle.table.specs.WasRead.{WasRead}
+use Rattle.table.specs.Laws.Standing.{was-read-denotes}
+use Rattle.pipeline.specs.Areas.{TextAreas, holding, readAreasOf, leftBy}
 use Rattle.pipeline.specs.Contract.{stopOf}
 use Rattle.pipeline.specs.Stage.{Stage, passed, refused, _>>=_, recordText, asRead, readAs, asJudged}
 use Rattle.pipeline.specs.Texts.{TextRead, textStage, ruleStage, sheetStage, TextsChecked, checkStage, TextsFitted, fitsStage, TextsRead, evaluateStage}
@@ -96,38 +94,26 @@ pub not-refused : {X : Type 0} (e : Refusal) (o : Option X) (x : X) → orRefuse
 not-refused e none x f = clash cc
 not-refused e (some y) x f = cc
 
-pub record-held : (s : Bytes) (v : Value) → readAs recordText s ≡ passed v → read s ≡ readings.done v
-record-held s v e = ofRead (read s) refl e
+pub read-held : (which : ℕ) (s : Bytes) (v : Value) → readAs which s ≡ passed v → read s ≡ readings.done v
+read-held which s v e = ofRead (read s) refl e
   where
-    ofRead : (g : Read) → read s ≡ g → asRead recordText g ≡ passed v → read s ≡ readings.done v
+    ofRead : (g : Read) → read s ≡ g → asRead which g ≡ passed v → read s ≡ readings.done v
     ofRead (readings.done w) f h = f ∙ cc
     ofRead (readings.refuse k p) f h = clash cc
+
+pub record-held : (s : Bytes) (v : Value) → readAs recordText s ≡ passed v → read s ≡ readings.done v
+record-held s v e = read-held recordText s v e
 
 -- ---- areas
 pub left-holding : (s : Bytes) (v : Value) (a : TextAreas) → read s ≡ readings.done v → leftBy s a ≡ holding v a
 left-holding s v a e = ap (λ (g : Read). readAreasOf (readInto g (length (a .table)) (length (a .strings)))) e
 
--- What the areas hold denotes the value.
-module _ (s : Bytes) (v : Value) (T A T′ A′ : Bytes) (reads : read s ≡ readings.done v) (left : textAreas T′ A′ ≡ leftBy s (textAreas T A)) where
-  left-is : textAreas T′ A′ ≡ holding v (textAreas T A)
-  left-is = left ∙ left-holding s v (textAreas T A) reads
+-- Areas that hold the value of a rule or a sheet hold that rule or sheet.
+pub held-rule : {s : Bytes} {x : TextRead Rule} {T A : Bytes} → TextHeld ruleIn s x → WasRead T A (x .value) → Holds T A maxNesting 0 (x .content)
+held-rule {x = x} h w = holds-rule w (not-refused notRule (shape (x .value)) (x .content) (h .judged))
 
-  pub left-denotes : Denotes T′ A′ v (nodeAt T′ 0)
-  left-denotes =
-      what-was-read s v T′ A′ (length T) (length A) reads
-      (ap (λ (x : TextAreas). x .table) left-is)
-      (ap (λ (x : TextAreas). x .strings) left-is)
-
-  pub left-readable : Readable T′ A′
-  left-readable = record { value = v; denotes = left-denotes; nests = sound s v reads .0 .flat }
-
-pub left-rule : (s : Bytes) (x : TextRead Rule) (T A T′ A′ : Bytes) → TextHeld ruleIn s x → textAreas T′ A′ ≡ leftBy s (textAreas T A) → Holds T′ A′ maxNesting 0 (x .content)
-left-rule s x T A T′ A′ h left =
-    record { value = x .value; denotes = left-denotes s (x .value) T A T′ A′ (h .reads) left; shaped = not-refused notRule (shape (x .value)) (x .content) (h .judged); nests = sound s (x .value) (h .reads) .0 .flat }
-
-pub left-sheet : (s : Bytes) (x : TextRead Sheet) (T A T′ A′ : Bytes) → TextHeld sheetIn s x → textAreas T′ A′ ≡ leftBy s (textAreas T A) → HoldsSheet T′ A′ (x .content)
-left-sheet s x T A T′ A′ h left =
-    record { value = x .value; denotes = left-denotes s (x .value) T A T′ A′ (h .reads) left; is-sheet = not-refused notSheet (sheetOf (x .value)) (x .content) (h .judged) }
+pub held-sheet : {s : Bytes} {x : TextRead Sheet} {S Z : Bytes} → TextHeld sheetIn s x → WasRead S Z (x .value) → HoldsSheet S Z (x .content)
+held-sheet {x = x} h w = record { value = x .value; denotes = was-read-denotes w; is-sheet = not-refused notSheet (sheetOf (x .value)) (x .content) (h .judged) }
 
 -- ---- several texts
 pub record Bound {A B : Type 0} (x : Stage A) (f : A → Stage B) (b : B) : Type 0 where

@@ -1,4 +1,4 @@
-use Rattle.pipeline.proofs.Checking.{rule-stops, sheet-stops, both-checked}
+use Rattle.pipeline.proofs.Checking.{rule-stops, sheet-stops, can-check, both-checked}
 use borrow.Author.Needs.{needs}
 use Rattle.pipeline.proofs.check.check_texts.Statement.{statement}
 use Rattle.pipeline.proofs.check.check_texts.Tie as tie
@@ -45,7 +45,7 @@ returns-2 c = sheet-stops _ _ (c .before .before .before .before .before .before
 
 -- src/check.rt:55:11
 check-requires : tie.Need-check-requires
-check-requires c κs = search needs
+check-requires c κs = can-check _ _ (c .before .before .before .before .before .before .before .before .before .before .before .before .before .before .before .before .before .before .before .read-rule .ensures) (c .before .before .before .before .before .before .before .before .before .before .before .before .before .if1 .left) (c .before .before .before .before .before .before .before .before .before .before .read-sheet .ensures) (c .before .before .before .before .if2 .left)
 
 -- src/check.rt:55:5
 found-requires : tie.Need-found-requires

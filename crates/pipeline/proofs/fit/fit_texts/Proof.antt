@@ -1,4 +1,4 @@
-use Rattle.pipeline.proofs.Checking.{fit-sheet-stops, record-stops, both-fit}
+use Rattle.pipeline.proofs.Checking.{fit-sheet-stops, record-stops, can-fit, both-fit}
 use borrow.Author.Needs.{needs}
 use Rattle.pipeline.proofs.fit.fit_texts.Statement.{statement}
 use Rattle.pipeline.proofs.fit.fit_texts.Tie as tie
@@ -45,7 +45,7 @@ returns-2 c = record-stops _ _ (c .before .before .before .before .before .befor
 
 -- src/fit.rt:41:9
 fits-requires : tie.Need-fits-requires
-fits-requires c κs = search needs
+fits-requires c κs = can-fit _ _ (c .before .before .before .before .before .before .before .before .before .before .before .before .before .before .before .before .before .before .before .read-sheet .ensures) (c .before .before .before .before .before .before .before .before .before .before .before .before .before .if1 .left) (c .before .before .before .before .before .before .before .before .before .before .read-text .ensures) (c .before .before .before .before .if2 .left)
 
 -- src/fit.rt:16:1
 same-length-7 : tie.Need-same-length-7

@@ -38,7 +38,7 @@ same-length-4 c = search needs
 
 -- src/text.rt:73:9
 returns-2 : tie.Need-returns-2
-returns-2 c = no-rule (c .before .before .before .before .before .before .before .before .before .before .before .read-text .ensures) (c .before .before .before .before .before .if1 .left) (c .before .before .is-rule .result) (c .before .before .is-rule .ensures) (not-true _ (c .before .if2 .taken)) (c .numbered .ensures)
+returns-2 c = no-rule (c .before .before .before .before .before .before .before .before .before .before .before .before .before .read-text .ensures) (c .before .before .before .before .before .before .before .if1 .left) (c .before .before .before .before .is-rule .result) (c .before .before .before .before .is-rule .ensures) (not-true _ (c .before .if2 .taken)) (c .numbered .ensures)
 
 -- src/text.rt:64:1
 same-length-5 : tie.Need-same-length-5
@@ -50,7 +50,7 @@ same-length-6 c = search needs
 
 -- src/text.rt:64:1
 returns-3 : tie.Need-returns-3
-returns-3 c = a-rule (c .before .before .before .before .before .before .before .before .before .before .read-text .ensures) (c .before .before .before .before .if1 .left) (c .before .is-rule .result) (c .before .is-rule .ensures) (not-false _ (c .if2 .left))
+returns-3 c = a-rule (c .before .before .before .before .before .before .before .before .before .before .before .before .read-text .ensures) (c .before .before .before .before .before .before .if1 .left) (c .before .before .before .is-rule .result) (c .before .before .before .is-rule .ensures) (not-false _ (c .if2 .left))
 
 pub read-rule-spec : {M : Type 1} → statement M
 read-rule-spec =
