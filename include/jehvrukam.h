@@ -27,7 +27,7 @@ extern "C" {
 #define JEHVRUKAM_MAX_STEPS 1000
 
 /* Work room for one text: the least lengths of its two areas. */
-#define JEHVRUKAM_TABLE_BYTES 28672   /* 28 for each value: its row, and 12 that are zero again after a call */
+#define JEHVRUKAM_TABLE_BYTES 24576   /* 24 for each value: its row, and 8 that are zero again after a call */
 #define JEHVRUKAM_STRINGS_BYTES 16384
 
 /* Work room for an evaluation: the least length of its cells. */

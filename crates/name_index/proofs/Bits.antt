@@ -53,7 +53,7 @@ module _ (A : Bytes) (start len : ℕ) (h : start + len ≤ length A) where
 
 -- ---- bits
 
-bit-side : (y : ℕ) → y < 2 → 4 + y * 4 ≡ side (eqb y 1)
+bit-side : (y : ℕ) → y < 2 → y * 4 ≡ side (eqb y 1)
 bit-side zero h = refl
 bit-side (suc zero) h = refl
 bit-side (suc (suc y)) h = absurd (none h)
@@ -61,7 +61,7 @@ bit-side (suc (suc y)) h = absurd (none h)
     none : {k : ℕ} → suc (suc (suc k)) ≤ 2 → ⊥
     none h = omega arith
 
-pub turn-side : (n : Bytes) (r s : ℕ) → s ≡ symbolAt n (r / 16) → 4 + s / 2 ^ (15 - r % 16) % 2 * 4 ≡ side (bitAt n r)
+pub turn-side : (n : Bytes) (r s : ℕ) → s ≡ symbolAt n (r / 16) → s / 2 ^ (15 - r % 16) % 2 * 4 ≡ side (bitAt n r)
 unfolding bitAt
 turn-side n r s e =
     bit-side (s / 2 ^ (15 - r % 16) % 2) (omega arith) ∙ ap (λ (x : ℕ). side (eqb (x / 2 ^ (15 - r % 16) % 2) 1)) e
@@ -197,5 +197,5 @@ module _ (A : Bytes) (a m b n p : ℕ) (ha : a + m ≤ length A) (hb : b + n ≤
         t .differ (odd-same (x / 2 ^ (15 - k) % 2) (y / 2 ^ (15 - k) % 2) (omega arith) (omega arith)
         (sym (bit-is (part A a m) (p * 16 + k) p k x q r ex) ∙ e ∙ bit-is (part A b n) (p * 16 + k) p k y q r ey))
 
-    pub names-part : p < 268435455 → Critical (part A a m) (part A b n) (p * 16 + k)
+    pub names-part : p < 67108864 → Critical (part A a m) (part A b n) (p * 16 + k)
     names-part l = record { agree = agree-below; differ = differ-there; small = omega (arith, t .small) }

@@ -11,7 +11,7 @@ use lib.Seq.{take-all}
 use Rattle.model.specs.Bytes.{Bytes, sameBytes}
 use Rattle.model.specs.Limits.{maxValues}
 use Rattle.model.specs.Laws.Logic.{bytes→≡, bytes-refl}
-use Rattle.syntax.specs.Layout.{rowBytes, entryBytes}
+use Rattle.syntax.specs.Layout.{tableBytes}
 use Rattle.area.specs.Words.{wordAt}
 use Rattle.name_index.specs.declared.Ended.{Ended}
 use Rattle.name_index.specs.declared.find.Found.{Found}
@@ -95,10 +95,10 @@ module _ (n : Bytes) (first bound : ℕ) (member : 1 ≤ first) where
 
 -- The slot to which it leads decides.
 by-slot : (T A n : Bytes) (first row : ℕ) (less : first < row) (ms : List (ℕ × Bytes)) (t : Tree T first ms) (named : Slots.Named T A ms) (within : Within first row ms)
-    (end : Ended) (r : Found) → row < maxValues → Stopped T n first row 4294967296 end → NamedSlot T A (end .link / 2) n r
+    (end : Ended) (r : Found) → row < maxValues → Stopped T n first row 1073741824 end → NamedSlot T A (end .link / 2) n r
     → (s : ℕ) (m : Bytes) → found n (t .trie) .0 ≡ s → Has ms s m → r ≡ cond (sameBytes n m) (At (s + 1)) Nowhere
 by-slot T A n first row less ms t named within end r below stopped at s m e h =
-    let down = stopped .all 4294967296 (stopped .least) (λ l. l) in
+    let down = stopped .all 1073741824 (stopped .least) (λ l. l) in
     let link = found-link T A n first row less ms t named within (end .at) (end .link) down (stopped .link) in
     let half : end .link / 2 ≡ s = omega arith in
     let i = within .rows s m h in
@@ -106,7 +106,7 @@ by-slot T A n first row less ms t named within end r below stopped at s m e h =
     ∙ ap (λ (z : Bytes). cond (sameBytes n z) (At (s + 1)) Nowhere) (sym (named .name s m h))
 
 found-at : (T A n : Bytes) (first row : ℕ) (end : Ended) (r : Found) → 1 ≤ first → first < row → row ≤ maxValues
-    → Stopped T n (first - 1) (row - 1) 4294967296 end → NamedSlot T A (end .link / 2) n r
+    → Stopped T n (first - 1) (row - 1) 1073741824 end → NamedSlot T A (end .link / 2) n r
     → (es : List Entry) → Indexed T first es → Named T A es → Between first row es → (es ≡ [] → ⊥) → r ≡ firstNamed n es
 unfolding slots
 found-at T A n first row end r member order below stopped at es i named between some =
@@ -150,12 +150,11 @@ module _ {T A n : Bytes} {first : ℕ} {r : Found} where
       none [] b = refl
       none (e ∷ es) b = absurd (omega (arith, b .0, b .1))
 
-  pub finds-short : length T < maxValues * 28 → Finds T A first n r
-  unfolding rowBytes entryBytes
+  pub finds-short : length T < tableBytes → Finds T A first n r
   finds-short h = record { is = λ es m s. absurd (omega arith) }
 
-  pub finds : (end : Ended) → first < maxValues → Stopped T (part n 0 (length n)) (first - 1) (maxValues - 1) 4294967296 end
+  pub finds : (end : Ended) → first < maxValues → Stopped T (part n 0 (length n)) (first - 1) (maxValues - 1) 1073741824 end
       → NamedSlot T A (end .link / 2) n r → Finds T A first n r
   finds end h d s = record {
-    is = λ es l z. found-at T A n first maxValues end r l h (omega arith) (subst (λ (x : Bytes). Stopped T x (first - 1) (maxValues - 1) 4294967296 end) (take-all (length n) n (omega arith)) d) s es;
+    is = λ es l z. found-at T A n first maxValues end r l h (omega arith) (subst (λ (x : Bytes). Stopped T x (first - 1) (maxValues - 1) 1073741824 end) (take-all (length n) n (omega arith)) d) s es;
   }

@@ -3,14 +3,16 @@ use mathlib.Core.Path.{_≡_, refl, sym, ap, _∙_, subst}
 use mathlib.Core.Bool.{Bool, true, false}
 use mathlib.Core.List.{List, [], _∷_, _++_}
 use mathlib.Core.Logic.{inl, ⊎-elim}
-use Prim.Native.Nat.{ℕ, _+_, _*_, _<_, _≤_}
+use Prim.Native.Nat.{ℕ, _+_, _*_, _/_, _%_, _<_, _≤_}
 use native.Mathlib.Omega.{arith}
+use native.Mathlib.Nat.{add-zero}
 use lib.ListN.{length, take}
 use lib.Seq.{sets, length-sets}
 use Rattle.model.specs.Bytes.{Bytes}
-use Rattle.model.specs.Laws.Widths.{values-below}
+use Rattle.model.specs.Laws.Widths.{values-below, values-linked}
 use Rattle.model.specs.Limits.{maxValues}
 use Rattle.model.specs.Laws.Logic.{clash}
+use Rattle.syntax.specs.Layout.{rowBytes, entryBytes, tableBytes}
 use Rattle.area.specs.Words.{word, wordAt}
 use Rattle.area.specs.Laws.{take-sets-before, length-word, word-read}
 use Rattle.name_index.specs.declared.Compared.{Compared}
@@ -18,11 +20,11 @@ use Rattle.name_index.specs.declared.Compared.the-variants.{Same, Differ
 use Rattle.name_index.specs.declared.Ended.{Ended}
 use Rattle.name_index.specs.Bits.{part, bitAt, Critical}
 use Rattle.name_index.specs.Trie.{Trie, leaf, node, Leaf, Node, Ordered, Ends}
-use Rattle.name_index.specs.Slots.{Has, names, among, Named, Within, place, entry, side, Holds, Tree, Indexed, Room, Entered}
-use Rattle.name_index.specs.Inner.{Told, ToldOf, Reached, Descended, Stopped, forked, Forked}
+use Rattle.name_index.specs.Slots.{Has, names, among, Named, Within, place, entry, side, linkIn, Holds, Tree, Indexed, Room, Entered}
+use Rattle.name_index.specs.Inner.{Told, ToldOf, Reached, Descended, Stopped, noded, relinked, forked, Forked}
 use Rattle.name_index.specs.Laws.Slots.{has-old, has-new, has-cases, among-true, among-false}
 use Rattle.name_index.proofs.Trie.{found, found-leaf, member-found, walk-found, walk-leaf, walk-node, walk-end, walk-apart, walk-outside, graft, leaf-graft, node-graft, graft-leaf, leaf-stays, above, apart-graft, holds-graft, fork, ordered-fork, node-fork, leaf-fork, fork-leaf, fork-stays, apart-fork, Linked, holds-fork}
-use Rattle.name_index.proofs.Table.{entry-word, entry-before, entry-behind, entry-other, entry-else, turn-small, forked-linked}
+use Rattle.name_index.proofs.Table.{entry-word, entry-before, entry-behind, entry-other, entry-else, side-small, length-words, forked-linked}
 use Rattle.name_index.proofs.Steps.{Between}
 
 -- ---- what stays
@@ -37,9 +39,9 @@ pub framed-none : (T : Bytes) (first row : ℕ) → Framed T first row T
 framed-none T first row = record { size = refl; rows = refl; kept = λ k h. refl; later = λ k h. refl }
 
 -- A store in the entries from `first` to `row`.
-framed-store : (T T₀ : Bytes) (first row i : ℕ) (xs : Bytes) → Framed T first row T₀ → place first ≤ i → i + length xs ≤ place row + 12
+framed-store : (T T₀ : Bytes) (first row i : ℕ) (xs : Bytes) → Framed T first row T₀ → place first ≤ i → i + length xs ≤ place row + 8
     → Framed T first row (sets T₀ i xs)
-unfolding place
+unfolding place rowBytes entryBytes
 framed-store T T₀ first row i xs f l h = record {
   size = length-sets T₀ i xs ∙ f .size;
   rows = take-sets-before (maxValues * 16) xs T₀ i (omega arith) ∙ f .rows;
@@ -47,34 +49,38 @@ framed-store T T₀ first row i xs f l h = record {
   later = λ k g. entry-before T₀ xs i k (omega arith) ∙ f .later k g;
 }
 
-framed-word : (T T₀ : Bytes) (first row i x : ℕ) → Framed T first row T₀ → place first ≤ i → i + 4 ≤ place row + 12
+framed-word : (T T₀ : Bytes) (first row i x : ℕ) → Framed T first row T₀ → place first ≤ i → i + 4 ≤ place row + 8
     → Framed T first row (sets T₀ i (word x))
 framed-word T T₀ first row i x f l h = framed-store T T₀ first row i (word x) f l (rw length-word h)
 
 pub framed-forked : (T T′ : Bytes) (first row at c turn : ℕ) → Forked T at row c turn T′ → first ≤ row → place first ≤ at → at + 4 ≤ place row
-    → 4 ≤ turn → turn ≤ 8 → Framed T first row T′
-unfolding forked place
-framed-forked T T′ first row at c turn f l low high a b =
-    subst (Framed T first row) (sym (f .is))
-    (framed-word T _ first row at (row * 2 + 1)
-    (framed-word T _ first row _ (wordAt T at)
-    (framed-word T _ first row _ (row * 2)
-    (framed-word T T first row (place row) c (framed-none T first row) (omega arith) (omega arith))
-    (omega arith) (omega arith))
-    (omega arith) (omega arith))
-    low (omega arith))
+    → (b : Bool) → turn ≡ side b → Framed T first row T′
+unfolding forked noded relinked place rowBytes entryBytes
+framed-forked T T′ first row at c turn f l low high b e = subst (Framed T first row) (sym (f .is b e)) (go b)
+  where
+    node : (x y : ℕ) → Framed T first row (noded (relinked T at (row * 2 + 1)) row c x y)
+    node x y =
+        framed-store T _ first row (place row) (word (x + c % 32768 * 131072) ++ word (y + c / 32768 * 131072))
+        (framed-word T T first row at _ (framed-none T first row) low (omega arith))
+        (omega arith) (rw length-words (omega arith))
+
+    go : (b : Bool) → Framed T first row (forked T at row c b)
+    go false = node (row * 2) (linkIn (wordAt T at))
+    go true = node (linkIn (wordAt T at)) (row * 2)
 
 -- ---- the first member
 
-module _ (T n : Bytes) (first row p : ℕ) (e : row ≡ first) (ep : p ≡ place first) (below : row < maxValues) (room : maxValues * 28 ≤ length T) where
+module _ (T n : Bytes) (first row p : ℕ) (e : row ≡ first) (ep : p ≡ place first) (below : row < maxValues) (room : tableBytes ≤ length T) where
   first-table : Bytes
-  first-table = sets T (p + 4) (word (row * 2))
+  first-table = sets T p (word (row * 2))
 
-  first-link : wordAt (entry first-table first) 4 ≡ row * 2
-  unfolding first-table place
+  first-link : linkIn (wordAt (entry first-table first) 0) ≡ row * 2
+  unfolding first-table place rowBytes entryBytes
   first-link =
-      entry-word first-table first 4 (omega arith) ∙ ap (λ (z : ℕ). wordAt first-table (z + 4)) (sym ep)
-      ∙ word-read (row * 2) T (p + 4) (omega (arith, values-below)) (omega arith)
+      let w : wordAt (entry first-table first) 0 ≡ row * 2 =
+      entry-word first-table first 0 (omega arith) ∙ ap (wordAt first-table) (add-zero (place first) ∙ sym ep)
+      ∙ word-read (row * 2) T p (omega (arith, values-below)) (omega arith) in
+      omega (arith, values-linked)
 
   first-tree : Tree first-table first ((row, n) ∷ [])
   first-tree = record {
@@ -89,14 +95,14 @@ module _ (T n : Bytes) (first row p : ℕ) (e : row ≡ first) (ep : p ≡ place
   }
 
   first-framed : Framed T first row first-table
-  unfolding first-table place
-  first-framed = framed-word T T first row (p + 4) (row * 2) (framed-none T first row) (omega arith) (omega arith)
+  unfolding first-table place rowBytes entryBytes
+  first-framed = framed-word T T first row p (row * 2) (framed-none T first row) (omega arith) (omega arith)
 
   first-others : (k : ℕ) → (k ≡ row → ⊥) → entry first-table k ≡ entry T k
   unfolding first-table
   first-others k h =
-      ap (λ (z : ℕ). entry (sets T (z + 4) (word (row * 2))) k) ep
-      ∙ entry-other T (word (row * 2)) first 4 k (rw length-word (omega arith)) (λ g. h (g ∙ sym e))
+      ap (λ (z : ℕ). entry (sets T z (word (row * 2))) k) (ep ∙ sym (add-zero (place first)))
+      ∙ entry-other T (word (row * 2)) first 0 k (rw length-word (omega arith)) (λ g. h (g ∙ sym e))
 
 entered : (T A : Bytes) (first row start len : ℕ) (b : Bool) (T′ : Bytes) → Framed T first row T′
     → ((ms : List (ℕ × Bytes)) → Indexed T first ms → Named T A ms → Within first row ms
@@ -114,7 +120,7 @@ entered T A first row start len b T′ f o g = record {
 }
 
 pub first-entered : (T A : Bytes) (first row start len p : ℕ) (T′ : Bytes) → Room T A first row start len → row ≡ first → p ≡ place first
-    → T′ ≡ sets T (p + 4) (word (row * 2)) → Entered T A first row start len false T′
+    → T′ ≡ sets T p (word (row * 2)) → Entered T A first row start len false T′
 unfolding first-table Indexed
 first-entered T A first row start len p T′ room e ep s =
     entered T A first row start len false T′
@@ -151,16 +157,16 @@ module _ (T A new : Bytes) (first row : ℕ) (less : first < row) (ms : List (�
   pub has-there : Has ms (found new (t .trie) .0) (found new (t .trie) .1)
   has-there = t .leaves (found new (t .trie) .0) (found new (t .trie) .1) there
 
-  pub found-link : (at x : ℕ) → Descended T new first row 4294967296 at → x ≡ wordAt T at → x ≡ found new (t .trie) .0 * 2
+  pub found-link : (at x : ℕ) → Descended T new first row 1073741824 at → x ≡ linkIn (wordAt T at) → x ≡ found new (t .trie) .0 * 2
   found-link at x d ex =
       let r = d .run (omega arith) (t .trie) (t .holds) (t .ordered) between in
       let a = above [] 0 (r .walk) (t .ordered) in
-      ex ∙ ap (wordAt T) (r .is) ∙ sym (entry-word T (r .row) (side (r .turn)) (turn-small (r .turn) (side (r .turn)) refl .1))
+      ex ∙ ap linkIn (ap (wordAt T) (r .is) ∙ sym (entry-word T (r .row) (side (r .turn)) (side-small (r .turn) (side (r .turn)) refl)))
       ∙ go (r .row) (r .turn) (r .below) (a .pattern) (a .least) (a .ordered) (r .ends) (r .holds)
       ∙ ap (λ (z : ℕ × Bytes). z .0 * 2) (sym (walk-found (r .walk)))
     where
-      go : (j : ℕ) (s : Bool) (u : Trie) (p : Bytes) (from : ℕ) → Ordered p from u → Ends 4294967296 u → Holds T j s u
-          → wordAt (entry T j) (side s) ≡ found new u .0 * 2
+      go : (j : ℕ) (s : Bool) (u : Trie) (p : Bytes) (from : ℕ) → Ordered p from u → Ends 1073741824 u → Holds T j s u
+          → linkIn (wordAt (entry T j) (side s)) ≡ found new u .0 * 2
       go j s (leaf r m) p from o e h = h
       go j s (node m c u) p from o e h = absurd (omega (arith, o .1))
 
@@ -186,7 +192,7 @@ module _ (T A new : Bytes) (first row : ℕ) (less : first < row) (ms : List (�
         (e ∙ sym (is-found r m h e .1)))))
 
     module _ (at turn : ℕ) (T′ : Bytes) (d : Descended T new first row c at) (et : turn ≡ side (bitAt new c)) (f : Forked T at row c turn T′)
-        (below : row < maxValues) (room : maxValues * 28 ≤ length T) where
+        (below : row < maxValues) (room : tableBytes ≤ length T) where
       r : Reached T new c first (t .trie) at
       r = d .run (omega (arith, crit .small)) (t .trie) (t .holds) (t .ordered) between
 
@@ -248,12 +254,12 @@ module _ (T A new : Bytes) (first row : ℕ) (less : first < row) (ms : List (�
           old-node k h = let g = t .nodes k h in (g .0, g .1, has-old ms (row, new) k (g .1) (g .2))
 
 module _ (T A : Bytes) (first row start len : ℕ) (room : Room T A first row start len) (other : row ≡ first → ⊥) (end : Ended)
-    (stopped : Stopped T (part A start len) first row 4294967296 end) where
+    (stopped : Stopped T (part A start len) first row 1073741824 end) where
   less : first < row
   less = omega (arith, room .order)
 
-  down : Descended T (part A start len) first row 4294967296 (end .at)
-  down = stopped .all 4294967296 (stopped .least) (λ h. h)
+  down : Descended T (part A start len) first row 1073741824 (end .at)
+  down = stopped .all 1073741824 (stopped .least) (λ h. h)
 
   pub same-entered : ToldOf T A (end .link) row (part A start len) Same → Entered T A first row start len true T
   same-entered told =
@@ -268,8 +274,7 @@ module _ (T A : Bytes) (first row start len : ℕ) (room : Room T A first row st
   pub fork-entered : (c at turn : ℕ) (T′ : Bytes) → ToldOf T A (end .link) row (part A start len) (Differ c) → Descended T (part A start len) first row c at
       → turn ≡ side (bitAt (part A start len) c) → Forked T at row c turn T′ → Entered T A first row start len false T′
   fork-entered c at turn T′ told d et f =
-      let q = turn-small (bitAt (part A start len) c) turn et in
-      entered T A first row start len false T′ (framed-forked T T′ first row at c turn f (room .order) (d .low) (d .high) (q .0) (q .1))
+      entered T A first row start len false T′ (framed-forked T T′ first row at c turn f (room .order) (d .low) (d .high) (bitAt (part A start len) c) et)
       (λ ms i n w k g h.
       let t = tree-of T first row ms w other i in
       let crit = compared T A (part A start len) first row less ms t n w (end .link) (Differ c) (found-link T A (part A start len) first row less ms t n w (end .at) (end .link) down (stopped .link)) told in

@@ -29,4 +29,4 @@ Agree c m n = (r : ℕ) → r < c → bitAt m r ≡ bitAt n r
 pub record Critical (m n : Bytes) (c : ℕ) : Type 0 where
   pub agree : Agree c m n
   pub differ : bitAt m c ≡ bitAt n c → ⊥
-  pub small : c < 4294967296
+  pub small : c < 1073741824

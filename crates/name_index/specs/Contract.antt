@@ -62,7 +62,7 @@ pub record EnterRoom (T A : Bytes) (first row start len : ℕ) : Type 0 where
   pub member : 1 ≤ first
   pub order : first ≤ row
   pub rows : row ≤ maxValues
-  pub table : maxValues * 28 ≤ length T
+  pub table : tableBytes ≤ length T
   pub strings : start + len ≤ length A
   pub short : start + len ≤ maxTextBytes
 

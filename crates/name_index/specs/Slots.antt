@@ -4,12 +4,13 @@ use mathlib.Core.Path.{_≡_}
 use mathlib.Core.Bool.{Bool, true, false}
 use mathlib.Core.List.{List, [], _∷_, _++_, map}
 use mathlib.Core.Logic.{_⊎_}
-use Prim.Native.Nat.{ℕ, _+_, _*_, _/_, _<_, _≤_}
+use Prim.Native.Nat.{ℕ, _+_, _*_, _/_, _%_, _<_, _≤_}
 use lib.ListN.{length, take, drop}
 use Rattle.model.specs.Bytes.{Bytes, sameBytes}
 use Rattle.model.specs.Limits.{maxValues, maxTextBytes}
 use Rattle.model.specs.Lists.{any}
 use Rattle.area.specs.Words.{wordAt}
+use Rattle.syntax.specs.Layout.{rowBytes, entryBytes, tableBytes}
 use Rattle.name_index.specs.Bits.{part}
 use Rattle.name_index.specs.Trie.{Trie, leaf, node, Leaf, Node, Apart, Ordered}
 
@@ -46,24 +47,32 @@ pub record Within (first row : ℕ) (ms : List (ℕ × Bytes)) : Type 0 where
   pub none : row ≡ first → ms ≡ []
   pub some : ms ≡ [] → row ≡ first
 
--- ---- entries: twelve bytes for each row, behind the rows. A node's entry holds its rank and a link for each side. The
+-- ---- entries: two words for each row, behind the rows. A node's entry holds its rank and a link for each side. The
 -- root's link is the left one of the entry `first`. A link is twice the row of a leaf, or one more than twice that of a node.
 
 unfoldable pub place : ℕ → ℕ
-place k = maxValues * 16 + k * 12
+place k = maxValues * rowBytes + k * entryBytes
 
 unfoldable pub entry : Bytes → ℕ → Bytes
-entry T k = take 12 (drop (place k) T)
+entry T k = take entryBytes (drop (place k) T)
 
+-- Where the word of a side lies in an entry.
 abbrev pub side : Bool → ℕ
-side false = 4
-side true = 8
+side false = 0
+side true = 4
+
+-- A word has a link in its lowest 17 bits. Above them the first has the lowest 15 bits of the rank, the second the others.
+abbrev pub linkIn : ℕ → ℕ
+linkIn w = w % 131072
+
+abbrev pub rankIn : ℕ → ℕ → ℕ
+rankIn x y = x / 131072 + y / 131072 * 32768
 
 abbrev pub rankAt : Bytes → ℕ → ℕ
-rankAt T k = wordAt (entry T k) 0
+rankAt T k = rankIn (wordAt (entry T k) 0) (wordAt (entry T k) 4)
 
 abbrev pub linkAt : Bytes → ℕ → Bool → ℕ
-linkAt T k b = wordAt (entry T k) (side b)
+linkAt T k b = linkIn (wordAt (entry T k) (side b))
 
 -- A trie hangs at a link.
 abbrev pub Holds : Bytes → ℕ → Bool → Trie → Type 0
@@ -88,7 +97,7 @@ Indexed T first (m ∷ ms) = Tree T first (m ∷ ms)
 -- ---- entering the name of `len` bytes at `start`, for the member in the slot `row` of the object whose first is in `first`
 
 pub record Room (T A : Bytes) (first row start len : ℕ) : Type 0 where
-  pub table : maxValues * 28 ≤ length T
+  pub table : tableBytes ≤ length T
   pub order : first ≤ row
   pub below : row < maxValues
   pub inside : start + len ≤ length A

@@ -32,7 +32,7 @@ Apart (node k c t) =
 abbrev pub Ordered : Bytes → ℕ → Trie → Type 0
 Ordered w from (leaf q m) = Agree from w m
 Ordered w from (node k c t) =
-    (from ≤ c) × (c < 4294967296) × (p : Bool → Bytes) × ((b : Bool) → Agree from w (p b))
+    (from ≤ c) × (c < 1073741824) × (p : Bool → Bytes) × ((b : Bool) → Agree from w (p b))
     × Agree c (p false) (p true) × ((b : Bool) → bitAt (p b) c ≡ b) × ((b : Bool) → Ordered (p b) (c + 1) (t b))
 
 -- ---- walks

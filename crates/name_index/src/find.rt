@@ -4,9 +4,10 @@ use crate::descend;
 use area::get_word;
 use bytes::same;
 use model::MAX_VALUES;
-ghost use Prim.Native.Nat.{_*_, _≤_};
+use syntax::TABLE_BYTES;
+ghost use Prim.Native.Nat.{_≤_};
 ghost use lib.ListN.{length};
-ghost use Rattle.model.specs.Limits.{maxValues};
+ghost use Rattle.syntax.specs.Layout.{tableBytes};
 ghost use Rattle.name_index.specs.Contract.{Finds};
 ghost use Rattle.name_index.specs.Inner.{NamedSlot};
 
@@ -26,7 +27,7 @@ pub fn find(table: &[u8], strings: &[u8], first: usize, name: &[u8]) -> Found
     if MAX_VALUES <= first {
         return Found::Nowhere;
     }
-    if table.len() < MAX_VALUES * 28 {
+    if table.len() < TABLE_BYTES {
         return Found::Nowhere;
     }
     let end = descend(
@@ -43,7 +44,7 @@ pub fn find(table: &[u8], strings: &[u8], first: usize, name: &[u8]) -> Found
 
 // The row of a slot, if the member there has this name.
 fn named(table: &[u8], strings: &[u8], slot: usize, name: &[u8]) -> Found
-    requires { ⌜ maxValues * 28 ≤ length (now table) ⌝ }
+    requires { ⌜ tableBytes ≤ length (now table) ⌝ }
     ensures { λ r. ⌜ NamedSlot (now (table .entry)) (now (strings .entry)) slot (now (name .entry)) r ⌝ }
 {
     if MAX_VALUES - 1 <= slot {

@@ -6,8 +6,9 @@ ghost use Rattle.model.specs.Limits.{maxValues, maxTextBytes};
 ghost use Rattle.name_index.specs.Bits.{part, symbolAt, bitAt};
 ghost use Rattle.name_index.specs.Contract.{EnterRoom};
 ghost use Rattle.name_index.specs.Contract as index;
-ghost use Rattle.name_index.specs.Slots.{place, side, Room, Entered};
-ghost use Rattle.name_index.specs.Inner.{Common, Highest, Told, ToldOf, WalkRoom, Descended, Stopped, NoNode, IsNode, RankOf, Forked};
+ghost use Rattle.syntax.specs.Layout.{tableBytes};
+ghost use Rattle.name_index.specs.Slots.{place, side, linkIn, rankIn, Room, Entered};
+ghost use Rattle.name_index.specs.Inner.{Common, Highest, Told, Ranked, ToldOf, WalkRoom, Descended, Stopped, NoNode, IsNode, RankOf, noded, Forked};
 ghost use Rattle.area.specs.Words.{wordAt};
 
 pub mod find;
@@ -15,9 +16,17 @@ pub mod find;
 use area::get_word;
 use area::put_word;
 use model::MAX_VALUES;
+use syntax::ENTRY_BYTES;
+use syntax::ROW_BYTES;
+
+// A link is below this; a word of an entry has one, and a part of a rank above it.
+const LINKS: usize = 131072;
+
+// The part of a rank in the first word is below this.
+const LOW_RANKS: usize = 32768;
 
 // Above every rank.
-const NO_STOP: usize = 4294967296;
+const NO_STOP: usize = 1073741824;
 
 // How two names compare: the first rank in which they differ.
 enum Compared {
@@ -61,7 +70,7 @@ fn enter_slot(
     ensures { λ b. ⌜ Entered (now (table .entry)) (now (strings .entry)) first row start len b (now (table .exit)) ⌝ }
 {
     if row == first {
-        put_word(table, entry_at(first) + 4, row * 2);
+        put_word(table, entry_at(first), row * 2);
         return false;
     }
     let end = descend(table, strings, first, row, start, len, NO_STOP);
@@ -82,7 +91,7 @@ fn entry_at(row: usize) -> usize
     requires { ⌜ row < maxValues ⌝ }
     ensures { λ r. ⌜ r ≡ place row ⌝ }
 {
-    MAX_VALUES * 16 + row * 12
+    MAX_VALUES * ROW_BYTES + row * ENTRY_BYTES
 }
 
 // Where the node of a rank belongs, after the way down that no rank stopped: at its end, if only lower ranks were passed.
@@ -96,7 +105,7 @@ fn slot(
     rank: usize,
     end: Ended,
 ) -> usize
-    requires { ⌜ Room (now table) (now strings) first row start len × (first < row) × Stopped (now table) (part (now strings) start len) first row 4294967296 end ⌝ }
+    requires { ⌜ Room (now table) (now strings) first row start len × (first < row) × Stopped (now table) (part (now strings) start len) first row 1073741824 end ⌝ }
     ensures { λ r. ⌜ Descended (now (table .entry)) (part (now (strings .entry)) start len) first row rank r ⌝ }
 {
     if end.from <= rank {
@@ -120,8 +129,8 @@ fn descend(
     requires { ⌜ WalkRoom (now table) (now strings) first row start len ⌝ }
     ensures { λ r. ⌜ Stopped (now (table .entry)) (part (now (strings .entry)) start len) first row stop r ⌝ }
 {
-    let mut at = entry_at(first) + 4;
-    let mut link = get_word(table, at);
+    let mut at = entry_at(first);
+    let mut link = link_at(table, at);
     let mut from = 0;
     loop {
         let node = node_of(link, first, row);
@@ -134,16 +143,16 @@ fn descend(
             return Ended { at, from, link };
         }
         from = rank + 1;
-        if turn(strings, start, len, rank) == 4 {
-            at = entry + 4;
-            link = get_word(table, at);
+        if turn(strings, start, len, rank) == 0 {
+            at = entry;
+            link = link_at(table, at);
             if link % 2 == 0 {
                 return Ended { at, from, link };
             }
             continue;
         }
-        at = entry + 8;
-        link = get_word(table, at);
+        at = entry + 4;
+        link = link_at(table, at);
     }
 }
 
@@ -164,25 +173,35 @@ fn node_of(link: usize, first: usize, row: usize) -> usize
     node
 }
 
+// The link in a word of an entry.
+fn link_at(table: &[u8], at: usize) -> usize
+    requires { ⌜ at + 4 ≤ length (now table) ⌝ }
+    ensures { λ r. ⌜ r ≡ linkIn (wordAt (now (table .entry)) at) ⌝ }
+{
+    get_word(table, at) % LINKS
+}
+
 // The rank in an entry; `stop` if it is below `from`.
 fn rank_of(table: &[u8], entry: usize, from: usize, stop: usize) -> usize
-    requires { ⌜ entry + 4 ≤ length (now table) ⌝ }
-    ensures { λ r. ⌜ RankOf (wordAt (now (table .entry)) entry) from stop r ⌝ }
+    requires { ⌜ entry + 8 ≤ length (now table) ⌝ }
+    ensures { λ r. ⌜ RankOf (rankIn (wordAt (now (table .entry)) entry) (wordAt (now (table .entry)) (entry + 4))) from stop r ⌝ }
 {
-    let rank = get_word(table, entry);
+    let low = get_word(table, entry) / LINKS;
+    let high = get_word(table, entry + 4) / LINKS;
+    let rank = low + high * LOW_RANKS;
     if rank < from {
         return stop;
     }
     rank
 }
 
-// Where in a node's entry the link lies that a name takes: 4 or 8.
+// Where in a node's entry the word of the link lies that a name takes: 0 or 4.
 fn turn(strings: &[u8], start: usize, len: usize, rank: usize) -> usize
     requires { ⌜ start + len ≤ length (now strings) ⌝ }
     ensures { λ r. ⌜ r ≡ side (bitAt (part (now (strings .entry)) start len) rank) ⌝ }
 {
     let s = symbol(strings, start, len, rank / 16);
-    4 + (s >> (15 - rank % 16)) % 2 * 4
+    (s >> (15 - rank % 16)) % 2 * 4
 }
 
 // The byte at a place of a name, and 256; 0 past its end.
@@ -205,8 +224,8 @@ fn compare(
     start: usize,
     len: usize,
 ) -> Compared
-    requires { ⌜ (maxValues * 28 ≤ length (now table)) × (row < maxValues) × (start + len ≤ length (now strings)) × (start + len ≤ maxTextBytes) ⌝ }
-    ensures { λ r. ⌜ ToldOf (now (table .entry)) (now (strings .entry)) link row (part (now (strings .entry)) start len) r ⌝ }
+    requires { ⌜ (tableBytes ≤ length (now table)) × (row < maxValues) × (start + len ≤ length (now strings)) × (start + len ≤ maxTextBytes) ⌝ }
+    ensures { λ r. ⌜ ToldOf (now (table .entry)) (now (strings .entry)) link row (part (now (strings .entry)) start len) r × Ranked r ⌝ }
 {
     let other = link / 2;
     if row <= other {
@@ -262,13 +281,25 @@ fn high(x: usize, y: usize) -> usize
 
 // Puts the node of `row` at a link: the new leaf on its side, what hung there on the other.
 fn fork(table: &mut [u8], at: usize, row: usize, rank: usize, side: usize)
-    requires { ⌜ (maxValues * 28 ≤ length (now table)) × (row < maxValues) × (at + 4 ≤ length (now table)) × (4 ≤ side) × (side ≤ 8) ⌝ }
+    requires { ⌜ (tableBytes ≤ length (now table)) × (row < maxValues) × (at + 4 ≤ length (now table)) × (rank < 1073741824) ⌝ }
     ensures { λ _. ⌜ Forked (now (table .entry)) at row rank side (now (table .exit)) ⌝ }
 {
-    let old = get_word(table, at);
+    let word = get_word(table, at);
+    let old = word % LINKS;
+    put_word(table, at, word - old + (row * 2 + 1));
+    if side == 0 {
+        put_node(table, row, rank, row * 2, old);
+        return;
+    }
+    put_node(table, row, rank, old, row * 2);
+}
+
+// The entry of a node: its links and its rank.
+fn put_node(table: &mut [u8], row: usize, rank: usize, left: usize, right: usize)
+    requires { ⌜ (tableBytes ≤ length (now table)) × (row < maxValues) × (rank < 1073741824) × (left < 131072) × (right < 131072) ⌝ }
+    ensures { λ _. ⌜ now (table .exit) ≡ noded (now (table .entry)) row rank left right ⌝ }
+{
     let entry = entry_at(row);
-    put_word(table, entry, rank);
-    put_word(table, entry + side, row * 2);
-    put_word(table, entry + (12 - side), old);
-    put_word(table, at, row * 2 + 1);
+    put_word(table, entry, left + rank % LOW_RANKS * LINKS);
+    put_word(table, entry + 4, right + rank / LOW_RANKS * LINKS);
 }

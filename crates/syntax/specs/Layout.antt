@@ -18,7 +18,7 @@ unfoldable pub rowBytes : ℕ
 rowBytes = 16
 
 unfoldable pub entryBytes : ℕ
-entryBytes = 12
+entryBytes = 8
 
 abbrev pub tableBytes : ℕ
 tableBytes = maxValues * (rowBytes + entryBytes)

@@ -7,7 +7,7 @@ use model::MAX_VALUES;
 // Sizes of the read form, as specs/Layout.antt has them.
 pub const ROW_BYTES: usize = 16;
 
-pub const ENTRY_BYTES: usize = 12;
+pub const ENTRY_BYTES: usize = 8;
 
 pub const TABLE_BYTES: usize = MAX_VALUES * (ROW_BYTES + ENTRY_BYTES);
 

@@ -14,7 +14,7 @@ slips! {
     RowsOneLess: "the last row is not there",
     RowsUnlimited: "rows from 1,024 on are there",
     RowsLimitedLess: "row 1,023 is not there",
-    RowsOf28: "a row for each 28 bytes of the table",
+    RowsOf24: "a row for each 24 bytes of the table",
     PlaceOf32Bits: "a place has 32 bits",
     PlaceOf60Bits: "a place has 60 bits",
     // kinds
@@ -170,7 +170,7 @@ impl Wrong {
         let length = table.len() as u64;
         let rows = match self.slip {
             Slip::HalfRow => (length + 15) / 16,
-            Slip::RowsOf28 => length / 28,
+            Slip::RowsOf24 => length / 24,
             Slip::RowsOneLess => (length / 16).saturating_sub(1),
             _ => length / 16,
         };

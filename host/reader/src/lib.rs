@@ -23,8 +23,8 @@ pub const MAX_TEXT_BYTES: usize = 16_384;
 pub const MAX_VALUES: usize = 1_024;
 pub const MAX_NESTING: usize = 32;
 pub const MAX_INTEGER: u64 = 9_007_199_254_740_991;
-/// Bytes of work room for each value: its row, and 12 bytes that are zero again after a call.
-pub const VALUE_BYTES: usize = 28;
+/// Bytes of work room for each value: its row, and 8 bytes that are zero again after a call.
+pub const VALUE_BYTES: usize = 24;
 pub const TABLE_BYTES: usize = MAX_VALUES * VALUE_BYTES;
 pub const STRINGS_BYTES: usize = MAX_TEXT_BYTES;
 

@@ -13,6 +13,11 @@ pub values-below : maxValues < 16777216
 unfolding maxValues
 values-below = omega arith
 
+-- A link of the index of names has 17 bits.
+pub values-linked : 2 * maxValues ≤ 131072
+unfolding maxValues
+values-linked = omega arith
+
 pub cells-below : heapCells < 16777216
 unfolding heapCells
 cells-below = omega arith

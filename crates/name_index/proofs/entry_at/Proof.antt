@@ -2,6 +2,7 @@
 use Rattle.name_index.specs.Slots.{place}
 use Rattle.model.specs.Laws.Widths.{values-below}
 use Rattle.model.specs.Limits.{maxValues}
+use Rattle.syntax.specs.Layout.{rowBytes, entryBytes}
 use mathlib.Core.Path.{refl}
 use native.Mathlib.Omega.{arith}
 use borrow.Author.Needs.{needs}
@@ -18,7 +19,7 @@ add-result : tie.Need-add-result
 add-result c = omega (arith, values-below, c .pre)
 
 returns : tie.Need-returns
-unfolding place maxValues
+unfolding place maxValues rowBytes entryBytes
 returns c = refl
 
 pub entry-at-spec : {M : Type 1} → statement M

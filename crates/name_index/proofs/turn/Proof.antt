@@ -17,12 +17,9 @@ shr-result c = search needs
 mul-result : tie.Need-mul-result
 mul-result c = search needs
 
-add-result : tie.Need-add-result
-add-result c = search needs
-
 returns : tie.Need-returns
 returns c = turn-side (part (c .before .before .args .strings .now) (c .before .before .args .start) (c .before .before .args .len)) (c .before .before .args .rank) (c .symbol .result) (c .symbol .ensures .0)
 
 pub turn-spec : {M : Type 1} → statement M
 turn-spec =
-    tie.close (tie.spec symbol-requires sub-result shr-result mul-result add-result returns)
+    tie.close (tie.spec symbol-requires sub-result shr-result mul-result returns)

@@ -12,6 +12,7 @@ use Rattle.model.specs.Bytes.{Bytes, sameBytes}
 use Rattle.model.specs.Limits.{maxValues}
 use Rattle.model.specs.Laws.Logic.{bytes→≡, bytes-refl}
 use Rattle.area.specs.Laws.{drop-sets-behind}
+use Rattle.syntax.specs.Layout.{rowBytes, entryBytes}
 use Rattle.name_index.specs.Trie.{Trie, leaf, node, Node}
 use Rattle.name_index.specs.Slots.{Has, names, among, place, entry, Holds, Tree, Indexed}
 
@@ -62,8 +63,8 @@ among-false n (x ∷ ms) f =
 
 -- What is stored in the rows leaves the entries.
 pub entry-rows : (T xs : Bytes) (i k : ℕ) → i + length xs ≤ maxValues * 16 → entry (sets T i xs) k ≡ entry T k
-unfolding entry place
-entry-rows T xs i k h = ap (take 12) (drop-sets-behind (place k) xs T i (omega arith))
+unfolding entry place rowBytes entryBytes
+entry-rows T xs i k h = ap (take entryBytes) (drop-sets-behind (place k) xs T i (omega arith))
 
 pub indexed-none : (T : Bytes) (first : ℕ) → Indexed T first []
 unfolding Indexed

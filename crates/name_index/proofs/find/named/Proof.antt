@@ -1,6 +1,7 @@
 -- The words of the row say where its name lies.
 use Rattle.name_index.proofs.Found.{slot-outside, name-outside, name-same, name-other}
 use Rattle.model.specs.Limits.{maxValues}
+use Rattle.syntax.specs.Layout.{rowBytes, entryBytes}
 use native.Mathlib.Omega.{arith}
 use borrow.Author.Needs.{needs}
 use Rattle.name_index.proofs.find.named.Statement.{statement}
@@ -20,7 +21,7 @@ add-get-word : tie.Need-add-get-word
 add-get-word c = search needs
 
 get-word-requires : tie.Need-get-word-requires
-unfolding maxValues
+unfolding maxValues rowBytes entryBytes
 get-word-requires c κs = omega (arith, c .before .before .before .before .pre)
 
 mul-get-word-2 : tie.Need-mul-get-word-2
@@ -30,7 +31,7 @@ add-get-word-2 : tie.Need-add-get-word-2
 add-get-word-2 c = search needs
 
 get-word-requires-2 : tie.Need-get-word-requires-2
-unfolding maxValues
+unfolding maxValues rowBytes entryBytes
 get-word-requires-2 c κs = omega (arith, c .before .before .before .before .before .pre)
 
 add-end : tie.Need-add-end
