@@ -10,6 +10,7 @@ use Rattle.model.specs.Eval.{run}
 use Rattle.model.specs.EvalPlain.{gives, denies, evalPlain, plainOutcome, left}
 use Rattle.model.specs.Laws.Logic.{clash}
 use Rattle.model.specs.Laws.Plain.{plain-agrees}
+use Rattle.model.specs.Laws.Widths.{steps-have-cells}
 use Rattle.model.specs.Limits.{maxNesting, maxSteps, heapCells}
 use Rattle.model.specs.Refusal.{evalNumber}
 use Rattle.model.specs.Rule.{Rule}
@@ -50,11 +51,6 @@ whole R limit = task 0 (rowHandle R 0) (state limit 0 heapCells maxNesting)
 pub whole-task : (R : Bytes) (limit : ℕ) (t : Task) (h : Handle) (s : State) → t ≡ task 0 h s → h ≡ rowHandle R 0 → s ≡ state limit 0 heapCells maxNesting → t ≡ whole R limit
 whole-task R limit t h s e f g = e ∙ (λ i. task 0 (f i) (g i))
 
--- One step more than a limit allows still has its cells.
-steps-and-one : 2 * maxSteps + 2 ≤ heapCells
-unfolding maxSteps heapCells
-steps-and-one = omega arith
-
 -- The rule is the operand of a rule around it, which has begun with one step and one nesting more, and whose value is its own.
 abbrev around : ℕ → State
 around limit = state (limit + 1) 0 heapCells (maxNesting + 1)
@@ -65,7 +61,7 @@ charged-around R limit t e = rw e (record { grows = omega arith; spends = omega 
 pub whole-operating : {T A R B C : Bytes} {limit : ℕ} (t : Task) → Ready T A R B C limit → t ≡ whole R limit → Operating C (Asks t Branch)
 whole-operating {R = R} {limit = limit} t r e = record {
   base = around limit;
-  room = record { fits = omega (arith, r .limited, steps-and-one); within = omega arith; enough = r .enough };
+  room = record { fits = omega (arith, r .limited, steps-have-cells); within = omega arith; enough = r .enough };
   within = charged-around R limit t e;
 }
 
@@ -73,7 +69,7 @@ pub whole-prepared : {T A R B C : Bytes} {limit : ℕ} → Ready T A R B C limit
 whole-prepared r = record { marked = r .marked; indexed = r .indexed }
 
 top-fits : (top left limit : ℕ) → limit ≤ maxSteps → top + 2 * left + 2 ≤ 0 + 2 * (limit + 1) → top ≤ heapCells
-top-fits top left limit l b = omega (arith, steps-and-one)
+top-fits top left limit l b = omega (arith, steps-have-cells)
 
 -- The steps that are left tell those begun.
 begun-of : (ρ : Rule) (κ : Value) (limit l : ℕ) → left (evalPlain ρ κ limit) ≡ l → (steps (run ρ κ limit) ≡ limit - l) × (l ≤ limit)

@@ -34,8 +34,8 @@ pub values-small : {n : ℕ} → n ≤ maxValues → n < 16777216
 values-small h = omega (arith, values-below)
 
 -- ---- the limits beside each other
--- Two cells for each step.
-pub steps-have-cells : 2 * maxSteps ≤ heapCells
+-- Two cells for each step, and for one step more: that of the rule around the whole one.
+pub steps-have-cells : 2 * maxSteps + 2 ≤ heapCells
 unfolding maxSteps heapCells
 steps-have-cells = omega arith
 
