@@ -203,8 +203,8 @@ entry-cleared : (T : Bytes) (n e : ℕ) → tableBytes ≤ length T → entry (z
 unfolding slots.entry slots.place rowBytes entryBytes
 entry-cleared T n e h =
     let all = maxValues * 16 in
-    let k = (e - 1) * 12 in
-    ap (take 12) (sym (drop-drop k all (zeroBetween n all T)) ∙ ap (drop k) (drop-zeroBetween n all T (omega arith)) ∙ drop-drop k all T)
+    let k = (e - 1) * entryBytes in
+    ap (take entryBytes) (sym (drop-drop k all (zeroBetween n all T)) ∙ ap (drop k) (drop-zeroBetween n all T (omega arith)) ∙ drop-drop k all T)
 
 -- ---- a law for each return of `read_rows`
 different : {v : Value} {k : ReadFault} {p : ℕ} {g : Read} → g ≡ done v → g ≡ refuse k p → ⊥

@@ -66,8 +66,8 @@ module _ (T : Bytes) (at : ℕ) (bs : Bytes) (fits : at + length bs ≤ maxValue
   rows-sets = take-sets (maxValues * rowBytes) bs T at fits
 
   pub entry-sets : (e : ℕ) → entry (sets T at bs) e ≡ entry T e
-  unfolding slots.entry slots.place rowBytes
-  entry-sets e = ap (take 12) (drop-sets-behind (slots.place (e - 1)) bs T at (omega arith))
+  unfolding slots.entry slots.place rowBytes entryBytes
+  entry-sets e = ap (take entryBytes) (drop-sets-behind (slots.place (e - 1)) bs T at (omega arith))
 
 pub take-rows : (T : Bytes) (n : ℕ) → n ≤ maxValues * rowBytes → take n (rowsPart T) ≡ take n T
 unfolding rowsPart
