@@ -1,6 +1,6 @@
 -- Widths: what the laws and proofs know of the limits. It is computed from their digits here and nowhere else: a release that raises a limit
 -- (02, P12) has these facts checked again, and no other proof names its digits.
-use Prim.Native.Nat.{ℕ, _*_, _≤_, _<_}
+use Prim.Native.Nat.{ℕ, _+_, _*_, _≤_, _<_}
 use native.Mathlib.Omega.{arith}
 use Rattle.model.specs.Limits.{maxTextBytes, maxValues, maxNesting, maxSteps, heapCells}
 
