@@ -54,6 +54,14 @@ module _ {s A B : Bytes} {at used i to : ℕ} (r : Runs s at used A B i to) wher
   pub runs-end : Taken s at used A i (used + (i - at)) B
   runs-end = record { bs = r .taken .bs; reads = r .taken .reads; next = omega arith; area = r .taken .area }
 
+-- The same, k bytes from the start.
+pub runs-start : (s : Bytes) (at used : ℕ) (A : Bytes) → at ≤ length s → Runs s at used A A (at + 0) (used + 0)
+runs-start s at used A h = record { taken = rw (add-zero at, add-zero used) (taken-none s at used A h); even = omega arith }
+
+pub runs-next : {s A B : Bytes} (at used k : ℕ) → Runs s at used A B (at + k) (used + k) → at + k < length s → leadOf (getD s (at + k) 0) ≡ Char 0 128 191
+    → Runs s at used A (set B (used + k) (getD s (at + k) 0)) (at + (k + 1)) (used + (k + 1))
+runs-next at used k r h e = rw (← add-assoc at k 1, ← add-assoc used k 1) (runs-more r h e)
+
 -- ---- a copy of bytes
 pub record Copies (s : Bytes) (at n : ℕ) (A : Bytes) (used : ℕ) (B : Bytes) (i : ℕ) : Type 0 where
   pub few : i ≤ n

@@ -1,15 +1,15 @@
 -- The whole reading of a string's characters: its turns, and its ends. Assumes nothing.
-use mathlib.Core.Path.{_≡_, refl, ap, _∙_, subst, subst⁻¹}
+use mathlib.Core.Path.{_≡_, refl, sym, ap, _∙_, subst, subst⁻¹}
 use mathlib.Core.Bool.{Bool, true}
-use mathlib.Core.List.{[], append-nil}
+use mathlib.Core.List.{[], _++_, append-nil}
 use Prim.Native.Nat.{ℕ, zero, suc, _+_, _-_, _≤_, _<_}
 use native.Mathlib.Omega.{arith}
-use lib.ListN.{length, drop, take}
-use lib.Seq.{length-sets}
+use lib.ListN.{length, drop, take, length-append}
+use lib.Seq.{sets, length-sets, take-take}
 use Rattle.model.specs.Bytes.{Bytes}
 use Rattle.model.specs.Refusal.{notJson}
-use Rattle.area.specs.Laws.{take-sets-before}
-use Rattle.syntax.specs.Read.{ok, bad, then, give, chars, clear, grow}
+use Rattle.area.specs.Laws.{sets-append, take-sets-before}
+use Rattle.syntax.specs.Read.{Parsed, ok, bad, then, give, chars, clear, grow}
 use Rattle.syntax.specs.Utf8.{leadOf}
 use Rattle.scan.specs.declared.Fault.{Fault}
 use Rattle.scan.specs.Contract.{faultOf, Stands}
@@ -74,6 +74,33 @@ module _ {s A B : Bytes} {at used i to : ℕ} (t : Taken s at used A i to B) whe
       (λ f h.
       let l : length s < i + rest f = omega (arith, t .reads .few) in
       subst⁻¹ (λ g. CharsMeets s at used A g (NoChars y) C) (on f h ∙ ap (grow (t .bs)) (x .run (rest f) l)) (ap NoChars (x .fault)))
+
+  -- What is promised from i on, after what is decoded up to i.
+  meets-then : (r : Decoded) (C : Bytes) (g : Parsed Bytes) → CharsMeets s i to B g r C → CharsMeets s at used A (grow (t .bs) g) r C
+  unfolding grow then give
+  meets-then r C (ok bs u q) x =
+      let e : to + length bs ≡ used + length (t .bs ++ bs) = simp length-append (omega (arith, t .next)) in
+      record {
+        answer = x .answer ∙ ap (Chars q) e;
+        area = x .area ∙ (λ k. sets (t .area k) (t .next k) bs) ∙ sets-append (t .bs) bs A used;
+        left = x .left;
+        on = simp length-append (omega (arith, t .reads .short, x .on));
+        inside = x .inside;
+        quote = x .quote;
+      }
+  meets-then r C (bad k p) x = x
+
+  pub promise-then : {r : Decoded} {C : Bytes} → CharsPromise s i to B r C → CharsPromise s at used A r C
+  unfolding rest
+  promise-then {r} {C} x =
+      let l : used ≤ to = omega (arith, t .next) in
+      record {
+        run = λ f h.
+            subst⁻¹ (λ g. CharsMeets s at used A g r C) (on f h)
+            (meets-then r C (chars (rest f) clear (drop i s) i) (x .run (rest f) (omega (arith, t .reads .few))));
+        size = x .size ∙ taken-length t;
+        kept = sym (take-take used to C l) ∙ ap (take used) (x .kept) ∙ take-take used to B l ∙ ap (take used) (t .area) ∙ take-sets-before used (t .bs) A used (omega arith);
+      }
 
 -- ---- what `chars` says where no byte is left, and of a piece
 pub promise-end : {s : Bytes} {at used : ℕ} {A : Bytes} {r : Decoded} → length s ≤ at → r ≡ NoChars (faultOf notJson at) → CharsPromise s at used A r A

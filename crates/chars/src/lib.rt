@@ -122,6 +122,35 @@ fn plain_run(text: &[u8], at: usize, strings: &mut [u8], used: usize) -> usize
     i
 }
 
+// Copies the plain bytes among the sixteen at `at`, up to the first that is not, and gives their end. It compiles to no loop.
+fn plain_start(text: &[u8], at: usize, strings: &mut [u8], used: usize) -> usize
+    requires { ⌜ (Room (now text) at used (now strings)) × (at + 16 ≤ length (now text)) ⌝ }
+    ensures { λ r. ⌜ Taken (now (text .entry)) at used (now (strings .entry)) r (used + (r - at)) (now (strings .exit)) ⌝ }
+{
+    for k in 0..16 {
+        let b = text[at + k];
+        if !is_plain(b) {
+            return at + k;
+        }
+        strings[used + k] = b;
+    }
+    at + 16
+}
+
+// Copies the run of plain bytes at `at`, or sixteen of it, and gives the end.
+fn short_run(text: &[u8], at: usize, strings: &mut [u8], used: usize) -> usize
+    requires { ⌜ Room (now text) at used (now strings) ⌝ }
+    ensures { λ r. ⌜ Taken (now (text .entry)) at used (now (strings .entry)) r (used + (r - at)) (now (strings .exit)) ⌝ }
+{
+    if text.len() - at < 16 {
+        return plain_run(text, at, strings, used);
+    }
+    if !is_plain(text[at]) {
+        return at;
+    }
+    plain_start(text, at, strings, used)
+}
+
 // How many of the `n` bytes at `at` can follow a character's first one: the first from `lo` to `hi`, the others from 80 to BF.
 fn tails(text: &[u8], at: usize, n: usize, lo: u8, hi: u8) -> usize
     requires { ⌜ at ≤ length (now text) ⌝ }
@@ -421,23 +450,15 @@ fn piece(text: &[u8], at: usize, strings: &mut [u8], used: usize) -> Decoded
     }
 }
 
-// The characters from `at` up to the closing quote, which stays.
-pub fn chars(text: &[u8], at: usize, strings: &mut [u8], used: usize) -> Decoded
-    requires { ⌜ (used ≤ at) × (length (now text) ≤ length (now strings)) ⌝ }
+// The characters from `at`, where no quote stands, up to the closing quote: a piece and a run of plain bytes at a time.
+fn from_piece(text: &[u8], at: usize, strings: &mut [u8], used: usize) -> Decoded
+    requires { ⌜ (Room (now text) at used (now strings)) × Stands (now text) at 34 false ⌝ }
     ensures { λ r. ⌜ CharsPromise (now (text .entry)) at used (now (strings .entry)) r (now (strings .exit)) ⌝ }
 {
-    if text.len() <= at {
-        return fault(2, at);
-    }
     let mut i = at;
     let mut to = used;
     loop {
-        let end = plain_run(text, i, strings, to);
-        to += end - i;
-        if stands(text, end, b'"') {
-            return Decoded::Chars { at: end, used: to };
-        }
-        let one = piece(text, end, strings, to);
+        let one = piece(text, i, strings, to);
         match one {
             Decoded::NoChars(f) => {
                 return Decoded::NoChars(f);
@@ -446,9 +467,44 @@ pub fn chars(text: &[u8], at: usize, strings: &mut [u8], used: usize) -> Decoded
                 at: next,
                 used: done,
             } => {
-                i = next;
-                to = done;
+                i = plain_run(text, next, strings, done);
+                to = done + (i - next);
+                if stands(text, i, b'"') {
+                    return Decoded::Chars { at: i, used: to };
+                }
             }
         }
     }
+}
+
+// The characters from `at` up to the closing quote, of any string.
+fn any_chars(text: &[u8], at: usize, strings: &mut [u8], used: usize) -> Decoded
+    requires { ⌜ Room (now text) at used (now strings) ⌝ }
+    ensures { λ r. ⌜ CharsPromise (now (text .entry)) at used (now (strings .entry)) r (now (strings .exit)) ⌝ }
+{
+    let i = short_run(text, at, strings, used);
+    let to = used + (i - at);
+    if stands(text, i, b'"') {
+        return Decoded::Chars { at: i, used: to };
+    }
+    from_piece(text, i, strings, to)
+}
+
+// The characters from `at` up to the closing quote, which stays. Most strings have a few plain bytes: these are read first.
+pub fn chars(text: &[u8], at: usize, strings: &mut [u8], used: usize) -> Decoded
+    requires { ⌜ (used ≤ at) × (length (now text) ≤ length (now strings)) ⌝ }
+    ensures { λ r. ⌜ CharsPromise (now (text .entry)) at used (now (strings .entry)) r (now (strings .exit)) ⌝ }
+{
+    if text.len() <= at {
+        return fault(2, at);
+    }
+    if text.len() - at < 16 {
+        return any_chars(text, at, strings, used);
+    }
+    let end = plain_start(text, at, strings, used);
+    let to = used + (end - at);
+    if stands(text, end, b'"') {
+        return Decoded::Chars { at: end, used: to };
+    }
+    any_chars(text, end, strings, to)
 }
