@@ -34,7 +34,7 @@ seenTrace (passed t) limit = 0 ∷ spelled (trace (run (t .rule .content) (t .«
 seenTrace (refused e which place) limit = number e ∷ []
 """
 
-CASES = 3000  # some 90 s of processor time
+CASES = 5000  # some 150 s of processor time
 SHOWN = 20  # disagreements that are printed
 LONGEST_TRACE = 60  # steps of a run whose trace is compared
 

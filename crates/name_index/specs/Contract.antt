@@ -66,7 +66,7 @@ pub record EnterRoom (T A : Bytes) (first row start len : ℕ) : Type 0 where
   pub strings : start + len ≤ length A
   pub short : start + len ≤ maxTextBytes
 
--- What `names::enter(table, strings, first, row, start, len) -> bool` promises. The entries of all rows stay but for those of the members and of the new one.
+-- What `enter(table, strings, first, row, start, len) -> bool` promises. The entries of all rows stay but for those of the members and of the new one.
 pub record Entered (T A : Bytes) (first row start len : ℕ) (b : Bool) (T′ : Bytes) : Type 0 where
   pub size : length T′ ≡ length T
   pub rows : take (maxValues * 16) T′ ≡ take (maxValues * 16) T
@@ -83,7 +83,7 @@ abbrev pub firstNamed : Bytes → List Entry → Found
 firstNamed n [] = Nowhere
 firstNamed n (e ∷ es) = cond (sameBytes n (e .name)) (At (e .row)) (firstNamed n es)
 
--- What `find::find(table, strings, first, name) -> Found` promises: that member, of those that the table's entries index.
+-- What `find(table, strings, first, name) -> Found` promises: that member, of those that the table's entries index.
 pub record Finds (T A : Bytes) (first : ℕ) (n : Bytes) (r : Found) : Type 0 where
   pub is :
       (es : List Entry) → 1 ≤ first → tableBytes ≤ length T → Indexed T first es → Named T A es → Between first maxValues es → (es ≡ [] → ⊥)
