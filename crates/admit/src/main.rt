@@ -5,8 +5,8 @@ ghost use Rattle.std.specs.Prelude.{◌≡◌, ◌+◌, ◌≤◌, length};
 ghost use Rattle.io.specs.Counts.{IsPrefixLen};
 ghost use Rattle.model.specs.Writing.{decimal};
 ghost use Rattle.print.specs.Contract.{Put};
-ghost use Rattle.admit.specs.Limits.{stepLimit, outputBytes};
-ghost use Rattle.admit.specs.Printed.{answerTo, line, printedFor};
+ghost use Rattle.admit.specs.Limits.{step_limit, output_bytes};
+ghost use Rattle.admit.specs.Printed.{answer_to, line, printed_for};
 ghost use Rattle.admit.specs.Inner.{Answers, result_by, Near, Begins};
 
 use heap::cell::CELL_BYTES;
@@ -51,8 +51,8 @@ fn evaluate_in(
     cells: &mut [u8; CELLS_BYTES],
     output: &mut [u8],
 ) -> Outcome
-    requires { length output.old ≡ outputBytes }
-    ensures { Answers (answerTo rule.now «record».now stepLimit outputBytes) result output.new }
+    requires { length output.old ≡ output_bytes }
+    ensures { Answers (answer_to rule.now «record».now step_limit output_bytes) result output.new }
 {
     let mut which: u64 = 0;
     let mut place: u64 = 0;
@@ -82,8 +82,8 @@ fn evaluate_in(
 
 // The same in areas of its own: the proof of the function above does not know their bytes, and so computes with none.
 fn evaluate(rule: &[u8], record: &[u8], output: &mut [u8]) -> Outcome
-    requires { length output.old ≡ outputBytes }
-    ensures { Answers (answerTo rule.now «record».now stepLimit outputBytes) result output.new }
+    requires { length output.old ≡ output_bytes }
+    ensures { Answers (answer_to rule.now «record».now step_limit output_bytes) result output.new }
 {
     let mut rule_table = [0u8; TABLE_BYTES];
     let mut rule_strings = [0u8; STRINGS_BYTES];
@@ -119,7 +119,7 @@ fn put_line(out: &mut [u8], at: usize, word: &[u8], text: &[u8]) -> usize
 
 // A word, a number in decimal and a line end.
 fn put_number_line(out: &mut [u8], at: usize, word: &[u8], n: u64) -> usize
-    requires { (at ≤ outputBytes + 64) × (length word.now ≤ 8) }
+    requires { (at ≤ output_bytes + 64) × (length word.now ≤ 8) }
     ensures { Put (line word.now (decimal n)) at out.old result out.new }
 {
     let mut digits = [0u8; 20];
@@ -129,7 +129,7 @@ fn put_number_line(out: &mut [u8], at: usize, word: &[u8], n: u64) -> usize
 
 // The first line: the answer, or the refusal.
 fn put_result(out: &mut [u8], refusal: u32, text: &[u8]) -> usize
-    requires { length text.now ≤ outputBytes }
+    requires { length text.now ≤ output_bytes }
     ensures { Put (result_by refusal text.now) 0 out.old result out.new }
 {
     if refusal == 0 {
@@ -140,8 +140,8 @@ fn put_result(out: &mut [u8], refusal: u32, text: &[u8]) -> usize
 
 // What is printed, at the start of `out`; its length.
 fn report(rule: &[u8], record: &[u8], out: &mut [u8]) -> usize
-    requires { length out.old ≡ outputBytes + 64 }
-    ensures { Begins (printedFor rule.now «record».now) result out.new }
+    requires { length out.old ≡ output_bytes + 64 }
+    ensures { Begins (printed_for rule.now «record».now) result out.new }
 {
     let mut output = [0u8; OUTPUT_BYTES];
     let o = evaluate(rule, record, &mut output);
@@ -167,7 +167,7 @@ fn read_file(path: &[u8], buffer: &mut [u8]) -> usize
 
 // Reads into two buffers, and prints what a third takes.
 fn run(rule: &mut [u8], record: &mut [u8], out: &mut [u8])
-    requires { length out.old ≡ outputBytes + 64 }
+    requires { length out.old ≡ output_bytes + 64 }
 {
     let rule_size = read_file(b"rule.json", rule);
     let record_size = read_file(b"record.json", record);

@@ -10,9 +10,9 @@ unfoldable pub word_at : List ℕ → ℕ → ℕ
 word_at d at = get_or d at 0 + get_or d (at + 1) 0 * 256 + get_or d (at + 2) 0 * 65536 + get_or d (at + 3) 0 * 16777216
 
 -- An area with zeros from a place on.
-unfoldable pub zeroFrom : ℕ → List ℕ → List ℕ
-zeroFrom n d = take n d ++ replicate (length d - n) 0
+unfoldable pub zero_from : ℕ → List ℕ → List ℕ
+zero_from n d = take n d ++ replicate (length d - n) 0
 
 -- An area with zeros from a place on, up to another.
-unfoldable pub zeroBetween : ℕ → ℕ → List ℕ → List ℕ
-zeroBetween n m d = zeroFrom n (take m d) ++ drop m d
+unfoldable pub zero_between : ℕ → ℕ → List ℕ → List ℕ
+zero_between n m d = zero_from n (take m d) ++ drop m d

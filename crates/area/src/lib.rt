@@ -1,11 +1,11 @@
 // Areas of bytes that a caller lends: clearing one, and numbers of four bytes in one.
 ghost use Rattle.std.specs.Prelude.{◌≡◌, ◌+◌, ◌-◌, ◌≤◌, ◌<◌, length};
 ghost use Rattle.std.proofs.lemmas.List.Edits.{sets};
-ghost use Rattle.area.specs.Contract.{word, word_at, zeroBetween, zeroFrom};
+ghost use Rattle.area.specs.Contract.{word, word_at, zero_between, zero_from};
 
 // Zeros from `from` on.
 pub fn clear_from(d: &mut [u8], from: usize)
-    ensures { d.new ≡ zeroFrom from d.old }
+    ensures { d.new ≡ zero_from from d.old }
 {
     let mut i = from;
     while i < d.len() {
@@ -16,7 +16,7 @@ pub fn clear_from(d: &mut [u8], from: usize)
 
 // Zeros from `from` up to `to`, or to the end.
 pub fn clear_between(d: &mut [u8], from: usize, to: usize)
-    ensures { d.new ≡ zeroBetween from to d.old }
+    ensures { d.new ≡ zero_between from to d.old }
 {
     let end = lesser(to, d.len());
     let mut at = from;

@@ -1,8 +1,8 @@
 // Instants: milliseconds from 1970-01-01, within the years 0000 to 9999.
 ghost use Rattle.std.specs.Prelude.{◌≡◌};
-ghost use Rattle.model.specs.Instant.{earliest, latest, ranged, fromYear0, sinceYear0};
+ghost use Rattle.model.specs.Instant.{earliest, latest, ranged, from_year0, since_year0};
 ghost use Rattle.model.specs.DateText as reading;
-ghost use Rattle.calendar.specs.Contract.{instantResult, dateResult};
+ghost use Rattle.calendar.specs.Contract.{instant_result, date_result};
 
 use days::day::{DayAnswer, MS_PER_DAY, day_of};
 use model::Date;
@@ -57,7 +57,7 @@ impl Instant {
 
     // The instant so many milliseconds from 1970-01-01.
     pub fn new(ms: i64) -> InstantAnswer
-        ensures { instantResult result ≡ ranged ms }
+        ensures { instant_result result ≡ ranged ms }
     {
         if ms < Instant::EARLIEST {
             return InstantAnswer::OutOfRange;
@@ -70,7 +70,7 @@ impl Instant {
 
     // The instant so many milliseconds from 0000-01-01.
     pub fn from_year_0(since: u64) -> InstantAnswer
-        ensures { instantResult result ≡ ranged (fromYear0 since) }
+        ensures { instant_result result ≡ ranged (from_year0 since) }
     {
         if since > LATEST_SINCE_YEAR_0 {
             return InstantAnswer::OutOfRange;
@@ -88,7 +88,7 @@ impl Instant {
 
     // The milliseconds from 0000-01-01; 0 for what is before it.
     pub fn since_year_0(self) -> u64
-        ensures { result ≡ sinceYear0 self.ms }
+        ensures { result ≡ since_year0 self.ms }
     {
         let ms = self.ms;
         if ms >= 0 {
@@ -103,7 +103,7 @@ impl Instant {
 
 // The same answer, about a date.
 pub fn dated(answer: InstantAnswer) -> DateAnswer
-    ensures { dateResult result ≡ instantResult answer }
+    ensures { date_result result ≡ instant_result answer }
 {
     match answer {
         InstantAnswer::At(t) => DateAnswer::At(t),
@@ -113,7 +113,7 @@ pub fn dated(answer: InstantAnswer) -> DateAnswer
 
 // The start of a date: 8 where there is no such date.
 pub fn midnight(date: Date) -> DateAnswer
-    ensures { dateResult result ≡ reading.midnight date }
+    ensures { date_result result ≡ reading.midnight date }
 {
     match day_of(date) {
         DayAnswer::NoDate => DateAnswer::BadDate,

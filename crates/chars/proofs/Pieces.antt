@@ -7,22 +7,22 @@ use native.Mathlib.Numerals.{add-one}
 use lib.ListN.{length, get_or, drop, take, length-drop}
 use lib.Seq.{sets, drop-cons, length-take-le}
 use Rattle.model.specs.Bytes.{Bytes}
-use Rattle.model.specs.Refusal.{ReadFault, notJson, loneSurrogate}
+use Rattle.model.specs.Refusal.{ReadFault, not_json, lone_surrogate}
 use Rattle.syntax.specs.declared.Lead.TheVariants.{Backslash, Char}
 use Rattle.syntax.specs.declared.Escape.TheVariants.{Letter, Unicode, NoEscape}
 use Rattle.syntax.specs.declared.Unit as units
 use Rattle.syntax.specs.declared.Unit.TheVariants.{Plain, High, Low}
-use Rattle.syntax.specs.Laws.Utf8.{utf8-most}
+use Rattle.syntax.specs.Laws.Utf8.{utf8_most}
 use Rattle.syntax.specs.Read.{ok, bad, then, give, bytes, unit, hexes, char, chars, clear, high}
-use Rattle.syntax.specs.Tokens.{escapeOf}
+use Rattle.syntax.specs.Tokens.{escape_of}
 use Rattle.syntax.specs.Utf8.{unit_of, utf8, pair_of}
 use Rattle.scan.specs.declared.Fault.{Fault}
-use Rattle.scan.specs.Contract.{faultOf}
+use Rattle.scan.specs.Contract.{fault_of}
 use Rattle.chars.specs.declared.Decoded.{Decoded}
 use Rattle.chars.specs.declared.Decoded.TheVariants.{Chars, NoChars}
 use Rattle.chars.specs.Inner.{Taken, Stopped, PieceMeets, Pieced, Leads, Tailed, UnitRead, Unicodes, Escaped, Put}
-use Rattle.chars.proofs.Steps.{chars-bytes, chars-bad, chars-plain, chars-high, chars-low, chars-pair, reads-one}
-use Rattle.chars.proofs.Read.{char-escape, char-lead, escape_end, escape-letter, escape-not, escape_unicode}
+use Rattle.chars.proofs.Steps.{chars_bytes, chars_bad, chars_plain, chars_high, chars_low, chars_pair, reads_one}
+use Rattle.chars.proofs.Read.{char_escape, char_lead, escape_end, escape_letter, escape_not, escape_unicode}
 
 -- ---- a piece that was read, and one that was not
 pub gives : {s : Bytes} {at used : ℕ} {A : Bytes} {q to : ℕ} {B : Bytes} → Taken s at used A q to B → at < q → Pieced s at used A (Chars q to) B
@@ -32,7 +32,7 @@ module _ {s : Bytes} {at used : ℕ} {A : Bytes} {r : Decoded} where
   stops : {x : Fault} → r ≡ NoChars x → Stopped s at A x A → Pieced s at used A r A
   stops e t = record { meets = subst⁻¹ (λ (y : Decoded). PieceMeets s at used A y A) e t }
 
-  pub stops_at : (k : ReadFault) {p : ℕ} → at ≤ length s → char (drop at s) at ≡ bad k p → r ≡ NoChars (faultOf k p) → Pieced s at used A r A
+  pub stops_at : (k : ReadFault) {p : ℕ} → at ≤ length s → char (drop at s) at ≡ bad k p → r ≡ NoChars (fault_of k p) → Pieced s at used A r A
   stops_at k {p} l e n =
       stops n
       (record {
@@ -41,98 +41,98 @@ module _ {s : Bytes} {at used : ℕ} {A : Bytes} {r : Decoded} where
         fault = refl;
         run = λ f h.
             let z : f ≡ suc (f - 1) = omega arith in
-            ap (λ g. chars g clear (drop at s) at) z ∙ chars-bad (f - 1) (drop at s) at k p e;
+            ap (λ g. chars g clear (drop at s) at) z ∙ chars_bad (f - 1) (drop at s) at k p e;
         same = refl;
       })
 
   -- A surrogate without a partner: a second half, or a first one that no second half follows.
-  pub stops-low : {u : ℕ} → Escaped s at u Low → r ≡ NoChars (faultOf loneSurrogate at) → Pieced s at used A r A
-  stops-low {u} x n =
+  pub stops_low : {u : ℕ} → Escaped s at u Low → r ≡ NoChars (fault_of lone_surrogate at) → Pieced s at used A r A
+  stops_low {u} x n =
       stops n
       (record {
-        kind = loneSurrogate;
+        kind = lone_surrogate;
         place = at;
         fault = refl;
         run = λ f h.
             let z : f ≡ suc (f - 1) = omega arith in
-            ap (λ g. chars g clear (drop at s) at) z ∙ chars-low (f - 1) (drop at s) at u _ _ x.is x.of;
+            ap (λ g. chars g clear (drop at s) at) z ∙ chars_low (f - 1) (drop at s) at u _ _ x.is x.of;
         same = refl;
       })
 
-  pub stops-high : {u : ℕ} → Escaped s at u High → ((h p f : ℕ) → chars (suc f) (high h p) (drop (at + 6) s) (at + 6) ≡ bad loneSurrogate p)
-      → r ≡ NoChars (faultOf loneSurrogate at) → Pieced s at used A r A
-  stops-high {u} x a n =
+  pub stops_high : {u : ℕ} → Escaped s at u High → ((h p f : ℕ) → chars (suc f) (high h p) (drop (at + 6) s) (at + 6) ≡ bad lone_surrogate p)
+      → r ≡ NoChars (fault_of lone_surrogate at) → Pieced s at used A r A
+  stops_high {u} x a n =
       stops n
       (record {
-        kind = loneSurrogate;
+        kind = lone_surrogate;
         place = at;
         fault = refl;
         run = λ f h.
             let z : f ≡ suc (suc (f - 2)) = omega arith in
-            ap (λ g. chars g clear (drop at s) at) z ∙ chars-high (suc (f - 2)) (drop at s) at u _ _ x.is x.of ∙ a u at (f - 2);
+            ap (λ g. chars g clear (drop at s) at) z ∙ chars_high (suc (f - 2)) (drop at s) at u _ _ x.is x.of ∙ a u at (f - 2);
         same = refl;
       })
 
 -- ---- a character of several bytes
 module _ (s : Bytes) (at n lo hi : ℕ) (d : Leads s at (Char n lo hi)) {found : ℕ} (t : Tailed s (at + 1) n lo hi found) where
-  pub char-short : found < n → char (drop at s) at ≡ bad notJson (at + 1 + found)
+  pub char_short : found < n → char (drop at s) at ≡ bad not_json (at + 1 + found)
   unfolding then
-  char-short h = char-lead s at d.here n lo hi d.is ∙ ap (λ r. then r (λ bs. give (bytes (get_or s at 0 ∷ bs)))) (t.some h)
+  char_short h = char_lead s at d.here n lo hi d.is ∙ ap (λ r. then r (λ bs. give (bytes (get_or s at 0 ∷ bs)))) (t.some h)
 
   front : get_or s at 0 ∷ take n (drop (at + 1) s) ≡ take (n + 1) (drop at s)
   front = rw (add-one n, add-one at, drop-cons s at 0 d.here)
 
-  char-whole : n ≤ found → char (drop at s) at ≡ ok (bytes (take (n + 1) (drop at s))) (drop (at + 1 + n) s) (at + 1 + n)
+  char_whole : n ≤ found → char (drop at s) at ≡ ok (bytes (take (n + 1) (drop at s))) (drop (at + 1 + n) s) (at + 1 + n)
   unfolding then give
-  char-whole h =
+  char_whole h =
       let e : found ≡ n = omega arith in
-      char-lead s at d.here n lo hi d.is ∙ ap (λ r. then r (λ bs. give (bytes (get_or s at 0 ∷ bs)))) (t.all e)
+      char_lead s at d.here n lo hi d.is ∙ ap (λ r. then r (λ bs. give (bytes (get_or s at 0 ∷ bs)))) (t.all e)
       ∙ ap (λ bs. ok (bytes bs) (drop (at + 1 + n) s) (at + 1 + n)) front
 
-  pub taken-char : (used : ℕ) (A B : Bytes) → n ≤ found → B ≡ sets A used (take (n + 1) (drop at s)) → Taken s at used A (at + 1 + n) (used + 1 + n) B
-  taken-char used A B h e =
+  pub taken_char : (used : ℕ) (A B : Bytes) → n ≤ found → B ≡ sets A used (take (n + 1) (drop at s)) → Taken s at used A (at + 1 + n) (used + 1 + n) B
+  taken_char used A B h e =
       let l : length (take (n + 1) (drop at s)) ≡ n + 1 = length-take-le (n + 1) (drop at s) (rw length-drop (omega arith)) in
       record {
         bs = take (n + 1) (drop at s);
-        reads = reads-one s at _ (at + 1 + n) (omega arith) (omega arith) (omega arith) (λ f. chars-bytes f (drop at s) at _ _ _ (char-whole h));
+        reads = reads_one s at _ (at + 1 + n) (omega arith) (omega arith) (omega arith) (λ f. chars_bytes f (drop at s) at _ _ _ (char_whole h));
         next = omega arith;
         area = e;
       }
 
 -- ---- escapes of one letter
 module _ (s : Bytes) (at : ℕ) (d : Leads s at Backslash) where
-  pub letter-end : length s ≤ at + 1 → char (drop at s) at ≡ bad notJson (at + 1)
-  letter-end h = char-escape s at d.here d.is ∙ escape_end s (at + 1) h
+  pub letter_end : length s ≤ at + 1 → char (drop at s) at ≡ bad not_json (at + 1)
+  letter_end h = char_escape s at d.here d.is ∙ escape_end s (at + 1) h
 
-  pub letter-not : at + 1 < length s → escapeOf (get_or s (at + 1) 0) ≡ NoEscape → char (drop at s) at ≡ bad notJson (at + 1)
-  letter-not h e = char-escape s at d.here d.is ∙ escape-not s (at + 1) h e
+  pub letter_not : at + 1 < length s → escape_of (get_or s (at + 1) 0) ≡ NoEscape → char (drop at s) at ≡ bad not_json (at + 1)
+  letter_not h e = char_escape s at d.here d.is ∙ escape_not s (at + 1) h e
 
-  pub taken-letter : (used : ℕ) (A : Bytes) (x : ℕ) → at + 1 < length s → escapeOf (get_or s (at + 1) 0) ≡ Letter x
+  pub taken_letter : (used : ℕ) (A : Bytes) (x : ℕ) → at + 1 < length s → escape_of (get_or s (at + 1) 0) ≡ Letter x
       → Taken s at used A (at + 2) (used + 1) (sets A used (x ∷ []))
-  taken-letter used A x h e =
+  taken_letter used A x h e =
       let z : at + 1 + 1 ≡ at + 2 = omega arith in
       record {
         bs = x ∷ [];
-        reads = reads-one s at _ (at + 2) (omega arith) (omega arith) (omega arith)
-            (λ f. chars-bytes f (drop at s) at (x ∷ []) _ _
-            (char-escape s at d.here d.is ∙ escape-letter s (at + 1) h x e ∙ (λ k. ok (bytes (x ∷ [])) (drop (z k) s) (z k))));
+        reads = reads_one s at _ (at + 2) (omega arith) (omega arith) (omega arith)
+            (λ f. chars_bytes f (drop at s) at (x ∷ []) _ _
+            (char_escape s at d.here d.is ∙ escape_letter s (at + 1) h x e ∙ (λ k. ok (bytes (x ∷ [])) (drop (z k) s) (z k))));
         next = refl;
         area = refl;
       }
 
-  pub letter-u : at + 1 < length s → escapeOf (get_or s (at + 1) 0) ≡ Unicode → Unicodes s at
-  letter-u h e =
+  pub letter_u : at + 1 < length s → escape_of (get_or s (at + 1) 0) ≡ Unicode → Unicodes s at
+  letter_u h e =
       let z : at + 1 + 1 ≡ at + 2 = omega arith in
       record {
         here = omega arith;
-        is = char-escape s at d.here d.is ∙ escape_unicode s (at + 1) h e ∙ (λ k. then (hexes 4 0 (drop (z k) s) (z k)) (λ u. give (unit u)));
+        is = char_escape s at d.here d.is ∙ escape_unicode s (at + 1) h e ∙ (λ k. then (hexes 4 0 (drop (z k) s) (z k)) (λ u. give (unit u)));
       }
 
 -- ---- escapes of a code unit
 module _ {s : Bytes} {at : ℕ} (x : Unicodes s at) where
-  pub unit-not : {p : ℕ} → hexes 4 0 (drop (at + 2) s) (at + 2) ≡ bad notJson p → char (drop at s) at ≡ bad notJson p
+  pub unit_not : {p : ℕ} → hexes 4 0 (drop (at + 2) s) (at + 2) ≡ bad not_json p → char (drop at s) at ≡ bad not_json p
   unfolding then
-  unit-not e = x.is ∙ ap (λ r. then r (λ u. give (unit u))) e
+  unit_not e = x.is ∙ ap (λ r. then r (λ u. give (unit u))) e
 
   pub escaped : {u : ℕ} → UnitRead s (at + 2) u → Escaped s at u (unit_of u)
   unfolding then give
@@ -144,32 +144,32 @@ module _ {s : Bytes} {at : ℕ} (x : Unicodes s at) where
         of = refl;
       }
 
-pub of-kind : {s : Bytes} {at u : ℕ} {k l : units.Unit} → Escaped s at u k → k ≡ l → Escaped s at u l
-of-kind x e = record { is = x.is; inside = x.inside; of = x.of ∙ e }
+pub of_kind : {s : Bytes} {at u : ℕ} {k l : units.Unit} → Escaped s at u k → k ≡ l → Escaped s at u l
+of_kind x e = record { is = x.is; inside = x.inside; of = x.of ∙ e }
 
-pub taken-unit : {s A B : Bytes} {at used u end : ℕ} → Escaped s at u Plain → Put A used u end B → Taken s at used A (at + 6) end B
-taken-unit {s} {at = at} {u = u} x p =
+pub taken_unit : {s A B : Bytes} {at used u end : ℕ} → Escaped s at u Plain → Put A used u end B → Taken s at used A (at + 6) end B
+taken_unit {s} {at = at} {u = u} x p =
     record {
       bs = utf8 u;
-      reads = reads-one s at _ (at + 6) (omega arith) (omega (arith, utf8-most u)) x.inside (λ f. chars-plain f (drop at s) at u _ _ x.is x.of);
+      reads = reads_one s at _ (at + 6) (omega arith) (omega (arith, utf8_most u)) x.inside (λ f. chars_plain f (drop at s) at u _ _ x.is x.of);
       next = p.end;
       area = p.area;
     }
 
-pub taken-pair : {s A B : Bytes} {at used h l end : ℕ} → Escaped s at h High → Escaped s (at + 6) l Low → Put A used (pair_of h l) end B
+pub taken_pair : {s A B : Bytes} {at used h l end : ℕ} → Escaped s at h High → Escaped s (at + 6) l Low → Put A used (pair_of h l) end B
     → Taken s at used A (at + 6 + 6) end B
-taken-pair {s} {at = at} {h = h} {l = l} x y p =
+taken_pair {s} {at = at} {h = h} {l = l} x y p =
     record {
       bs = utf8 (pair_of h l);
       reads = record {
         steps = 2;
         few = omega arith;
-        short = omega (arith, utf8-most (pair_of h l));
+        short = omega (arith, utf8_most (pair_of h l));
         inside = y.inside;
         run = λ f.
             let e : 2 + f ≡ suc (suc f) = omega arith in
-            ap (λ g. chars g clear (drop at s) at) e ∙ chars-high (suc f) (drop at s) at h _ _ x.is x.of
-            ∙ chars-pair f (drop (at + 6) s) (at + 6) h at l _ _ y.is y.of;
+            ap (λ g. chars g clear (drop at s) at) e ∙ chars_high (suc f) (drop at s) at h _ _ x.is x.of
+            ∙ chars_pair f (drop (at + 6) s) (at + 6) h at l _ _ y.is y.of;
       };
       next = p.end;
       area = p.area;

@@ -7,24 +7,24 @@ use native.Mathlib.Omega.{arith}
 use lib.ListN.{length, drop, take, length-append}
 use lib.Seq.{sets, length-sets, take-take}
 use Rattle.model.specs.Bytes.{Bytes}
-use Rattle.model.specs.Refusal.{notJson}
-use Rattle.area.specs.Laws.{sets-append, take-sets-before}
+use Rattle.model.specs.Refusal.{not_json}
+use Rattle.area.specs.Laws.{sets_append, take_sets_before}
 use Rattle.syntax.specs.Read.{Parsed, ok, bad, then, give, chars, clear, grow}
-use Rattle.syntax.specs.Utf8.{leadOf}
+use Rattle.syntax.specs.Utf8.{lead_of}
 use Rattle.scan.specs.declared.Fault.{Fault}
-use Rattle.scan.specs.Contract.{faultOf, Stands}
+use Rattle.scan.specs.Contract.{fault_of, Stands}
 use Rattle.chars.specs.declared.Decoded.{Decoded}
 use Rattle.chars.specs.declared.Decoded.TheVariants.{Chars, NoChars}
 use Rattle.chars.specs.Contract.{CharsMeets, CharsPromise}
 use Rattle.chars.specs.Inner.{Room, Taken, Stopped, Advanced, PieceMeets, Pieced}
-use Rattle.chars.proofs.Steps.{chars-closing, chars-bad}
-use Rattle.chars.proofs.Read.{char-closing, char-end}
-use Rattle.chars.proofs.Loops.{taken-length}
-use Rattle.chars.proofs.Halves.{stands-is}
+use Rattle.chars.proofs.Steps.{chars_closing, chars_bad}
+use Rattle.chars.proofs.Read.{char_closing, char_end}
+use Rattle.chars.proofs.Loops.{taken_length}
+use Rattle.chars.proofs.Halves.{stands_is}
 
 closing : {s : Bytes} {i : ℕ} {q : Bool} → Stands s i 34 q → q ≡ true → (f : ℕ) → chars (suc f) clear (drop i s) i ≡ ok [] (drop i s) i
-unfolding leadOf
-closing {s} {i} t e f = chars-closing f (drop i s) i (drop i s) i (char-closing s i (t.room e) (ap leadOf (stands-is t e)))
+unfolding lead_of
+closing {s} {i} t e f = chars_closing f (drop i s) i (drop i s) i (char_closing s i (t.room e) (ap lead_of (stands_is t e)))
 
 module _ {s A B : Bytes} {at used i to : ℕ} (t : Taken s at used A i to B) where
   -- The steps that are left after i.
@@ -39,19 +39,19 @@ module _ {s A B : Bytes} {at used i to : ℕ} (t : Taken s at used A i to B) whe
 
   -- What is decoded is never ahead of the text.
   pub room_of : used ≤ at → length s ≤ length A → Room s i to B
-  room_of h l = record { inside = t.reads.inside; behind = omega (arith, t.reads.short); fits = omega (arith, taken-length t) }
+  room_of h l = record { inside = t.reads.inside; behind = omega (arith, t.reads.short); fits = omega (arith, taken_length t) }
 
   promise : (r : Decoded) {C : Bytes} → C ≡ B → ((f : ℕ) → length s < at + f → CharsMeets s at used A (chars f clear (drop at s) at) r C) → CharsPromise s at used A r C
   promise r e m =
       record {
         run = m;
         size = ap length (e ∙ t.area) ∙ length-sets A used t.bs;
-        kept = ap (take used) (e ∙ t.area) ∙ take-sets-before used t.bs A used (omega arith);
+        kept = ap (take used) (e ∙ t.area) ∙ take_sets_before used t.bs A used (omega arith);
       }
 
-  pub promise-closed : {q : Bool} → Stands s i 34 q → q ≡ true → CharsPromise s at used A (Chars i to) B
+  pub promise_closed : {q : Bool} → Stands s i 34 q → q ≡ true → CharsPromise s at used A (Chars i to) B
   unfolding rest grow then give
-  promise-closed x e =
+  promise_closed x e =
       promise (Chars i to) refl
       (λ f h.
       let k : rest f ≡ suc (rest f - 1) = omega (arith, t.reads.few, t.reads.inside) in
@@ -64,53 +64,53 @@ module _ {s A B : Bytes} {at used i to : ℕ} (t : Taken s at used A i to B) whe
         left = refl;
         on = t.reads.short;
         inside = x.room e;
-        quote = stands-is x e;
+        quote = stands_is x e;
       }))
 
-  pub promise-stopped : {y : Fault} {C : Bytes} → Stopped s i B y C → CharsPromise s at used A (NoChars y) C
+  pub promise_stopped : {y : Fault} {C : Bytes} → Stopped s i B y C → CharsPromise s at used A (NoChars y) C
   unfolding rest grow then
-  promise-stopped {y} {C} x =
+  promise_stopped {y} {C} x =
       promise (NoChars y) x.same
       (λ f h.
       let l : length s < i + rest f = omega (arith, t.reads.few) in
       subst⁻¹ (λ g. CharsMeets s at used A g (NoChars y) C) (on f h ∙ ap (grow t.bs) (x.run (rest f) l)) (ap NoChars x.fault))
 
   -- What is promised from i on, after what is decoded up to i.
-  meets-then : (r : Decoded) (C : Bytes) (g : Parsed Bytes) → CharsMeets s i to B g r C → CharsMeets s at used A (grow t.bs g) r C
+  meets_then : (r : Decoded) (C : Bytes) (g : Parsed Bytes) → CharsMeets s i to B g r C → CharsMeets s at used A (grow t.bs g) r C
   unfolding grow then give
-  meets-then r C (ok bs u q) x =
+  meets_then r C (ok bs u q) x =
       let e : to + length bs ≡ used + length (t.bs ++ bs) = simp length-append (omega (arith, t.next)) in
       record {
         answer = x.answer ∙ ap (Chars q) e;
-        area = x.area ∙ (λ k. sets (t.area k) (t.next k) bs) ∙ sets-append t.bs bs A used;
+        area = x.area ∙ (λ k. sets (t.area k) (t.next k) bs) ∙ sets_append t.bs bs A used;
         left = x.left;
         on = simp length-append (omega (arith, t.reads.short, x.on));
         inside = x.inside;
         quote = x.quote;
       }
-  meets-then r C (bad k p) x = x
+  meets_then r C (bad k p) x = x
 
-  pub promise-then : {r : Decoded} {C : Bytes} → CharsPromise s i to B r C → CharsPromise s at used A r C
+  pub promise_then : {r : Decoded} {C : Bytes} → CharsPromise s i to B r C → CharsPromise s at used A r C
   unfolding rest
-  promise-then {r} {C} x =
+  promise_then {r} {C} x =
       let l : used ≤ to = omega (arith, t.next) in
       record {
         run = λ f h.
             subst⁻¹ (λ g. CharsMeets s at used A g r C) (on f h)
-            (meets-then r C (chars (rest f) clear (drop i s) i) (x.run (rest f) (omega (arith, t.reads.few))));
-        size = x.size ∙ taken-length t;
-        kept = sym (take-take used to C l) ∙ ap (take used) x.kept ∙ take-take used to B l ∙ ap (take used) t.area ∙ take-sets-before used t.bs A used (omega arith);
+            (meets_then r C (chars (rest f) clear (drop i s) i) (x.run (rest f) (omega (arith, t.reads.few))));
+        size = x.size ∙ taken_length t;
+        kept = sym (take-take used to C l) ∙ ap (take used) x.kept ∙ take-take used to B l ∙ ap (take used) t.area ∙ take_sets_before used t.bs A used (omega arith);
       }
 
 -- ---- what `chars` says where no byte is left, and of a piece
-pub promise-end : {s : Bytes} {at used : ℕ} {A : Bytes} {r : Decoded} → length s ≤ at → r ≡ NoChars (faultOf notJson at) → CharsPromise s at used A r A
+pub promise_end : {s : Bytes} {at used : ℕ} {A : Bytes} {r : Decoded} → length s ≤ at → r ≡ NoChars (fault_of not_json at) → CharsPromise s at used A r A
 unfolding chars
-promise-end {s} {at} {used} {A} {r} l e =
+promise_end {s} {at} {used} {A} {r} l e =
     record { run = λ f h. subst⁻¹ (λ g. CharsMeets s at used A g r A) (none f) e; size = refl; kept = refl }
   where
-    none : (f : ℕ) → chars f clear (drop at s) at ≡ bad notJson at
+    none : (f : ℕ) → chars f clear (drop at s) at ≡ bad not_json at
     none zero = refl
-    none (suc f) = chars-bad f (drop at s) at notJson at (char-end s at l)
+    none (suc f) = chars_bad f (drop at s) at not_json at (char_end s at l)
 
 module _ {s : Bytes} {at used : ℕ} {A : Bytes} {r : Decoded} {A' : Bytes} (k : Pieced s at used A r A') where
   pub advanced : {q to : ℕ} → r ≡ Chars q to → Advanced s at used A q to A'

@@ -7,54 +7,54 @@ use native.Mathlib.Nat.{zero-add, add_assoc}
 use lib.ListN.{length, drop, length-append}
 use lib.Seq.{sets}
 use Rattle.model.specs.Bytes.{Bytes}
-use Rattle.model.specs.Refusal.{ReadFault, loneSurrogate}
-use Rattle.area.specs.Laws.{sets-append}
+use Rattle.model.specs.Refusal.{ReadFault, lone_surrogate}
+use Rattle.area.specs.Laws.{sets_append}
 use Rattle.syntax.specs.declared.Unit.TheVariants.{Plain, High, Low}
-use Rattle.syntax.specs.Read.{Parsed, ok, bad, then, give, closing, bytes, unit, onPiece, onUnit, orLone, lone, char, chars, clear, high, grow}
+use Rattle.syntax.specs.Read.{Parsed, ok, bad, then, give, closing, bytes, unit, on_piece, on_unit, or_lone, lone, char, chars, clear, high, grow}
 use Rattle.syntax.specs.Utf8.{unit_of, utf8, pair_of}
 use Rattle.chars.specs.Inner.{Reads, Taken}
 
 -- ---- one step
 module _ (f : ℕ) (t : Bytes) (at : ℕ) where
-  pub chars-bytes : (bs u : Bytes) (q : ℕ) → char t at ≡ ok (bytes bs) u q → chars (suc f) clear t at ≡ grow bs (chars f clear u q)
-  unfolding chars then onPiece
-  chars-bytes bs u q e = rw e
+  pub chars_bytes : (bs u : Bytes) (q : ℕ) → char t at ≡ ok (bytes bs) u q → chars (suc f) clear t at ≡ grow bs (chars f clear u q)
+  unfolding chars then on_piece
+  chars_bytes bs u q e = rw e
 
-  pub chars-closing : (u : Bytes) (q : ℕ) → char t at ≡ ok closing u q → chars (suc f) clear t at ≡ ok [] u q
-  unfolding chars then onPiece give
-  chars-closing u q e = rw e
+  pub chars_closing : (u : Bytes) (q : ℕ) → char t at ≡ ok closing u q → chars (suc f) clear t at ≡ ok [] u q
+  unfolding chars then on_piece give
+  chars_closing u q e = rw e
 
-  pub chars-bad : (k : ReadFault) (p : ℕ) → char t at ≡ bad k p → chars (suc f) clear t at ≡ bad k p
+  pub chars_bad : (k : ReadFault) (p : ℕ) → char t at ≡ bad k p → chars (suc f) clear t at ≡ bad k p
   unfolding chars then
-  chars-bad k p e = rw e
+  chars_bad k p e = rw e
 
-  pub chars-plain : (c : ℕ) (u : Bytes) (q : ℕ) → char t at ≡ ok (unit c) u q → unit_of c ≡ Plain → chars (suc f) clear t at ≡ grow (utf8 c) (chars f clear u q)
-  unfolding chars then onPiece onUnit
-  chars-plain c u q e k = rw (e, k)
+  pub chars_plain : (c : ℕ) (u : Bytes) (q : ℕ) → char t at ≡ ok (unit c) u q → unit_of c ≡ Plain → chars (suc f) clear t at ≡ grow (utf8 c) (chars f clear u q)
+  unfolding chars then on_piece on_unit
+  chars_plain c u q e k = rw (e, k)
 
-  pub chars-high : (c : ℕ) (u : Bytes) (q : ℕ) → char t at ≡ ok (unit c) u q → unit_of c ≡ High → chars (suc f) clear t at ≡ chars f (high c at) u q
-  unfolding chars then onPiece onUnit
-  chars-high c u q e k = rw (e, k)
+  pub chars_high : (c : ℕ) (u : Bytes) (q : ℕ) → char t at ≡ ok (unit c) u q → unit_of c ≡ High → chars (suc f) clear t at ≡ chars f (high c at) u q
+  unfolding chars then on_piece on_unit
+  chars_high c u q e k = rw (e, k)
 
-  pub chars-low : (c : ℕ) (u : Bytes) (q : ℕ) → char t at ≡ ok (unit c) u q → unit_of c ≡ Low → chars (suc f) clear t at ≡ bad loneSurrogate at
-  unfolding chars then onPiece onUnit lone
-  chars-low c u q e k = rw (e, k)
+  pub chars_low : (c : ℕ) (u : Bytes) (q : ℕ) → char t at ≡ ok (unit c) u q → unit_of c ≡ Low → chars (suc f) clear t at ≡ bad lone_surrogate at
+  unfolding chars then on_piece on_unit lone
+  chars_low c u q e k = rw (e, k)
 
-  pub chars-pair : (h p c : ℕ) (u : Bytes) (q : ℕ) → char t at ≡ ok (unit c) u q → unit_of c ≡ Low
+  pub chars_pair : (h p c : ℕ) (u : Bytes) (q : ℕ) → char t at ≡ ok (unit c) u q → unit_of c ≡ Low
       → chars (suc f) (high h p) t at ≡ grow (utf8 (pair_of h c)) (chars f clear u q)
-  unfolding chars orLone onPiece onUnit
-  chars-pair h p c u q e k = rw (e, k)
+  unfolding chars or_lone on_piece on_unit
+  chars_pair h p c u q e k = rw (e, k)
 
 -- ---- several steps
-pub grow-none : (r : Parsed Bytes) → grow [] r ≡ r
+pub grow_none : (r : Parsed Bytes) → grow [] r ≡ r
 unfolding grow then give
-grow-none (ok bs t q) = refl
-grow-none (bad k p) = refl
+grow_none (ok bs t q) = refl
+grow_none (bad k p) = refl
 
-pub grow-grow : (xs ys : Bytes) (r : Parsed Bytes) → grow xs (grow ys r) ≡ grow (xs ++ ys) r
+pub grow_grow : (xs ys : Bytes) (r : Parsed Bytes) → grow xs (grow ys r) ≡ grow (xs ++ ys) r
 unfolding grow then give
-grow-grow xs ys (ok bs t q) = ap (λ z. ok z t q) (sym (append_assoc xs ys bs))
-grow-grow xs ys (bad k p) = refl
+grow_grow xs ys (ok bs t q) = ap (λ z. ok z t q) (sym (append_assoc xs ys bs))
+grow_grow xs ys (bad k p) = refl
 
 pub reads_none : (s : Bytes) (at : ℕ) → at ≤ length s → Reads s at [] at
 reads_none s at h =
@@ -63,13 +63,13 @@ reads_none s at h =
       few = omega arith;
       short = omega arith;
       inside = h;
-      run = λ f. ap (λ g. chars g clear (drop at s) at) (zero-add f) ∙ sym (grow-none _);
+      run = λ f. ap (λ g. chars g clear (drop at s) at) (zero-add f) ∙ sym (grow_none _);
     }
 
 -- A reading in one step.
-pub reads-one : (s : Bytes) (at : ℕ) (bs : Bytes) (i : ℕ) → at < i → at + length bs ≤ i → i ≤ length s
+pub reads_one : (s : Bytes) (at : ℕ) (bs : Bytes) (i : ℕ) → at < i → at + length bs ≤ i → i ≤ length s
     → ((f : ℕ) → chars (suc f) clear (drop at s) at ≡ grow bs (chars f clear (drop i s) i)) → Reads s at bs i
-reads-one s at bs i h l g r =
+reads_one s at bs i h l g r =
     record { steps = 1; few = omega arith; short = l; inside = g; run = λ f. let e : 1 + f ≡ suc f = omega arith in ap (λ n. chars n clear (drop at s) at) e ∙ r f }
 
 pub reads_then : {s xs ys : Bytes} {at i j : ℕ} → Reads s at xs i → Reads s i ys j → Reads s at (xs ++ ys) j
@@ -79,7 +79,7 @@ reads_then {s} {xs} {ys} {at} a b =
       few = omega arith;
       short = simp length-append (omega arith);
       inside = b.inside;
-      run = λ f. ap (λ g. chars g clear (drop at s) at) (add_assoc a.steps b.steps f) ∙ a.run (b.steps + f) ∙ ap (grow xs) (b.run f) ∙ grow-grow xs ys _;
+      run = λ f. ap (λ g. chars g clear (drop at s) at) (add_assoc a.steps b.steps f) ∙ a.run (b.steps + f) ∙ ap (grow xs) (b.run f) ∙ grow_grow xs ys _;
     }
 
 pub taken_none : (s : Bytes) (at used : ℕ) (A : Bytes) → at ≤ length s → Taken s at used A at used A
@@ -91,5 +91,5 @@ taken_then {A = A} {C = C} {used = used} a b =
       bs = a.bs ++ b.bs;
       reads = reads_then a.reads b.reads;
       next = simp length-append (omega arith);
-      area = b.area ∙ (λ k. sets (a.area k) (a.next k) b.bs) ∙ sets-append a.bs b.bs A used;
+      area = b.area ∙ (λ k. sets (a.area k) (a.next k) b.bs) ∙ sets_append a.bs b.bs A used;
     }

@@ -3,7 +3,7 @@ use Rattle.std.specs.Prelude.{◌≡◌, ℕ, ◌+◌, ◌≤◌, ◌<◌, lengt
 use Rattle.std.proofs.lemmas.List.Edits.{sets}
 use Rattle.model.specs.Bytes.{Bytes}
 use Rattle.syntax.specs.Read.{Parsed, ok, bad, chars, clear}
-use Rattle.scan.specs.Contract.{faultOf}
+use Rattle.scan.specs.Contract.{fault_of}
 use Rattle.chars.specs.declared.Decoded.{Decoded}
 use Rattle.chars.specs.declared.Decoded.TheVariants.{Chars, NoChars}
 
@@ -19,7 +19,7 @@ pub record CharsRead (s : Bytes) (at used : ℕ) (A bs u : Bytes) (q : ℕ) (r :
 -- The answer, by what the parser gives.
 abbrev pub CharsMeets : Bytes → ℕ → ℕ → Bytes → Parsed Bytes → Decoded → Bytes → Type 0
 CharsMeets s at used A (ok bs u q) r A' = CharsRead s at used A bs u q r A'
-CharsMeets s at used A (bad k p) r A' = r ≡ NoChars (faultOf k p)
+CharsMeets s at used A (bad k p) r A' = r ≡ NoChars (fault_of k p)
 
 -- After a fault the area from `used` on is free: a caller clears it or reads over it.
 pub record CharsPromise (s : Bytes) (at used : ℕ) (A : Bytes) (r : Decoded) (A' : Bytes) : Type 0 where

@@ -2,14 +2,14 @@
 use Rattle.std.specs.Prelude.{◌≡◌, ℕ, suc, ◌+◌, ◌≤◌, ◌<◌, length, get_or, drop, take}
 use Rattle.std.proofs.lemmas.List.Edits.{sets}
 use Rattle.model.specs.Bytes.{Bytes}
-use Rattle.model.specs.Refusal.{ReadFault, notJson, loneSurrogate}
+use Rattle.model.specs.Refusal.{ReadFault, not_json, lone_surrogate}
 use Rattle.syntax.specs.declared.Lead.{Lead}
 use Rattle.syntax.specs.declared.Unit as units
 use Rattle.syntax.specs.declared.Unit.TheVariants.{Low}
 use Rattle.syntax.specs.Read.{ok, bad, then, give, unit, hexes, tails, char, chars, clear, high, grow}
-use Rattle.syntax.specs.Utf8.{leadOf, unit_of, utf8}
+use Rattle.syntax.specs.Utf8.{lead_of, unit_of, utf8}
 use Rattle.scan.specs.declared.Fault.{Fault}
-use Rattle.scan.specs.Contract.{faultOf}
+use Rattle.scan.specs.Contract.{fault_of}
 use Rattle.chars.specs.declared.Decoded.{Decoded}
 use Rattle.chars.specs.declared.Decoded.TheVariants.{Chars, NoChars}
 use Rattle.chars.specs.declared.CodeUnit.{CodeUnit}
@@ -43,7 +43,7 @@ pub record Taken (s : Bytes) (at used : ℕ) (A : Bytes) (i to : ℕ) (A' : Byte
 pub record Stopped (s : Bytes) (at : ℕ) (A : Bytes) (x : Fault) (A' : Bytes) : Type 0 where
   pub kind : ReadFault
   pub place : ℕ
-  pub fault : x ≡ faultOf kind place
+  pub fault : x ≡ fault_of kind place
   pub run : (f : ℕ) → length s < at + f → chars f clear (drop at s) at ≡ bad kind place
   pub same : A' ≡ A
 
@@ -63,14 +63,14 @@ pub record Pieced (s : Bytes) (at used : ℕ) (A : Bytes) (r : Decoded) (A' : By
 -- What stands at `at`, by its first byte.
 pub record Leads (s : Bytes) (at : ℕ) (lead : Lead) : Type 0 where
   pub here : at < length s
-  pub is : leadOf (get_or s at 0) ≡ lead
+  pub is : lead_of (get_or s at 0) ≡ lead
 
 -- r of the n bytes at `at` can follow a character's first one.
 pub record Tailed (s : Bytes) (at n lo hi r : ℕ) : Type 0 where
   pub few : r ≤ n
   pub inside : at + r ≤ length s
   pub all : r ≡ n → tails n lo hi (drop at s) at ≡ ok (take n (drop at s)) (drop (at + n) s) (at + n)
-  pub some : r < n → tails n lo hi (drop at s) at ≡ bad notJson (at + r)
+  pub some : r < n → tails n lo hi (drop at s) at ≡ bad not_json (at + r)
 
 -- ---- escapes
 -- Four hexadecimal digits at `at`.
@@ -81,7 +81,7 @@ pub record UnitRead (s : Bytes) (at u : ℕ) : Type 0 where
 
 abbrev pub Coded : Bytes → ℕ → CodeUnit → Type 0
 Coded s at (Code u) = UnitRead s at u
-Coded s at (NoCode p) = hexes 4 0 (drop at s) at ≡ bad notJson p
+Coded s at (NoCode p) = hexes 4 0 (drop at s) at ≡ bad not_json p
 
 -- The letters \u stand at `at`.
 pub record Unicodes (s : Bytes) (at : ℕ) : Type 0 where
@@ -97,7 +97,7 @@ pub record Escaped (s : Bytes) (at u : ℕ) (kind : units.Unit) : Type 0 where
 -- The second half of a pair at `at`, after a first half at p.
 abbrev pub Halved : Bytes → ℕ → LowHalf → Type 0
 Halved s at (Half l) = Escaped s at l Low
-Halved s at NoHalf = (h p f : ℕ) → chars (suc f) (high h p) (drop at s) at ≡ bad loneSurrogate p
+Halved s at NoHalf = (h p f : ℕ) → chars (suc f) (high h p) (drop at s) at ≡ bad lone_surrogate p
 
 -- The UTF-8 of u is put into the area A at `used`.
 pub record Put (A : Bytes) (used u r : ℕ) (A' : Bytes) : Type 0 where

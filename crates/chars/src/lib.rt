@@ -3,9 +3,9 @@ ghost use Rattle.std.specs.Prelude.{◌≡◌, true, false, ◌+◌, ◌-◌, �
 ghost use Rattle.std.proofs.lemmas.List.Edits.{sets};
 ghost use Rattle.syntax.specs.declared.Lead.TheVariants.{Backslash, Char};
 ghost use Rattle.syntax.specs.declared.Unit.TheVariants as units;
-ghost use Rattle.syntax.specs.Tokens.{escapeOf, hexOf};
-ghost use Rattle.syntax.specs.Utf8.{leadOf, unit_of};
-ghost use Rattle.scan.specs.Contract.{faultAt, Stands};
+ghost use Rattle.syntax.specs.Tokens.{escape_of, hex_of};
+ghost use Rattle.syntax.specs.Utf8.{lead_of, unit_of};
+ghost use Rattle.scan.specs.Contract.{fault_at, Stands};
 ghost use Rattle.chars.specs.Contract.{CharsPromise};
 ghost use Rattle.chars.specs.Inner.{Room, Taken, Pieced, Leads, Tailed, Coded, Unicodes, Escaped, Halved, Put};
 
@@ -24,13 +24,13 @@ pub enum Decoded {
 const LEAST: u8 = b' ';
 
 fn fault(number: usize, at: usize) -> Decoded
-    ensures { result ≡ Decoded.NoChars (faultAt number at) }
+    ensures { result ≡ Decoded.NoChars (fault_at number at) }
 {
     Decoded::NoChars(Fault { number, at })
 }
 
 fn lead_of(b: u8) -> Lead
-    ensures { result ≡ leadOf b }
+    ensures { result ≡ lead_of b }
 {
     if b == b'"' {
         return Lead::Closing;
@@ -55,7 +55,7 @@ fn lead_of(b: u8) -> Lead
 
 fn long_lead_of(b: u8) -> Lead
     requires { 224 ≤ b }
-    ensures { result ≡ leadOf b }
+    ensures { result ≡ lead_of b }
 {
     if b == 224 {
         return Lead::Char(2, 160, 191);
@@ -83,7 +83,7 @@ fn long_lead_of(b: u8) -> Lead
 
 // A byte of ASCII that stands for itself.
 fn is_plain(b: u8) -> bool
-    ensures { result ≡ true → leadOf b ≡ Char 0 128 191 }
+    ensures { result ≡ true → lead_of b ≡ Char 0 128 191 }
 {
     if b < LEAST {
         return false;
@@ -208,7 +208,7 @@ fn character(
 }
 
 fn escape_of(b: u8) -> Escape
-    ensures { result ≡ escapeOf b }
+    ensures { result ≡ escape_of b }
 {
     if b == b'"' {
         return Escape::Letter(b'"');
@@ -241,7 +241,7 @@ fn escape_of(b: u8) -> Escape
 }
 
 fn hex_of(b: u8) -> Hex
-    ensures { result ≡ hexOf b }
+    ensures { result ≡ hex_of b }
 {
     if let Decimal::DecimalDigit(d) = decimal_of(b) {
         return Hex::HexDigit(d);

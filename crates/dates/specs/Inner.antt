@@ -16,11 +16,11 @@ correction (Offset.Back k) = some (neg_ℤ (pos k))
 correction Offset.Bad = none
 
 -- The milliseconds, 0 if there are none.
-abbrev pub sizeMs : Size → ℕ
-sizeMs (Of k) = k
-sizeMs Bad = 0
+abbrev pub size_ms : Size → ℕ
+size_ms (Of k) = k
+size_ms Bad = 0
 
-abbrev pub offsetMs : Offset → ℕ
-offsetMs (Offset.On k) = k
-offsetMs (Offset.Back k) = k
-offsetMs Offset.Bad = 0
+abbrev pub offset_ms : Offset → ℕ
+offset_ms (Offset.On k) = k
+offset_ms (Offset.Back k) = k
+offset_ms Offset.Bad = 0

@@ -1,8 +1,8 @@
 // The dates in the first three forms.
 ghost use Rattle.std.specs.Prelude.{◌≡◌, ◌≤◌};
-ghost use Rattle.model.specs.DateText.{yearIn, dateIn, lastOfMonth};
+ghost use Rattle.model.specs.DateText.{year_in, date_in, last_of_month};
 ghost use Rattle.model.specs.DateText as reading;
-ghost use Rattle.calendar.specs.Contract.{dateResult};
+ghost use Rattle.calendar.specs.Contract.{date_result};
 
 use crate::pattern::two_digits;
 use calendar::instant::{DateAnswer, midnight};
@@ -10,14 +10,14 @@ use days::month::month_days;
 use model::Date;
 
 pub fn year_in(text: &[u8]) -> u64
-    ensures { (result ≡ yearIn text.now) × (result ≤ 300000) }
+    ensures { (result ≡ year_in text.now) × (result ≤ 300000) }
 {
     two_digits(text, 0) * 100 + two_digits(text, 2)
 }
 
 // The date in YYYY-MM-DD.
 pub fn date_in(text: &[u8]) -> Date
-    ensures { result ≡ dateIn text.now }
+    ensures { result ≡ date_in text.now }
 {
     let year = year_in(text);
     let month = two_digits(text, 5);
@@ -27,7 +27,7 @@ pub fn date_in(text: &[u8]) -> Date
 
 // The start of a month's last day.
 pub fn month_end(year: u64, month: u64) -> DateAnswer
-    ensures { dateResult result ≡ reading.midnight (lastOfMonth year month) }
+    ensures { date_result result ≡ reading.midnight (last_of_month year month) }
 {
     let day = month_days(year, month);
     midnight(Date { year, month, day })

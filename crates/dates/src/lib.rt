@@ -5,8 +5,8 @@ mod pattern;
 mod time;
 
 ghost use Rattle.std.specs.Prelude.{◌≡◌};
-ghost use Rattle.model.specs.DateText.{dayText, dateText};
-ghost use Rattle.calendar.specs.Contract.{dateResult};
+ghost use Rattle.model.specs.DateText.{day_text, date_text};
+ghost use Rattle.calendar.specs.Contract.{date_result};
 
 use crate::day::{date_in, month_end, year_in};
 use crate::pattern::{like, starts_like, two_digits};
@@ -16,7 +16,7 @@ use model::Date;
 
 // A text of one of the first three forms: YYYY, YYYY-MM, YYYY-MM-DD.
 pub fn read_day(text: &[u8]) -> DateAnswer
-    ensures { dateResult result ≡ dayText text.now }
+    ensures { date_result result ≡ day_text text.now }
 {
     if like(b"0000", text) {
         let year = year_in(text);
@@ -37,7 +37,7 @@ pub fn read_day(text: &[u8]) -> DateAnswer
 
 // A text of any of the nineteen.
 pub fn read_date(text: &[u8]) -> DateAnswer
-    ensures { dateResult result ≡ dateText text.now }
+    ensures { date_result result ≡ date_text text.now }
 {
     if starts_like(b"0000-00-00T00:00:00", text) {
         return read_time(text);

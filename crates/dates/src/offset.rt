@@ -1,8 +1,8 @@
 // Offsets from UTC.
 ghost use Rattle.std.specs.Prelude.{◌≡◌, ◌≤◌, pos, neg_ℤ};
 ghost use Rattle.std.proofs.Math.Option.{map};
-ghost use Rattle.model.specs.DateText.{offset_of, offsetDigits, toUtc};
-ghost use Rattle.dates.specs.Inner.{size_of, sizeMs, correction, offsetMs};
+ghost use Rattle.model.specs.DateText.{offset_of, offset_digits, to_utc};
+ghost use Rattle.dates.specs.Inner.{size_of, size_ms, correction, offset_ms};
 
 use crate::pattern::{digit_at, like, starts_like, two_digits};
 
@@ -22,7 +22,7 @@ pub enum Offset {
 }
 
 fn offset_of(hours: u64, minutes: u64) -> Size
-    ensures { (size_of result ≡ offset_of hours minutes) × (sizeMs result ≤ 86340000) }
+    ensures { (size_of result ≡ offset_of hours minutes) × (size_ms result ≤ 86340000) }
 {
     if hours > 23 {
         return Size::Bad;
@@ -35,7 +35,7 @@ fn offset_of(hours: u64, minutes: u64) -> Size
 
 // What follows the sign.
 fn offset_digits(text: &[u8]) -> Size
-    ensures { (size_of result ≡ offsetDigits text.now) × (sizeMs result ≤ 86340000) }
+    ensures { (size_of result ≡ offset_digits text.now) × (size_ms result ≤ 86340000) }
 {
     if like(b"0", text) {
         return offset_of(digit_at(text, 0), 0);
@@ -60,7 +60,7 @@ fn offset_digits(text: &[u8]) -> Size
 
 // Clocks at + run ahead of UTC,
 fn ahead(size: Size) -> Offset
-    ensures { (correction result ≡ map (λ k. neg_ℤ (pos k)) (size_of size)) × (offsetMs result ≡ sizeMs size) }
+    ensures { (correction result ≡ map (λ k. neg_ℤ (pos k)) (size_of size)) × (offset_ms result ≡ size_ms size) }
 {
     match size {
         Size::Of(k) => Offset::Back(k),
@@ -70,7 +70,7 @@ fn ahead(size: Size) -> Offset
 
 // and clocks at - behind.
 fn behind(size: Size) -> Offset
-    ensures { (correction result ≡ map pos (size_of size)) × (offsetMs result ≡ sizeMs size) }
+    ensures { (correction result ≡ map pos (size_of size)) × (offset_ms result ≡ size_ms size) }
 {
     match size {
         Size::Of(k) => Offset::On(k),
@@ -80,7 +80,7 @@ fn behind(size: Size) -> Offset
 
 // What follows a time. No offset means Z.
 pub fn to_utc(text: &[u8]) -> Offset
-    ensures { (correction result ≡ toUtc text.now) × (offsetMs result ≤ 86340000) }
+    ensures { (correction result ≡ to_utc text.now) × (offset_ms result ≤ 86340000) }
 {
     if like(b"", text) {
         return Offset::On(0);

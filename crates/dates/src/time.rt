@@ -1,9 +1,9 @@
 // The forms with a time.
 ghost use Rattle.std.specs.Prelude.{◌≡◌, true, ◌≤◌, take};
 ghost use Rattle.model.specs.Bytes.{ascii};
-ghost use Rattle.model.specs.DateText.{startsLike, fractionDigit, afterSeconds, isTime, timeText};
+ghost use Rattle.model.specs.DateText.{starts_like, fraction_digit, after_seconds, is_time, time_text};
 ghost use Rattle.model.specs.DateText as reading;
-ghost use Rattle.calendar.specs.Contract.{dateResult};
+ghost use Rattle.calendar.specs.Contract.{date_result};
 
 use crate::day::date_in;
 use crate::offset::{Offset, to_utc};
@@ -15,7 +15,7 @@ const MAX_FRACTION_DIGITS: usize = 9;
 // The instant of a local time in milliseconds since 0000-01-01, and what follows its last digit.
 fn zoned(local: u64, text: &[u8]) -> DateAnswer
     requires { local ≤ 1000000000000000 }
-    ensures { dateResult result ≡ reading.zoned local text.now }
+    ensures { date_result result ≡ reading.zoned local text.now }
 {
     match to_utc(text) {
         Offset::On(k) => dated(Instant::from_year_0(local + k)),
@@ -31,7 +31,7 @@ fn zoned(local: u64, text: &[u8]) -> DateAnswer
 
 // A digit of a fraction; 0 past its digits.
 fn fraction_digit(text: &[u8], digits: usize, i: usize) -> u64
-    ensures { (result ≡ fractionDigit (take digits text.now) i) × (result ≤ 207) }
+    ensures { (result ≡ fraction_digit (take digits text.now) i) × (result ≤ 207) }
 {
     if i < digits {
         return digit_at(text, i);
@@ -51,7 +51,7 @@ fn milliseconds(text: &[u8], digits: usize) -> u64
 // The instant of a local time in whole seconds, and what follows them.
 fn after_seconds(local: u64, text: &[u8]) -> DateAnswer
     requires { local ≤ 999999999900000 }
-    ensures { dateResult result ≡ afterSeconds local text.now }
+    ensures { date_result result ≡ after_seconds local text.now }
 {
     if !starts_like(b".", text) {
         return zoned(local, text);
@@ -68,7 +68,7 @@ fn after_seconds(local: u64, text: &[u8]) -> DateAnswer
 }
 
 fn is_time(hour: u64, minute: u64, second: u64) -> bool
-    ensures { result ≡ isTime hour minute second }
+    ensures { result ≡ is_time hour minute second }
 {
     if hour > 23 {
         return false;
@@ -81,8 +81,8 @@ fn is_time(hour: u64, minute: u64, second: u64) -> bool
 
 // A text that begins with the shape 0000-00-00T00:00:00.
 pub fn read_time(text: &[u8]) -> DateAnswer
-    requires { startsLike (ascii "0000-00-00T00:00:00") text.now ≡ true }
-    ensures { dateResult result ≡ timeText text.now }
+    requires { starts_like (ascii "0000-00-00T00:00:00") text.now ≡ true }
+    ensures { date_result result ≡ time_text text.now }
 {
     let hour = two_digits(text, 11);
     let minute = two_digits(text, 14);

@@ -1,8 +1,8 @@
 // Days and dates. A day is counted from 0000-01-01.
 ghost use Rattle.std.specs.Prelude.{◌≡◌, ◌+◌, ◌-◌, ◌/◌, ◌<◌, ◌≤◌};
-ghost use Rattle.model.specs.Calendar.{isValid, months, sumFirst, yearDays, yearStart, dayNumber, dateOfDay};
-ghost use Rattle.model.specs.Instant.{msPerDay};
-ghost use Rattle.days.specs.Contract.{dayAnswer, monthAnswer, WithinYears};
+ghost use Rattle.model.specs.Calendar.{is_valid, months, sum_first, year_days, year_start, day_number, date_of_day};
+ghost use Rattle.model.specs.Instant.{ms_per_day};
+ghost use Rattle.days.specs.Contract.{day_answer, month_answer, WithinYears};
 
 use crate::month::month_days;
 use model::Date;
@@ -29,7 +29,7 @@ pub enum MonthAnswer {
 
 // Whether there is such a date.
 pub fn is_valid(date: Date) -> bool
-    ensures { result ≡ isValid date }
+    ensures { result ≡ is_valid date }
 {
     let month = date.month;
     let day = date.day;
@@ -48,7 +48,7 @@ pub fn is_valid(date: Date) -> bool
 // The days of all years before a year: 365 each, and one more for each leap year.
 fn year_start(year: u64) -> u64
     requires { year ≤ 10000000000 }
-    ensures { result ≡ yearStart year }
+    ensures { result ≡ year_start year }
 {
     365 * year + (year + 3) / 4 + (year + 399) / 400 - (year + 99) / 100
 }
@@ -56,7 +56,7 @@ fn year_start(year: u64) -> u64
 // The days of a year's months before a month.
 fn months_before(year: u64, month: u64) -> u64
     requires { (1 ≤ month) × (month ≤ 12) }
-    ensures { (result ≡ sumFirst (month - 1) (months year)) × (result ≤ 372) }
+    ensures { (result ≡ sum_first (month - 1) (months year)) × (result ≤ 372) }
 {
     let mut sum: u64 = 0;
     let mut m: u64 = 1;
@@ -70,14 +70,14 @@ fn months_before(year: u64, month: u64) -> u64
 // The day of a valid date.
 fn day_number(date: Date) -> u64
     requires { WithinYears date }
-    ensures { result ≡ dayNumber date }
+    ensures { result ≡ day_number date }
 {
     year_start(date.year) + months_before(date.year, date.month) + (date.day - 1)
 }
 
 // The day of any date.
 pub fn day_of(date: Date) -> DayAnswer
-    ensures { result ≡ dayAnswer date }
+    ensures { result ≡ day_answer date }
 {
     if !is_valid(date) {
         return DayAnswer::NoDate;
@@ -90,7 +90,7 @@ pub fn day_of(date: Date) -> DayAnswer
 
 // The first day of any month, counted from 0000-01.
 pub fn month_start(month: u64) -> MonthAnswer
-    ensures { result ≡ monthAnswer month }
+    ensures { result ≡ month_answer month }
 {
     if month >= RANGE_MONTHS {
         return MonthAnswer::Late;
@@ -104,8 +104,8 @@ pub fn month_start(month: u64) -> MonthAnswer
 
 // The date of day n of a year, from 0: months are taken off.
 fn date_in_year(year: u64, n: u64) -> Date
-    requires { n < yearDays year }
-    ensures { result ≡ dateOfDay (yearStart year + n) }
+    requires { n < year_days year }
+    ensures { result ≡ date_of_day (year_start year + n) }
 {
     let mut month: u64 = 1;
     let mut left = n;
@@ -126,7 +126,7 @@ fn date_in_year(year: u64, n: u64) -> Date
 // The date of a day. No year has more than 366 days, so that the year is n / 366 or a later one.
 fn date_of_day(n: u64) -> Date
     requires { n ≤ 1000000000000 }
-    ensures { result ≡ dateOfDay n }
+    ensures { result ≡ date_of_day n }
 {
     let mut year = n / 366;
     while year_start(year + 1) <= n {
@@ -137,7 +137,7 @@ fn date_of_day(n: u64) -> Date
 
 // The date of the day on which lies the instant so many milliseconds from 0000-01-01.
 pub fn date_at(since: u64) -> Date
-    ensures { result ≡ dateOfDay (since / msPerDay) }
+    ensures { result ≡ date_of_day (since / ms_per_day) }
 {
     date_of_day(since / MS_PER_DAY)
 }

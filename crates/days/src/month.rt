@@ -1,6 +1,6 @@
 // The lengths of the months.
 ghost use Rattle.std.specs.Prelude.{◌≡◌, cond, ◌-◌, ◌<◌};
-ghost use Rattle.model.specs.Calendar.{isLeap, monthDays};
+ghost use Rattle.model.specs.Calendar.{is_leap, month_days};
 
 // The days of each month: of a common year, and of a leap year.
 const MONTH_DAYS: [[u8; 12]; 2] = [
@@ -10,7 +10,7 @@ const MONTH_DAYS: [[u8; 12]; 2] = [
 
 // The table's row of a year.
 fn row(year: u64) -> usize
-    ensures { (result ≡ cond (isLeap year) 1 0) × (result < 2) }
+    ensures { (result ≡ cond (is_leap year) 1 0) × (result < 2) }
 {
     if year % 4 != 0 {
         return 0;
@@ -36,7 +36,7 @@ fn place(month: u64) -> usize
 
 // The days of a month from 1 to 12. (Month 0 is taken as January, one after the twelfth as a month without days.)
 pub fn month_days(year: u64, month: u64) -> u64
-    ensures { result ≡ monthDays year month }
+    ensures { result ≡ month_days year month }
 {
     if month > 12 {
         return 0;

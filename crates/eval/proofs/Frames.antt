@@ -6,8 +6,8 @@ use Rattle.model.specs.Bytes.{Bytes}
 use Rattle.model.specs.Rule.{Rules}
 use Rattle.model.specs.Value.{Value}
 use Rattle.operations.specs.Cells.{Same}
-use Rattle.operations.specs.Laws.Cells.{means-kept, each-kept}
-use Rattle.operations.specs.Laws.Stack.{stacked-same}
+use Rattle.operations.specs.Laws.Cells.{means_kept, each_kept}
+use Rattle.operations.specs.Laws.Stack.{stacked_same}
 use Rattle.eval.specs.declared.task.Frame.{Frame}
 use Rattle.eval.specs.declared.task.Frame.TheVariants.{Guard, Branch, Conjunct, Source, Item, Argument}
 use Rattle.eval.specs.declared.task.Task.{Task}
@@ -24,21 +24,21 @@ pub record Moved (C C' : Bytes) (t t' : Task) : Type 0 where
 
 module _ {C C' : Bytes} {t t' : Task} (i : Moved C C' t t') where
   after_kept : {T A R B : Bytes} {rs : Rules} {κ : Value} → After T A R B C t rs κ → After T A R B C' t' rs κ
-  after_kept a = record { rows = rw (i.deep, i.row) a.rows; means = rw i.context (means-kept i.same i.grows a.means) }
+  after_kept a = record { rows = rw (i.deep, i.row) a.rows; means = rw i.context (means_kept i.same i.grows a.means) }
 
-  pub frame-kept : (T A R B : Bytes) (f : Frame) (K : Then) → FrameMeans T A R B C t f K → FrameMeans T A R B C' t' f K
-  frame-kept T A R B Guard K m = record { second = m.second; third = m.third; given = m.given; after = after_kept m.after; run = m.run }
-  frame-kept T A R B Branch K m = m
-  frame-kept T A R B (Conjunct n) K m = record { others = m.others; given = m.given; after = after_kept m.after; counted = m.counted; run = m.run }
-  frame-kept T A R B Source K m = record { lambda = m.lambda; initial = m.initial; given = m.given; after = after_kept m.after; run = m.run }
-  frame-kept T A R B (Item row h) K m = record {
+  pub frame_kept : (T A R B : Bytes) (f : Frame) (K : Then) → FrameMeans T A R B C t f K → FrameMeans T A R B C' t' f K
+  frame_kept T A R B Guard K m = record { second = m.second; third = m.third; given = m.given; after = after_kept m.after; run = m.run }
+  frame_kept T A R B Branch K m = m
+  frame_kept T A R B (Conjunct n) K m = record { others = m.others; given = m.given; after = after_kept m.after; counted = m.counted; run = m.run }
+  frame_kept T A R B Source K m = record { lambda = m.lambda; initial = m.initial; given = m.given; after = after_kept m.after; run = m.run }
+  frame_kept T A R B (Item row h) K m = record {
     lambda = m.lambda;
     value = m.value;
     holds = rw i.deep m.holds;
-    means = means-kept i.same i.grows m.means;
+    means = means_kept i.same i.grows m.means;
     run = m.run;
   }
-  frame-kept T A R B (Argument p) K m = record {
+  frame_kept T A R B (Argument p) K m = record {
     operation = m.operation;
     others = m.others;
     values = m.values;
@@ -46,6 +46,6 @@ module _ {C C' : Bytes} {t t' : Task} (i : Moved C C' t t') where
     stands = m.stands;
     counted = m.counted;
     after = after_kept m.after;
-    means = rw (i.bottom, ← stacked-same C C' (t.state.bottom + p.done) t.state.bottom 0 p.done i.same.above (omega arith)) (each-kept i.same i.grows m.means);
+    means = rw (i.bottom, ← stacked_same C C' (t.state.bottom + p.done) t.state.bottom 0 p.done i.same.above (omega arith)) (each_kept i.same i.grows m.means);
     run = m.run;
   }

@@ -3,8 +3,8 @@ use Rattle.std.specs.Prelude.{◌≡◌, ℕ, ◌≤◌, length}
 use Rattle.model.specs.Bytes.{Bytes}
 use Rattle.model.specs.Eval as models
 use Rattle.model.specs.Eval.{outcome, run}
-use Rattle.model.specs.Limits.{maxNesting, heapCells}
-use Rattle.model.specs.Refusal.{EvalFault, evalNumber}
+use Rattle.model.specs.Limits.{max_nesting, heap_cells}
+use Rattle.model.specs.Refusal.{EvalFault, eval_number}
 use Rattle.model.specs.Rule.{Rule}
 use Rattle.model.specs.Run.{Ended, steps}
 use Rattle.model.specs.Value.{Value}
@@ -13,20 +13,20 @@ use Rattle.heap.specs.Means.{Means}
 use Rattle.heap.specs.Unfold.{Areas, areas}
 use Rattle.rule.specs.Holds.{Holds}
 use Rattle.table.specs.Denotes.{Denotes}
-use Rattle.table.specs.Node.{nodeAt}
+use Rattle.table.specs.Node.{node_at}
 use Rattle.eval.specs.declared.Outcome.{Outcome}
 use Rattle.eval.specs.declared.Outcome.TheVariants as Outcomes
 
 -- The run's value, or its refusal's number; and its steps.
 pub data Reached (a : Areas) (m : Ended Value) (r : Outcome) : Type 0 where
-  reached-value : {v : Value} {h : Handle} {top : ℕ} → outcome m ≡ models.value v → r ≡ Outcomes.Value h (steps m) → Means a top v h → top ≤ heapCells → Reached a m r
-  reached-refusal : {e : EvalFault} → outcome m ≡ models.refusal e → r ≡ Outcomes.Refused (evalNumber e) (steps m) → Reached a m r
+  reached_value : {v : Value} {h : Handle} {top : ℕ} → outcome m ≡ models.value v → r ≡ Outcomes.Value h (steps m) → Means a top v h → top ≤ heap_cells → Reached a m r
+  reached_refusal : {e : EvalFault} → outcome m ≡ models.refusal e → r ≡ Outcomes.Refused (eval_number e) (steps m) → Reached a m r
 
 -- C are the cells before, C' after: the value's handle refers to these. By `Ready` (Evaluate.antt) there is such a rule and such a value.
 pub record Reaches (T A R B C : Bytes) (limit : ℕ) (r : Outcome) (C' : Bytes) : Type 0 where
   pub size : length C' ≡ length C
   pub reaches :
       (ρ : Rule) (κ : Value)
-      → Holds T A maxNesting 0 ρ
-      → Denotes R B κ (nodeAt R 0)
+      → Holds T A max_nesting 0 ρ
+      → Denotes R B κ (node_at R 0)
       → Reached (areas A B R C') (run ρ κ limit) r

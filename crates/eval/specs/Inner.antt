@@ -3,14 +3,14 @@
 use Rattle.std.specs.Prelude.{cond, ◌≡◌, ℕ, zero, suc, ◌+◌, ◌*◌, ◌-◌, ◌/◌, ◌≤◌, eqb, length}
 use Rattle.model.specs.Bytes.{Bytes}
 use Rattle.model.specs.Eval.{context}
-use Rattle.model.specs.EvalPlain.{Plain, PlainRun, gives, lift, branch, continue, fold, plainBody, plainAll, plainAnd, evalPlain, ◌>>=◌}
-use Rattle.model.specs.Limits.{heapCells}
+use Rattle.model.specs.EvalPlain.{Plain, PlainRun, gives, lift, branch, continue, fold, plain_body, plain_all, plain_and, eval_plain, ◌>>=◌}
+use Rattle.model.specs.Limits.{heap_cells}
 use Rattle.model.specs.Operations.{operate}
-use Rattle.model.specs.Refusal.{wrongKind}
+use Rattle.model.specs.Refusal.{wrong_kind}
 use Rattle.model.specs.Result.{required}
-use Rattle.model.specs.Rule.{Operation, Rule, Rules, no-rules, rule}
+use Rattle.model.specs.Rule.{Operation, Rule, Rules, no_rules, rule}
 use Rattle.model.specs.Truth.{Truth, truthy, falsy, neither, truth}
-use Rattle.model.specs.Value.{Value, Values, no_items, item, asArray}
+use Rattle.model.specs.Value.{Value, Values, no_items, item, as_array}
 use Rattle.heap.specs.declared.handle.Area.TheVariants as Areas
 use Rattle.heap.specs.declared.handle.Form.{Form}
 use Rattle.heap.specs.declared.handle.Form.TheVariants as Forms
@@ -18,7 +18,7 @@ use Rattle.heap.specs.declared.handle.Handle.{Handle}
 use Rattle.heap.specs.declared.handle.Handle.TheVariants as Handles
 use Rattle.heap.specs.declared.handle.Parts.{Parts}
 use Rattle.heap.specs.Blocks.{MeansEach}
-use Rattle.heap.specs.Cells.{cellBytes}
+use Rattle.heap.specs.Cells.{cell_bytes}
 use Rattle.heap.specs.Handles.{span, parts}
 use Rattle.heap.specs.Means.{Means}
 use Rattle.heap.specs.Unfold.{areas}
@@ -34,12 +34,12 @@ use Rattle.operations.specs.Ended.{EndsAs, state}
 use Rattle.operations.specs.Stack.{stacked}
 use Rattle.rule.specs.declared.view.Literal.{Literal}
 use Rattle.rule.specs.declared.view.Literal.TheVariants as Literals
-use Rattle.rule.specs.Holds.{Holds, ruleCount}
+use Rattle.rule.specs.Holds.{Holds, rule_count}
 use Rattle.rule.specs.Mark.{Marked}
 use Rattle.table.specs.declared.node.Node.{Node}
 use Rattle.table.specs.declared.node.Node.TheVariants as Nodes
 use Rattle.table.specs.declared.node.Rows.{Rows}
-use Rattle.table.specs.Node.{nodeAt, nextRow}
+use Rattle.table.specs.Node.{node_at, next_row}
 use Rattle.eval.specs.declared.literal.LiteralValue.{LiteralValue}
 use Rattle.eval.specs.declared.literal.LiteralValue.TheVariants.{NotLiteral, Of as LiteralOf}
 use Rattle.eval.specs.declared.take.Elements.{Elements}
@@ -61,8 +61,8 @@ pub record Prepared (T A R B : Bytes) : Type 0 where
 -- Two cells for each step that is left, and some more: enough for what is evaluated. The rule around has put some operands on the stack.
 pub record Room (C : Bytes) (more pushed : ℕ) (s : State) : Type 0 where
   pub fits : s.top + 2 * s.left + more ≤ s.bottom
-  pub within : s.bottom + pushed ≤ heapCells
-  pub enough : heapCells ≤ length C / cellBytes
+  pub within : s.bottom + pushed ≤ heap_cells
+  pub enough : heap_cells ≤ length C / cell_bytes
 
 -- The operands of the rule that stand on the stack while one of them is evaluated.
 abbrev pub on_stack : Frame → ℕ
@@ -111,53 +111,53 @@ task row context s = record { row = row; context = context; state = s }
 abbrev pub pending : Op → ℕ → ℕ → Pending
 pending op done rest = record { op = op; done = done; rest = rest }
 
-abbrev pub firstTask : Rows → Handle → State → Task
-firstTask q context s = task q.first context (state s.left s.top s.bottom (s.deep - 1))
+abbrev pub first_task : Rows → Handle → State → Task
+first_task q context s = task q.first context (state s.left s.top s.bottom (s.deep - 1))
 
 -- The first of so many operands of an operation on all of them; with none, an array's empty list.
 abbrev pub first_of : ℕ → Op → Rows → Handle → State → Next
 first_of zero op q context s = Ends (Gives (Handles.Compound (parts Forms.List s.top 0)) s)
-first_of (suc rest) op q context s = Asks (firstTask q context s) (Argument (pending op 0 rest))
+first_of (suc rest) op q context s = Asks (first_task q context s) (Argument (pending op 0 rest))
 
-abbrev pub firstArgument : Op → Rows → Handle → State → Next
-firstArgument op q context s = first_of q.count op q context s
+abbrev pub first_argument : Op → Rows → Handle → State → Next
+first_argument op q context s = first_of q.count op q context s
 
-abbrev pub literalHandle : Literal → Handle
-literalHandle Literals.False = Handles.False
-literalHandle Literals.True = Handles.True
-literalHandle (Literals.Integer n) = Handles.Integer n
-literalHandle (Literals.String p) = Handles.String (span Areas.Rule p.start p.size)
+abbrev pub literal_handle : Literal → Handle
+literal_handle Literals.False = Handles.False
+literal_handle Literals.True = Handles.True
+literal_handle (Literals.Integer n) = Handles.Integer n
+literal_handle (Literals.String p) = Handles.String (span Areas.Rule p.start p.size)
 
 -- The same by the node of a row, or that it is no literal.
-abbrev pub literalOf : Node → LiteralValue
-literalOf Nodes.Null = NotLiteral
-literalOf Nodes.False = LiteralOf (literalHandle Literals.False)
-literalOf Nodes.True = LiteralOf (literalHandle Literals.True)
-literalOf (Nodes.Integer n) = LiteralOf (literalHandle (Literals.Integer n))
-literalOf (Nodes.String p) = LiteralOf (literalHandle (Literals.String p))
-literalOf (Nodes.Array q) = NotLiteral
-literalOf (Nodes.Object q) = NotLiteral
+abbrev pub literal_of : Node → LiteralValue
+literal_of Nodes.Null = NotLiteral
+literal_of Nodes.False = LiteralOf (literal_handle Literals.False)
+literal_of Nodes.True = LiteralOf (literal_handle Literals.True)
+literal_of (Nodes.Integer n) = LiteralOf (literal_handle (Literals.Integer n))
+literal_of (Nodes.String p) = LiteralOf (literal_handle (Literals.String p))
+literal_of (Nodes.Array q) = NotLiteral
+literal_of (Nodes.Object q) = NotLiteral
 
 -- Of the task's operand, if one is left and a step for it.
-abbrev pub literalNext : Bytes → Task → Pending → LiteralValue
-literalNext T t p = cond (eqb p.rest 0) NotLiteral (cond (eqb t.state.left 0) NotLiteral (literalOf (nodeAt T t.row)))
+abbrev pub literal_next : Bytes → Task → Pending → LiteralValue
+literal_next T t p = cond (eqb p.rest 0) NotLiteral (cond (eqb t.state.left 0) NotLiteral (literal_of (node_at T t.row)))
 
 -- With one step less, and with one operand begun.
-abbrev pub oneStep : Task → Task
-oneStep t = task t.row t.context (state (t.state.left - 1) t.state.top t.state.bottom t.state.deep)
+abbrev pub one_step : Task → Task
+one_step t = task t.row t.context (state (t.state.left - 1) t.state.top t.state.bottom t.state.deep)
 
-abbrev pub oneBegun : Pending → Pending
-oneBegun p = pending p.op p.done (p.rest - 1)
+abbrev pub one_begun : Pending → Pending
+one_begun p = pending p.op p.done (p.rest - 1)
 
-abbrev pub resumedEnd : State → Ended → Ended
-resumedEnd s (Gives h t) = Gives h (state t.left t.top s.bottom s.deep)
-resumedEnd s (Denies f l) = Denies f l
+abbrev pub resumed_end : State → Ended → Ended
+resumed_end s (Gives h t) = Gives h (state t.left t.top s.bottom s.deep)
+resumed_end s (Denies f l) = Denies f l
 
 -- ---- rules
 -- The rules of operands, from a row on.
 pub data RowsHold (T A : Bytes) (deep : ℕ) : ℕ → Rules → Type 0 where
-  no_rows : {row : ℕ} → RowsHold T A deep row no-rules
-  row-rule : {row : ℕ} {r : Rule} {rs : Rules} → Holds T A deep row r → RowsHold T A deep (nextRow T row) rs → RowsHold T A deep row (rule r rs)
+  no_rows : {row : ℕ} → RowsHold T A deep row no_rules
+  row_rule : {row : ℕ} {r : Rule} {rs : Rules} → Holds T A deep row r → RowsHold T A deep (next_row T row) rs → RowsHold T A deep row (rule r rs)
 
 -- ---- frames: what the model still does with the operand's value
 abbrev pub Then : Type 0
@@ -165,15 +165,15 @@ Then = Value → PlainRun Value
 
 -- The rules after the operand, in its context.
 pub record After (T A R B C : Bytes) (t : Task) (rs : Rules) (κ : Value) : Type 0 where
-  pub rows : RowsHold T A t.state.deep (nextRow T t.row) rs
+  pub rows : RowsHold T A t.state.deep (next_row T t.row) rs
   pub means : Means (areas A B R C) t.state.top κ t.context
 
 pub record GuardMeans (T A R B C : Bytes) (t : Task) (K : Then) : Type 0 where
   pub second : Rule
   pub third : Rule
   pub given : Value
-  pub after : After T A R B C t (rule second (rule third no-rules)) given
-  pub run : (v : Value) (n : ℕ) → K v n ≡ branch (truth v) (evalPlain second given) (evalPlain third given) n
+  pub after : After T A R B C t (rule second (rule third no_rules)) given
+  pub run : (v : Value) (n : ℕ) → K v n ≡ branch (truth v) (eval_plain second given) (eval_plain third given) n
 
 pub record BranchMeans (K : Then) : Type 0 where
   pub run : (v : Value) (n : ℕ) → K v n ≡ gives v n
@@ -182,23 +182,23 @@ pub record ConjunctMeans (T A R B C : Bytes) (t : Task) (count : ℕ) (K : Then)
   pub others : Rules
   pub given : Value
   pub after : After T A R B C t others given
-  pub counted : count ≡ suc (ruleCount others)
-  pub run : (v : Value) (n : ℕ) → K v n ≡ plainAnd others given v n
+  pub counted : count ≡ suc (rule_count others)
+  pub run : (v : Value) (n : ℕ) → K v n ≡ plain_and others given v n
 
 -- The lambda on an item and the accumulator.
-abbrev pub lambdaRun : Rule → Value → Value → PlainRun Value
-lambdaRun ρ cur acc = evalPlain ρ (context cur acc)
+abbrev pub lambda_run : Rule → Value → Value → PlainRun Value
+lambda_run ρ cur acc = eval_plain ρ (context cur acc)
 
 -- `reduce` once its operand's value is known, and once the initial's is.
 abbrev pub reduced : Rule → Value → Value → PlainRun Value
-reduced ρ v i = lift (required wrongKind (asArray v)) >>= λ vs. fold (lambdaRun ρ) vs i
+reduced ρ v i = lift (required wrong_kind (as_array v)) >>= λ vs. fold (lambda_run ρ) vs i
 
 pub record SourceMeans (T A R B C : Bytes) (t : Task) (K : Then) : Type 0 where
   pub lambda : Rule
   pub initial : Rule
   pub given : Value
-  pub after : After T A R B C t (rule lambda (rule initial no-rules)) given
-  pub run : (v : Value) (n : ℕ) → K v n ≡ continue (evalPlain initial given n) (reduced lambda v)
+  pub after : After T A R B C t (rule lambda (rule initial no_rules)) given
+  pub run : (v : Value) (n : ℕ) → K v n ≡ continue (eval_plain initial given n) (reduced lambda v)
 
 -- The value of the items' handle is that of the operand, or the array of the items that are left.
 pub record ItemMeans (T A R B C : Bytes) (t : Task) (row : ℕ) (items : Handle) (K : Then) : Type 0 where
@@ -214,7 +214,7 @@ append (item v vs) ws = item v (append vs ws)
 
 -- The operation on the values before and those of the rules that are left.
 abbrev pub applied : Operation → Values → Rules → Value → PlainRun Value
-applied o vs rs κ n = continue (plainAll rs κ n) (λ ws. lift (operate o (append vs ws)))
+applied o vs rs κ n = continue (plain_all rs κ n) (λ ws. lift (operate o (append vs ws)))
 
 pub record ArgumentMeans (T A R B C : Bytes) (t : Task) (p : Pending) (K : Then) : Type 0 where
   pub operation : Operation
@@ -222,7 +222,7 @@ pub record ArgumentMeans (T A R B C : Bytes) (t : Task) (p : Pending) (K : Then)
   pub values : Values
   pub given : Value
   pub stands : Stands p.op operation (p.done + suc p.rest)
-  pub counted : p.rest ≡ ruleCount others
+  pub counted : p.rest ≡ rule_count others
   pub after : After T A R B C t others given
   pub means : MeansEach (areas A B R C) t.state.top values (stacked C (t.state.bottom + p.done) p.done)
   pub run : (v : Value) (n : ℕ) → K v n ≡ applied operation (append values (item v no_items)) others given n
@@ -243,20 +243,20 @@ pub record Asked (T A R B C : Bytes) (m : Plain Value) (t : Task) (f : Frame) : 
   pub holds : Holds T A t.state.deep t.row asked
   pub means : Means (areas A B R C) t.state.top given t.context
   pub frame : FrameMeans T A R B C t f next
-  pub run : m ≡ continue (evalPlain asked given t.state.left) next
+  pub run : m ≡ continue (eval_plain asked given t.state.left) next
 
 abbrev pub Follows : Bytes → Bytes → Bytes → Bytes → Bytes → Plain Value → Next → Type 0
 Follows T A R B C m (Ends e) = EndsAs (areas A B R C) m e
 Follows T A R B C m (Asks t f) = Asked T A R B C m t f
 
 -- The steps left and the nesting left, as measures.
-abbrev pub nextLeft : Next → ℕ
-nextLeft (Ends e) = 0
-nextLeft (Asks t f) = suc t.state.left
+abbrev pub next_left : Next → ℕ
+next_left (Ends e) = 0
+next_left (Asks t f) = suc t.state.left
 
-abbrev pub nextDeep : Next → ℕ
-nextDeep (Ends e) = 0
-nextDeep (Asks t f) = 2 * t.state.deep + 2
+abbrev pub next_deep : Next → ℕ
+next_deep (Ends e) = 0
+next_deep (Asks t f) = 2 * t.state.deep + 2
 
 -- ---- contracts
 pub record Evals (T A R B C : Bytes) (t : Task) (e : Ended) (C' : Bytes) : Type 0 where
@@ -267,7 +267,7 @@ pub record Evals (T A R B C : Bytes) (t : Task) (e : Ended) (C' : Bytes) : Type 
       (ρ : Rule) (κ : Value)
       → Holds T A t.state.deep t.row ρ
       → Means (areas A B R C) t.state.top κ t.context
-      → EndsAs (areas A B R C') (evalPlain ρ κ t.state.left) e
+      → EndsAs (areas A B R C') (eval_plain ρ κ t.state.left) e
 
 pub record Starts (T A R B C : Bytes) (t : Task) (n : Next) : Type 0 where
   pub within : Within t.state n
@@ -275,7 +275,7 @@ pub record Starts (T A R B C : Bytes) (t : Task) (n : Next) : Type 0 where
       (ρ : Rule) (κ : Value)
       → Holds T A t.state.deep t.row ρ
       → Means (areas A B R C) t.state.top κ t.context
-      → Follows T A R B C (evalPlain ρ κ t.state.left) n
+      → Follows T A R B C (eval_plain ρ κ t.state.left) n
 
 -- The operands that are left, from the task's row on, and those on the stack.
 pub record ArgumentsLeft (T A R B C : Bytes) (t : Task) (p : Pending) (m : Plain Value) : Type 0 where
@@ -284,15 +284,15 @@ pub record ArgumentsLeft (T A R B C : Bytes) (t : Task) (p : Pending) (m : Plain
   pub values : Values
   pub given : Value
   pub stands : Stands p.op operation (p.done + p.rest)
-  pub counted : p.rest ≡ ruleCount others
+  pub counted : p.rest ≡ rule_count others
   pub rows : RowsHold T A t.state.deep t.row others
-  pub means-given : Means (areas A B R C) t.state.top given t.context
+  pub means_given : Means (areas A B R C) t.state.top given t.context
   pub means : MeansEach (areas A B R C) t.state.top values (stacked C (t.state.bottom + p.done) p.done)
   pub run : m ≡ applied operation values others given t.state.left
 
 pub record Argues (T A R B C : Bytes) (t : Task) (p : Pending) (n : Next) (C' : Bytes) : Type 0 where
   pub same : Same C C' t.state.top (t.state.bottom + p.done)
-  pub steps : nextLeft n ≤ suc t.state.left
+  pub steps : next_left n ≤ suc t.state.left
   pub within : (s : State) → Charged s 0 t.state (Argument p) → Within s n
   pub follows : (m : Plain Value) → ArgumentsLeft T A R B C t p m → Follows T A R B C' m n
 
@@ -303,7 +303,7 @@ pub record Argued (A R B C : Bytes) (t : Task) (p : Pending) (n : Next) (C' : By
 -- With the operand's value; the task is the operand's, with the state that its evaluation left.
 pub record Takes (T A R B C : Bytes) (t : Task) (f : Frame) (h : Handle) (n : Next) (C' : Bytes) : Type 0 where
   pub same : Same C C' t.state.top (t.state.bottom + on_stack f)
-  pub steps : nextLeft n ≤ suc t.state.left
+  pub steps : next_left n ≤ suc t.state.left
   pub within : (s : State) → Charged s 2 t.state f → Within s n
   pub follows :
       (K : Then) (v : Value)
@@ -328,7 +328,7 @@ pub record Taking (C : Bytes) (t : Task) (f : Frame) (e : Ended) : Type 0 where
 
 pub record TakesEnd (T A R B C : Bytes) (t : Task) (f : Frame) (e : Ended) (n : Next) (C' : Bytes) : Type 0 where
   pub same : Same C C' t.state.top (t.state.bottom + on_stack f)
-  pub steps : nextLeft n ≤ t.state.left
+  pub steps : next_left n ≤ t.state.left
   pub within : (s : State) → Charged s 0 t.state f → Within s n
   pub follows :
       (K : Then) (m : Plain Value)
@@ -349,27 +349,27 @@ pub record Operates (T A R B C : Bytes) (n : Next) (e : Ended) (C' : Bytes) : Ty
 
 -- ---- arrays
 -- The parts of an array's handle.
-abbrev pub elementsIn : Form → Parts → Elements
-elementsIn Forms.Items p = Of p
-elementsIn Forms.Members p = NotArray
-elementsIn Forms.List p = Of p
-elementsIn Forms.Context p = NotArray
+abbrev pub elements_in : Form → Parts → Elements
+elements_in Forms.Items p = Of p
+elements_in Forms.Members p = NotArray
+elements_in Forms.List p = Of p
+elements_in Forms.Context p = NotArray
 
-abbrev pub elementsOf : Handle → Elements
-elementsOf Handles.Null = NotArray
-elementsOf Handles.False = NotArray
-elementsOf Handles.True = NotArray
-elementsOf (Handles.Integer n) = NotArray
-elementsOf (Handles.Instant n) = NotArray
-elementsOf (Handles.String s) = NotArray
-elementsOf (Handles.Compound p) = elementsIn p.form p
+abbrev pub elements_of : Handle → Elements
+elements_of Handles.Null = NotArray
+elements_of Handles.False = NotArray
+elements_of Handles.True = NotArray
+elements_of (Handles.Integer n) = NotArray
+elements_of (Handles.Instant n) = NotArray
+elements_of (Handles.String s) = NotArray
+elements_of (Handles.Compound p) = elements_in p.form p
 
 -- ---- branches
 -- The row of the branch that `if` goes on with.
-abbrev pub branchRow : Bytes → ℕ → Truth → ℕ
-branchRow T guard truthy = nextRow T guard
-branchRow T guard falsy = nextRow T (nextRow T guard)
-branchRow T guard neither = nextRow T (nextRow T guard)
+abbrev pub branch_row : Bytes → ℕ → Truth → ℕ
+branch_row T guard truthy = next_row T guard
+branch_row T guard falsy = next_row T (next_row T guard)
+branch_row T guard neither = next_row T (next_row T guard)
 
 pub record Branches (T : Bytes) (guard : ℕ) (h : Handle) (row : ℕ) : Type 0 where
-  pub chosen : (A R B C : Bytes) (top : ℕ) (v : Value) → Means (areas A B R C) top v h → row ≡ branchRow T guard (truth v)
+  pub chosen : (A R B C : Bytes) (top : ℕ) (v : Value) → Means (areas A B R C) top v h → row ≡ branch_row T guard (truth v)

@@ -1,9 +1,9 @@
 // The evaluator: a rule on a record, both as reading left them, under a step limit; and its answer, written.
 ghost use Rattle.std.specs.Prelude.{◌≡◌};
-ghost use Rattle.model.specs.Refusal.{evalNumber};
-ghost use Rattle.operations.specs.Ended.{faultOf};
+ghost use Rattle.model.specs.Refusal.{eval_number};
+ghost use Rattle.operations.specs.Ended.{fault_of};
 ghost use Rattle.eval.specs.Contract.{Reaches};
-ghost use Rattle.eval.specs.Evaluate.{Ready, Evaluates, writtenAnswer};
+ghost use Rattle.eval.specs.Evaluate.{Ready, Evaluates, written_answer};
 
 use crate::run::operands;
 use crate::task::{Frame, operand, state};
@@ -35,7 +35,7 @@ pub enum Outcome {
 }
 
 fn number(fault: Fault) -> u32
-    ensures { result ≡ evalNumber (faultOf fault) }
+    ensures { result ≡ eval_number (fault_of fault) }
 {
     match fault {
         Fault::WrongKind => 7,
@@ -119,7 +119,7 @@ fn refused(refusal: u32, steps: usize) -> Answer
 }
 
 fn written(w: Written, steps: usize) -> Answer
-    ensures { result ≡ writtenAnswer w steps }
+    ensures { result ≡ written_answer w steps }
 {
     match w {
         Written::Written(size) => Answer {

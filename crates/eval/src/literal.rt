@@ -1,6 +1,6 @@
 // An operand that is a literal: its value is known by its row.
 ghost use Rattle.std.specs.Prelude.{◌≡◌, ◌≤◌};
-ghost use Rattle.eval.specs.Inner.{literalOf, literalNext, oneStep, oneBegun};
+ghost use Rattle.eval.specs.Inner.{literal_of, literal_next, one_step, one_begun};
 
 use crate::task::{Pending, Task, arguments_of, operand, state};
 use heap::handle::{Area, Handle, string};
@@ -15,7 +15,7 @@ pub enum LiteralValue {
 
 // By the row's node. A string lies in the rule's strings.
 fn literal_of(n: Node) -> LiteralValue
-    ensures { result ≡ literalOf n }
+    ensures { result ≡ literal_of n }
 {
     match n {
         Node::Null => LiteralValue::NotLiteral,
@@ -30,7 +30,7 @@ fn literal_of(n: Node) -> LiteralValue
 
 // The value of the task's operand, if one is left, with a step for it, and it is a literal.
 pub fn literal_next(rule_table: &[u8], task: Task, p: Pending) -> LiteralValue
-    ensures { result ≡ literalNext rule_table.now task p }
+    ensures { result ≡ literal_next rule_table.now task p }
 {
     let s = task.state;
     if p.rest == 0 {
@@ -45,7 +45,7 @@ pub fn literal_next(rule_table: &[u8], task: Task, p: Pending) -> LiteralValue
 // With one step less.
 pub fn one_step(t: Task) -> Task
     requires { 1 ≤ t.state.left }
-    ensures { result ≡ oneStep t }
+    ensures { result ≡ one_step t }
 {
     let context = t.context;
     let s = t.state;
@@ -55,7 +55,7 @@ pub fn one_step(t: Task) -> Task
 // With one operand begun.
 pub fn one_begun(p: Pending) -> Pending
     requires { 1 ≤ p.rest }
-    ensures { result ≡ oneBegun p }
+    ensures { result ≡ one_begun p }
 {
     let op = p.op;
     arguments_of(op, p.done, p.rest - 1)

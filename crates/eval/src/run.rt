@@ -3,7 +3,7 @@
 // The rule lies in `rule_table` and `rule_strings`, the record in `record_table` and `record_strings`. `cells` holds the heap, from cell 0 up,
 // and the stack of operands, from the last cell down.
 ghost use Rattle.std.specs.Prelude.{◌≡◌};
-ghost use Rattle.eval.specs.Inner.{Prepared, Room, resumedEnd, Operating, Operates, Evals};
+ghost use Rattle.eval.specs.Inner.{Prepared, Room, resumed_end, Operating, Operates, Evals};
 
 use crate::start::start;
 use crate::take::take;
@@ -12,7 +12,7 @@ use operations::ended::{Ended, State};
 
 // The bottom and the nesting as they were when the rule began.
 fn resumed(s: State, e: Ended) -> Ended
-    ensures { result ≡ resumedEnd s e }
+    ensures { result ≡ resumed_end s e }
 {
     match e {
         Ended::Gives(value, t) => Ended::Gives(value, state(t.left, t.top, s.bottom, s.deep)),

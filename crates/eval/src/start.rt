@@ -1,6 +1,6 @@
 // How a rule begins.
 ghost use Rattle.std.specs.Prelude.{◌≡◌, ◌≤◌};
-ghost use Rattle.eval.specs.Inner.{Prepared, Room, literalHandle, firstTask, firstArgument, Starts};
+ghost use Rattle.eval.specs.Inner.{Prepared, Room, literal_handle, first_task, first_argument, Starts};
 
 use crate::task::{Frame, Next, Task, arguments_of, operand, state};
 use heap::handle::{Area, Form, Handle, compound, string};
@@ -13,7 +13,7 @@ use table::string::bytes_of;
 
 // A literal's handle: a string lies in the rule's strings.
 fn literal(l: Literal) -> Handle
-    ensures { result ≡ literalHandle l }
+    ensures { result ≡ literal_handle l }
 {
     match l {
         Literal::False => Handle::False,
@@ -26,7 +26,7 @@ fn literal(l: Literal) -> Handle
 // The first operand of an operation, in its context: one nesting less is left.
 fn first(q: Rows, context: Handle, s: State) -> Task
     requires { 1 ≤ s.deep }
-    ensures { result ≡ firstTask q context s }
+    ensures { result ≡ first_task q context s }
 {
     operand(q.first, context, state(s.left, s.top, s.bottom, s.deep - 1))
 }
@@ -34,7 +34,7 @@ fn first(q: Rows, context: Handle, s: State) -> Task
 // The first operand of an operation on all its operands. Only an array may have none: its list is empty.
 fn first_argument(op: Op, q: Rows, context: Handle, s: State) -> Next
     requires { 1 ≤ s.deep }
-    ensures { result ≡ firstArgument op q context s }
+    ensures { result ≡ first_argument op q context s }
 {
     if q.count == 0 {
         return Next::Ends(Ended::Gives(compound(Form::List, s.top, 0), s));

@@ -1,6 +1,6 @@
 // What an operation does with the value of an operand.
 ghost use Rattle.std.specs.Prelude.{◌≡◌, ◌+◌};
-ghost use Rattle.eval.specs.Inner.{Room, Argued, elementsIn, elementsOf, Branches, Takes, TakesByRule, TakesByRecord, Taking, TakesEnd};
+ghost use Rattle.eval.specs.Inner.{Room, Argued, elements_in, elements_of, Branches, Takes, TakesByRule, TakesByRecord, Taking, TakesEnd};
 
 use crate::literal::{LiteralValue, literal_next, one_begun, one_step};
 use crate::task::{Frame, Next, Pending, Task, arguments_of, operand, state};
@@ -20,7 +20,7 @@ enum Elements {
 }
 
 fn elements_of(h: Handle) -> Elements
-    ensures { result ≡ elementsOf h }
+    ensures { result ≡ elements_of h }
 {
     match h {
         Handle::Null => Elements::NotArray,
@@ -34,7 +34,7 @@ fn elements_of(h: Handle) -> Elements
 }
 
 fn elements_in(p: Parts) -> Elements
-    ensures { result ≡ elementsIn p.form p }
+    ensures { result ≡ elements_in p.form p }
 {
     let form = p.form;
     match form {

@@ -13,35 +13,35 @@ use Rattle.heap.specs.declared.handle.Form.{Form}
 use Rattle.heap.specs.declared.handle.Form.TheVariants.{Items, Members, List, Context}
 use Rattle.heap.specs.Handles.{span, parts}
 
-unfoldable pub cellBytes : ℕ
-cellBytes = 8
+unfoldable pub cell_bytes : ℕ
+cell_bytes = 8
 
 -- ---- a handle as a tag and two numbers
 abbrev pub packed : ℕ → ℕ → ℕ → Packed
 packed t a b = record { tag = t; low = a; high = b }
 
-abbrev pub spanTag : Area → ℕ
-spanTag Rule = 5
-spanTag Record = 6
+abbrev pub span_tag : Area → ℕ
+span_tag Rule = 5
+span_tag Record = 6
 
-abbrev pub partsTag : Form → ℕ
-partsTag Items = 7
-partsTag Members = 8
-partsTag List = 9
-partsTag Context = 10
+abbrev pub parts_tag : Form → ℕ
+parts_tag Items = 7
+parts_tag Members = 8
+parts_tag List = 9
+parts_tag Context = 10
 
-abbrev pub packedOf : Handle → Packed
-packedOf Null = packed 0 0 0
-packedOf False = packed 1 0 0
-packedOf True = packed 2 0 0
-packedOf (Integer n) = packed 3 (n % 4294967296) (n / 4294967296)
-packedOf (Instant n) = packed 4 (n % 4294967296) (n / 4294967296)
-packedOf (String s) = packed (spanTag s.area) s.start s.size
-packedOf (Compound p) = packed (partsTag p.form) p.first p.count
+abbrev pub packed_of : Handle → Packed
+packed_of Null = packed 0 0 0
+packed_of False = packed 1 0 0
+packed_of True = packed 2 0 0
+packed_of (Integer n) = packed 3 (n % 4294967296) (n / 4294967296)
+packed_of (Instant n) = packed 4 (n % 4294967296) (n / 4294967296)
+packed_of (String s) = packed (span_tag s.area) s.start s.size
+packed_of (Compound p) = packed (parts_tag p.form) p.first p.count
 
 -- Any other tag is null's.
-abbrev pub ofPacked : Packed → Handle
-ofPacked f =
+abbrev pub of_packed : Packed → Handle
+of_packed f =
     cond (eqb f.tag 1) False
     (cond (eqb f.tag 2) True
     (cond (eqb f.tag 3) (Integer (f.low + f.high * 4294967296))
@@ -61,7 +61,7 @@ pub record Packs (f : Packed) : Type 0 where
 
 -- What a cell can hold. What is wider is stored cut.
 abbrev pub Small : Handle → Type 0
-Small h = Packs (packedOf h)
+Small h = Packs (packed_of h)
 
 -- ---- cells
 -- The numbers of the cell at a place.
@@ -69,16 +69,16 @@ abbrev pub packed_at : Bytes → ℕ → Packed
 packed_at C at = packed (word_at C (at + 4) / 16777216) (word_at C at) (word_at C (at + 4) % 16777216)
 
 -- The handle in a cell of the heap C; null where there is no such cell.
-unfoldable pub cellHandle : Bytes → ℕ → Handle
-cellHandle C j = cond (ltb j (length C / cellBytes)) (ofPacked (packed_at C (j * cellBytes))) Null
+unfoldable pub cell_handle : Bytes → ℕ → Handle
+cell_handle C j = cond (ltb j (length C / cell_bytes)) (of_packed (packed_at C (j * cell_bytes))) Null
 
 -- The bytes of a cell: two words.
-abbrev pub secondWord : Packed → ℕ
-secondWord f = f.high % 16777216 + f.tag * 16777216
+abbrev pub second_word : Packed → ℕ
+second_word f = f.high % 16777216 + f.tag * 16777216
 
 abbrev pub cell_of : Packed → Bytes
-cell_of f = word f.low ++ word (secondWord f)
+cell_of f = word f.low ++ word (second_word f)
 
 -- The heap with a handle in a cell; the heap itself where there is no such cell.
 unfoldable pub stored : Bytes → ℕ → Handle → Bytes
-stored C j h = cond (ltb j (length C / cellBytes)) (sets C (j * cellBytes) (cell_of (packedOf h))) C
+stored C j h = cond (ltb j (length C / cell_bytes)) (sets C (j * cell_bytes) (cell_of (packed_of h))) C

@@ -3,7 +3,7 @@ use Rattle.std.specs.Prelude.{ℕ}
 use Rattle.model.specs.Bytes.{Bytes}
 use Rattle.table.specs.declared.node.Node.{Node}
 use Rattle.table.specs.declared.node.Node.TheVariants as nodes
-use Rattle.table.specs.Node.{nodeAt}
+use Rattle.table.specs.Node.{node_at}
 use Rattle.heap.specs.declared.handle.Handle.{Handle}
 use Rattle.heap.specs.declared.handle.Handle.TheVariants.{Null, False, True, Integer, String, Compound}
 use Rattle.heap.specs.declared.handle.Area.{Area}
@@ -20,15 +20,15 @@ abbrev pub parts : Form → ℕ → ℕ → Parts
 parts form first count = record { form = form; first = first; count = count }
 
 -- A string lies in the record's strings.
-abbrev pub recordHandle : Node → Handle
-recordHandle nodes.Null = Null
-recordHandle nodes.False = False
-recordHandle nodes.True = True
-recordHandle (nodes.Integer n) = Integer n
-recordHandle (nodes.String s) = String (span Record s.start s.size)
-recordHandle (nodes.Array q) = Compound (parts Items q.first q.count)
-recordHandle (nodes.Object q) = Compound (parts Members q.first q.count)
+abbrev pub record_handle : Node → Handle
+record_handle nodes.Null = Null
+record_handle nodes.False = False
+record_handle nodes.True = True
+record_handle (nodes.Integer n) = Integer n
+record_handle (nodes.String s) = String (span Record s.start s.size)
+record_handle (nodes.Array q) = Compound (parts Items q.first q.count)
+record_handle (nodes.Object q) = Compound (parts Members q.first q.count)
 
 -- The value in a row; null where the table has no such row.
-abbrev pub rowHandle : Bytes → ℕ → Handle
-rowHandle T i = recordHandle (nodeAt T i)
+abbrev pub row_handle : Bytes → ℕ → Handle
+row_handle T i = record_handle (node_at T i)

@@ -11,5 +11,5 @@ area_bytes A B Rule = A
 area_bytes A B Record = B
 
 -- 01, Evaluation: "A string answer, before it is written, is a part of the rule's text area or of the record's, never a copy."
-abbrev pub spanBytes : Bytes → Bytes → Span → Bytes
-spanBytes A B s = part (area_bytes A B s.area) s.start s.size
+abbrev pub span_bytes : Bytes → Bytes → Span → Bytes
+span_bytes A B s = part (area_bytes A B s.area) s.start s.size

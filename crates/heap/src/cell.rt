@@ -1,7 +1,7 @@
 // Cells: a handle in eight bytes of the heap.
 ghost use Rattle.std.specs.Prelude.{◌≡◌, ◌+◌, ◌*◌, ◌<◌};
-ghost use Rattle.heap.specs.Contract.{cellHandle, stored};
-ghost use Rattle.heap.specs.Cells.{Packs, spanTag, partsTag, packedOf, ofPacked};
+ghost use Rattle.heap.specs.Contract.{cell_handle, stored};
+ghost use Rattle.heap.specs.Cells.{Packs, span_tag, parts_tag, packed_of, of_packed};
 
 use crate::handle::{Area, Form, Handle, compound, string};
 use area::{get_word, put_word};
@@ -46,7 +46,7 @@ fn numbers(tag: usize, low: usize, high: usize) -> Packed
 }
 
 fn span_tag(area: Area) -> usize
-    ensures { (result ≡ spanTag area) × (result < 16) }
+    ensures { (result ≡ span_tag area) × (result < 16) }
 {
     match area {
         Area::Rule => RULE_STRING_TAG,
@@ -55,7 +55,7 @@ fn span_tag(area: Area) -> usize
 }
 
 fn parts_tag(form: Form) -> usize
-    ensures { (result ≡ partsTag form) × (result < 16) }
+    ensures { (result ≡ parts_tag form) × (result < 16) }
 {
     match form {
         Form::Items => ITEMS_TAG,
@@ -66,7 +66,7 @@ fn parts_tag(form: Form) -> usize
 }
 
 fn pack(h: Handle) -> Packed
-    ensures { result ≡ packedOf h }
+    ensures { result ≡ packed_of h }
 {
     match h {
         Handle::Null => numbers(NULL_TAG, 0, 0),
@@ -103,7 +103,7 @@ fn joined(low: usize, high: usize) -> u64
 
 fn unpack(p: Packed) -> Handle
     requires { Packs p }
-    ensures { result ≡ ofPacked p }
+    ensures { result ≡ of_packed p }
 {
     let tag = p.tag;
     let low = p.low;
@@ -143,7 +143,7 @@ fn unpack(p: Packed) -> Handle
 
 // The handle in a cell; null where there is no such cell.
 pub fn get(cells: &[u8], cell: usize) -> Handle
-    ensures { result ≡ cellHandle cells.now cell }
+    ensures { result ≡ cell_handle cells.now cell }
 {
     if cell >= cells.len() / CELL_BYTES {
         return Handle::Null;

@@ -1,6 +1,6 @@
 // Handles, and the handle of a value of the record.
 ghost use Rattle.std.specs.Prelude.{◌≡◌};
-ghost use Rattle.heap.specs.Contract.{span, parts, recordHandle, rowHandle};
+ghost use Rattle.heap.specs.Contract.{span, parts, record_handle, row_handle};
 
 use table::node::{Node, node_at};
 
@@ -64,7 +64,7 @@ pub fn compound(form: Form, first: usize, count: usize) -> Handle
 
 // The handle of a value of the record.
 pub fn of_node(n: Node) -> Handle
-    ensures { result ≡ recordHandle n }
+    ensures { result ≡ record_handle n }
 {
     match n {
         Node::Null => Handle::Null,
@@ -79,7 +79,7 @@ pub fn of_node(n: Node) -> Handle
 
 // The value in a row of the record; null where its table has no such row.
 pub fn load(record_table: &[u8], row: usize) -> Handle
-    ensures { result ≡ rowHandle record_table.now row }
+    ensures { result ≡ row_handle record_table.now row }
 {
     of_node(node_at(record_table, row))
 }

@@ -1,7 +1,7 @@
 // The parts of an array or object: the first, its name, and the others.
 ghost use Rattle.std.specs.Prelude.{◌≡◌, ◌-◌};
-ghost use Rattle.heap.specs.Contract.{head_of, tailOf, label_of};
-ghost use Rattle.heap.specs.Parts.{nextCell, next_of, contextLabel};
+ghost use Rattle.heap.specs.Contract.{head_of, tail_of, label_of};
+ghost use Rattle.heap.specs.Parts.{next_cell, next_of, context_label};
 
 use crate::cell::{CELL_BYTES, get};
 use crate::handle::{Form, Handle, Parts, load};
@@ -32,7 +32,7 @@ pub fn head(record_table: &[u8], cells: &[u8], p: Parts) -> Handle
 
 // The cell after a cell; the cell itself where there is no such cell.
 fn next_cell(cells: &[u8], cell: usize) -> usize
-    ensures { result ≡ nextCell cells.now cell }
+    ensures { result ≡ next_cell cells.now cell }
 {
     if cell >= cells.len() / CELL_BYTES {
         return cell;
@@ -65,7 +65,7 @@ fn less(n: usize) -> usize
 
 // The parts after the first.
 pub fn tail(record_table: &[u8], cells: &[u8], p: Parts) -> Parts
-    ensures { result ≡ tailOf record_table.now cells.now p }
+    ensures { result ≡ tail_of record_table.now cells.now p }
 {
     let form = p.form;
     Parts {
@@ -77,7 +77,7 @@ pub fn tail(record_table: &[u8], cells: &[u8], p: Parts) -> Parts
 
 // A context has `current` first and `accumulator` last.
 fn context_label(count: usize) -> Label
-    ensures { result ≡ contextLabel count }
+    ensures { result ≡ context_label count }
 {
     if count == 1 {
         return Label::Accumulator;

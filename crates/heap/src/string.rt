@@ -1,13 +1,13 @@
 // The bytes of a string, where they lie.
 ghost use Rattle.std.specs.Prelude.{◌≡◌};
-ghost use Rattle.heap.specs.Contract.{spanBytes};
+ghost use Rattle.heap.specs.Contract.{span_bytes};
 
 use crate::handle::{Area, Span};
 use table::string::part_of;
 
 // 01, Evaluation: a string is a part of the rule's strings or of the record's, never a copy.
 pub fn bytes<'a>(rule_strings: &'a [u8], record_strings: &'a [u8], s: Span) -> &'a [u8]
-    ensures { result.now ≡ spanBytes rule_strings.now record_strings.now s }
+    ensures { result.now ≡ span_bytes rule_strings.now record_strings.now s }
 {
     let area = s.area;
     match area {

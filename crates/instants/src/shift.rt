@@ -1,9 +1,9 @@
 // Shifts: an instant moved by an amount of years, months, days or hours.
 ghost use Rattle.std.specs.Prelude.{◌≡◌, ◌<◌, ◌≤◌, pos, ◌+ℤ◌, ◌*ℤ◌};
-ghost use Rattle.model.specs.Instant.{msPerDay, msPerHour, ranged, fromYear0};
-ghost use Rattle.model.specs.Shift.{movedByMonths};
-ghost use Rattle.calendar.specs.Contract.{instantResult, shifted};
-ghost use Rattle.instants.specs.Inner.{amountOf, latestSinceYear0, rangeMonths, monthOf, inMonth};
+ghost use Rattle.model.specs.Instant.{ms_per_day, ms_per_hour, ranged, from_year0};
+ghost use Rattle.model.specs.Shift.{moved_by_months};
+ghost use Rattle.calendar.specs.Contract.{instant_result, shifted};
+ghost use Rattle.instants.specs.Inner.{amount_of, latest_since_year0, range_months, month_of, in_month};
 
 use calendar::instant::{Instant, InstantAnswer};
 use days::day::{MS_PER_DAY, MonthAnswer, date_at, month_start};
@@ -24,7 +24,7 @@ enum Move {
 }
 
 fn move_of(amount: i64) -> Move
-    ensures { amountOf result ≡ amount }
+    ensures { amount_of result ≡ amount }
 {
     if amount < 0 {
         let n = -1 - amount;
@@ -35,8 +35,8 @@ fn move_of(amount: i64) -> Move
 
 // The instant `since` milliseconds from 0000-01-01, moved by so many times `unit` milliseconds.
 fn shift_time(since: u64, amount: i64, unit: u64) -> InstantAnswer
-    requires { (since ≤ latestSinceYear0) × (msPerHour ≤ unit) × (unit ≤ msPerDay) }
-    ensures { instantResult result ≡ ranged (fromYear0 since +ℤ amount *ℤ pos unit) }
+    requires { (since ≤ latest_since_year0) × (ms_per_hour ≤ unit) × (unit ≤ ms_per_day) }
+    ensures { instant_result result ≡ ranged (from_year0 since +ℤ amount *ℤ pos unit) }
 {
     match move_of(amount) {
         Move::On(n) => {
@@ -59,8 +59,8 @@ fn shift_time(since: u64, amount: i64, unit: u64) -> InstantAnswer
 
 // The month so many times `unit` months from a month, both counted from 0000-01; RANGE_MONTHS for any that is not in the range.
 fn shift_month(month: u64, amount: i64, unit: u64) -> u64
-    requires { (month < rangeMonths) × (1 ≤ unit) × (unit ≤ 12) }
-    ensures { result ≡ monthOf (pos month +ℤ amount *ℤ pos unit) }
+    requires { (month < range_months) × (1 ≤ unit) × (unit ≤ 12) }
+    ensures { result ≡ month_of (pos month +ℤ amount *ℤ pos unit) }
 {
     match move_of(amount) {
         Move::On(n) => {
@@ -87,8 +87,8 @@ fn shift_month(month: u64, amount: i64, unit: u64) -> u64
 
 // The instant `days` days and `time` milliseconds after the start of a month; days past the month's end run on.
 fn in_month(month: u64, days: u64, time: u64) -> InstantAnswer
-    requires { (days ≤ 30) × (time < msPerDay) }
-    ensures { instantResult result ≡ inMonth month days time }
+    requires { (days ≤ 30) × (time < ms_per_day) }
+    ensures { instant_result result ≡ in_month month days time }
 {
     let MonthAnswer::Begins(first) = month_start(month) else {
         return InstantAnswer::OutOfRange;
@@ -98,8 +98,8 @@ fn in_month(month: u64, days: u64, time: u64) -> InstantAnswer
 
 // Moved by so many times `unit` months: the day of the month and the time of day stay.
 fn shift_months(since: u64, amount: i64, unit: u64) -> InstantAnswer
-    requires { (since ≤ latestSinceYear0) × (1 ≤ unit) × (unit ≤ 12) }
-    ensures { instantResult result ≡ movedByMonths since (amount *ℤ pos unit) }
+    requires { (since ≤ latest_since_year0) × (1 ≤ unit) × (unit ≤ 12) }
+    ensures { instant_result result ≡ moved_by_months since (amount *ℤ pos unit) }
 {
     let date = date_at(since);
     let month = date.year * 12 + (date.month - 1);
@@ -112,7 +112,7 @@ fn shift_months(since: u64, amount: i64, unit: u64) -> InstantAnswer
 
 // An instant, shifted; 9 where it or the shifted one is outside the range.
 pub fn shift(t: Instant, amount: i64, unit: TimeUnit) -> InstantAnswer
-    ensures { instantResult result ≡ shifted t.ms amount unit }
+    ensures { instant_result result ≡ shifted t.ms amount unit }
 {
     let InstantAnswer::At(own) = Instant::new(t.milliseconds()) else {
         return InstantAnswer::OutOfRange;

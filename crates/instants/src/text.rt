@@ -1,7 +1,7 @@
 // An instant's text, as 2020-03-02T00:00:00.000Z.
 ghost use Rattle.std.specs.Prelude.{◌≡◌};
-ghost use Rattle.model.specs.Bytes.{digitByte};
-ghost use Rattle.model.specs.InstantText.{instantText};
+ghost use Rattle.model.specs.Bytes.{digit_byte};
+ghost use Rattle.model.specs.InstantText.{instant_text};
 ghost use Rattle.instants.specs.Inner.{text_of};
 
 use calendar::instant::Instant;
@@ -16,7 +16,7 @@ pub struct InstantText {
 
 // The last decimal digit of a number.
 pub fn digit(n: u64) -> u8
-    ensures { result ≡ digitByte n }
+    ensures { result ≡ digit_byte n }
 {
     b'0' + (n % 10) as u8
 }
@@ -64,7 +64,7 @@ fn text_of(date: Date, time: u64) -> InstantText
 impl InstantText {
     // The text of an instant. (Of a year past 9999, which no instant in range has, the last four digits.)
     pub fn new(t: Instant) -> InstantText
-        ensures { result.bytes ≡ instantText t.ms }
+        ensures { result.bytes ≡ instant_text t.ms }
     {
         let since = t.since_year_0();
         text_of(date_at(since), since % MS_PER_DAY)

@@ -5,46 +5,46 @@ use mathlib.Core.Path.{◌≡◌, refl, sym, ap, ◌∙◌}
 use Prim.Native.Nat.{ℕ}
 use lib.ListN.{length, replicate}
 use Rattle.model.specs.Bytes.{Bytes}
-use Rattle.model.specs.Judgement.{Judged, done, refuses, judgedNumber, ruleIn, sheetIn, answer_of}
+use Rattle.model.specs.Judgement.{Judged, done, refuses, judged_number, rule_in, sheet_in, answer_of}
 use Rattle.model.specs.Sheet.{fits}
-use Rattle.model.specs.Types.{typeBits}
+use Rattle.model.specs.Types.{type_bits}
 use Rattle.model.specs.Value.{Value}
-use Rattle.syntax.specs.Output.{writtenSize, writtenOutput}
+use Rattle.syntax.specs.Output.{written_size, written_output}
 use Rattle.eval.specs.declared.Answer as evaluating
 use Rattle.eval.specs.Evaluate.{Ready, Evaluates}
 use Rattle.name_index.specs.Table.{IndexedTable}
 use Rattle.sheet.specs.Contract.{Fits}
-use Rattle.table.specs.Laws.Standing.{was-read-denotes}
+use Rattle.table.specs.Laws.Standing.{was_read_denotes}
 use Rattle.pipeline.specs.declared.check.Checked.{Checked}
 use Rattle.pipeline.specs.declared.text.Stop as pipeline
-use Rattle.pipeline.specs.Areas.{TextAreas, textAreas, holding, leftBy, tidied, HoldsIndexed, HoldsMarked}
-use Rattle.pipeline.specs.Contract.{stopOf, leftAfter, words_of}
-use Rattle.pipeline.specs.Laws.Stages.{number-some, Passed, Stopped, CheckHeld, check-held, TextHeld, text-held, record-held, left-holding, held-sheet}
+use Rattle.pipeline.specs.Areas.{TextAreas, text_areas, holding, left_by, tidied, HoldsIndexed, HoldsMarked}
+use Rattle.pipeline.specs.Contract.{stop_of, left_after, words_of}
+use Rattle.pipeline.specs.Laws.Stages.{number_some, Passed, Stopped, CheckHeld, check_held, TextHeld, text_held, record_held, left_holding, held_sheet}
 use Rattle.pipeline.specs.Laws.LongAreas.{ReadsLong, ChecksLong}
-use Rattle.pipeline.specs.Stage.{Stage, passed, refused, ruleText, sheetText, recordText, readAs}
-use Rattle.pipeline.specs.Texts.{TextsChecked, checkStage, CheckedTextsRead, evaluateCheckedStage}
+use Rattle.pipeline.specs.Stage.{Stage, passed, refused, rule_text, sheet_text, record_text, read_as}
+use Rattle.pipeline.specs.Texts.{TextsChecked, check_stage, CheckedTextsRead, evaluate_checked_stage}
 use Rattle.jehvrukam.specs.declared.evaluate_checked.CheckedOutcome.{CheckedOutcome}
-use Rattle.jehvrukam.specs.Contract.{checkedAreasOf, checkedNumbersOf}
-use Rattle.jehvrukam.specs.Entry.{Entry, WorkAreas, workAreas}
-use Rattle.jehvrukam.specs.EvaluateChecked.{CheckedAreas, CheckedNumbers, checkedZeros, checkedAnswered, evaluateCheckedAnswer}
-use Rattle.jehvrukam.specs.Fits.{yesOrNo}
-use Rattle.jehvrukam.specs.Inner.{Judges, Runs, checkedTidied, checkedTold, checkedUnrun, checkedRun, AfterCheck, beforeCheck}
-use Rattle.jehvrukam.proofs.Settling.{AsLong, same-long, long-text, long-work}
-use Rattle.jehvrukam.proofs.Stopping.{passes-stage, stops}
-use Rattle.jehvrukam.proofs.Running.{Texts, ready, refusal_is, steps-are, size_is, output-is, cells_are}
+use Rattle.jehvrukam.specs.Contract.{checked_areas_of, checked_numbers_of}
+use Rattle.jehvrukam.specs.Entry.{Entry, WorkAreas, work_areas}
+use Rattle.jehvrukam.specs.EvaluateChecked.{CheckedAreas, CheckedNumbers, checked_zeros, checked_answered, evaluate_checked_answer}
+use Rattle.jehvrukam.specs.Fits.{yes_or_no}
+use Rattle.jehvrukam.specs.Inner.{Judges, Runs, checked_tidied, checked_told, checked_unrun, checked_run, AfterCheck, before_check}
+use Rattle.jehvrukam.proofs.Settling.{AsLong, same_long, long_text, long_work}
+use Rattle.jehvrukam.proofs.Stopping.{passes_stage, stops}
+use Rattle.jehvrukam.proofs.Running.{Texts, ready, refusal_is, steps_are, size_is, output_is, cells_are}
 
 abbrev parts : TextAreas → TextAreas → TextAreas → WorkAreas → CheckedAreas
 parts t s r c = record { rule = t; sheet = s; «record» = r; work = c }
 
 -- What the check left, from its contract.
-abbrev pub after_check : {rule sheet T A S Z T' A' S' Z' : Bytes} {c : Checked} → ChecksLong rule sheet (textAreas T A) (textAreas S Z) c (textAreas T' A') (textAreas S' Z') → AsLong T A T' A' → AsLong S Z S' Z' → AfterCheck c (textAreas T' A') (textAreas S' Z')
+abbrev pub after_check : {rule sheet T A S Z T' A' S' Z' : Bytes} {c : Checked} → ChecksLong rule sheet (text_areas T A) (text_areas S Z) c (text_areas T' A') (text_areas S' Z') → AsLong T A T' A' → AsLong S Z S' Z' → AfterCheck c (text_areas T' A') (text_areas S' Z')
 after_check {rule} {sheet} {T} {A} {S} {Z} h l m =
-    record { rule = rule; sheet = sheet; rule-before = textAreas T A; sheet-before = textAreas S Z; checks = h; rule-sizes = long-text l; sheet-sizes = long-text m }
+    record { rule = rule; sheet = sheet; rule_before = text_areas T A; sheet_before = text_areas S Z; checks = h; rule_sizes = long_text l; sheet_sizes = long_text m }
 
-all_read : (rule sheet d : Bytes) (t : TextsChecked) (v : Value) → checkStage rule sheet ≡ passed t → readAs recordText d ≡ passed v → evaluateCheckedStage rule sheet d ≡ passed (record { checked = t; «record» = v })
+all_read : (rule sheet d : Bytes) (t : TextsChecked) (v : Value) → check_stage rule sheet ≡ passed t → read_as record_text d ≡ passed v → evaluate_checked_stage rule sheet d ≡ passed (record { checked = t; «record» = v })
 all_read rule sheet d t v e f = rw (e, f)
 
-module _ (d : Bytes) (limit : ℕ) (T A S Z R B C O : Bytes) {c : Checked} (k : AfterCheck c (textAreas T A) (textAreas S Z)) where
+module _ (d : Bytes) (limit : ℕ) (T A S Z R B C O : Bytes) {c : Checked} (k : AfterCheck c (text_areas T A) (text_areas S Z)) where
   abbrev rule : Bytes
   rule = k.rule
 
@@ -52,103 +52,103 @@ module _ (d : Bytes) (limit : ℕ) (T A S Z R B C O : Bytes) {c : Checked} (k : 
   sheet = k.sheet
 
   abbrev lent : CheckedAreas
-  lent = beforeCheck (checkedAreasOf T A S Z R B C O) k
+  lent = before_check (checked_areas_of T A S Z R B C O) k
 
   abbrev Whole : Entry CheckedNumbers CheckedAreas
-  Whole = evaluateCheckedAnswer lent limit (evaluateCheckedStage rule sheet d)
+  Whole = evaluate_checked_answer lent limit (evaluate_checked_stage rule sheet d)
 
-  as_long : {R' B' C' O' : Bytes} → AsLong R B R' B' → AsLong C O C' O' → checkedZeros (checkedAreasOf T A S Z R' B' C' O') ≡ checkedZeros lent
-  as_long l m = λ i. parts (k.rule-sizes i) (k.sheet-sizes i) (long-text l i) (long-work m i)
+  as_long : {R' B' C' O' : Bytes} → AsLong R B R' B' → AsLong C O C' O' → checked_zeros (checked_areas_of T A S Z R' B' C' O') ≡ checked_zeros lent
+  as_long l m = λ i. parts (k.rule_sizes i) (k.sheet_sizes i) (long_text l i) (long_work m i)
 
-  stopping : {X : Type 0} (x : Stage X) (y : Stage CheckedTextsRead) {q : pipeline.Stop} {a' : CheckedAreas} → ((p : Stopped x) → y ≡ refused p.refusal p.which p.place) → q ≡ stopOf x → (q.refusal ≡ 0 → ⊥) → checkedZeros a' ≡ checkedZeros lent
-      → Judges checkedTidied checkedZeros (evaluateCheckedAnswer lent limit y) lent q.refusal (checkedNumbersOf q.which q.place 0 0 0 0) a'
-  stopping = stops checkedTidied checkedZeros (evaluateCheckedAnswer lent limit) lent (λ w p. checkedNumbersOf w p 0 0 0 0) (λ e w p. refl) (λ e w p. refl)
+  stopping : {X : Type 0} (x : Stage X) (y : Stage CheckedTextsRead) {q : pipeline.Stop} {a' : CheckedAreas} → ((p : Stopped x) → y ≡ refused p.refusal p.which p.place) → q ≡ stop_of x → (q.refusal ≡ 0 → ⊥) → checked_zeros a' ≡ checked_zeros lent
+      → Judges checked_tidied checked_zeros (evaluate_checked_answer lent limit y) lent q.refusal (checked_numbers_of q.which q.place 0 0 0 0) a'
+  stopping = stops checked_tidied checked_zeros (evaluate_checked_answer lent limit) lent (λ w p. checked_numbers_of w p 0 0 0 0) (λ e w p. refl) (λ e w p. refl)
 
-  pub check-stops : {o : CheckedOutcome} → (c.stop.refusal ≡ 0 → ⊥) → o ≡ checkedUnrun c.stop → Judges checkedTidied checkedZeros Whole lent o.refusal (checkedTold o) (checkedAreasOf T A S Z R B C O)
-  check-stops n e = rw e (stopping (checkStage rule sheet) (evaluateCheckedStage rule sheet d) (λ p. rw p.is) k.checks.stop n (as_long (same-long R B) (same-long C O)))
+  pub check_stops : {o : CheckedOutcome} → (c.stop.refusal ≡ 0 → ⊥) → o ≡ checked_unrun c.stop → Judges checked_tidied checked_zeros Whole lent o.refusal (checked_told o) (checked_areas_of T A S Z R B C O)
+  check_stops n e = rw e (stopping (check_stage rule sheet) (evaluate_checked_stage rule sheet d) (λ p. rw p.is) k.checks.stop n (as_long (same_long R B) (same_long C O)))
 
-  module _ (zero : c.stop.refusal ≡ 0) {R' B' : Bytes} {q : pipeline.Stop} (g : ReadsLong HoldsIndexed (readAs recordText d) d (textAreas R B) q (textAreas R' B')) (l : AsLong R B R' B') where
-    pub check-passes : Passed (checkStage rule sheet)
-    check-passes = passes-stage (checkStage rule sheet) k.checks.stop zero
+  module _ (zero : c.stop.refusal ≡ 0) {R' B' : Bytes} {q : pipeline.Stop} (g : ReadsLong HoldsIndexed (read_as record_text d) d (text_areas R B) q (text_areas R' B')) (l : AsLong R B R' B') where
+    pub check_passes : Passed (check_stage rule sheet)
+    check_passes = passes_stage (check_stage rule sheet) k.checks.stop zero
 
-    pub record-stops : {o : CheckedOutcome} → (q.refusal ≡ 0 → ⊥) → o ≡ checkedUnrun q → Judges checkedTidied checkedZeros Whole lent o.refusal (checkedTold o) (checkedAreasOf T A S Z R' B' C O)
-    record-stops n e = rw e (stopping (readAs recordText d) (evaluateCheckedStage rule sheet d) (λ p. rw (check-passes.is, p.is)) g.stop n (as_long l (same-long C O)))
+    pub record_stops : {o : CheckedOutcome} → (q.refusal ≡ 0 → ⊥) → o ≡ checked_unrun q → Judges checked_tidied checked_zeros Whole lent o.refusal (checked_told o) (checked_areas_of T A S Z R' B' C O)
+    record_stops n e = rw e (stopping (read_as record_text d) (evaluate_checked_stage rule sheet d) (λ p. rw (check_passes.is, p.is)) g.stop n (as_long l (same_long C O)))
 
     module _ (zero₂ : q.refusal ≡ 0) where
-      pub record-passes : Passed (readAs recordText d)
-      record-passes = passes-stage (readAs recordText d) g.stop zero₂
+      pub record_passes : Passed (read_as record_text d)
+      record_passes = passes_stage (read_as record_text d) g.stop zero₂
 
       abbrev checked : TextsChecked
-      checked = check-passes.result
+      checked = check_passes.result
 
       abbrev value : Value
-      value = record-passes.result
+      value = record_passes.result
 
       held : CheckHeld rule sheet checked
-      held = check-held rule sheet checked check-passes.is
+      held = check_held rule sheet checked check_passes.is
 
-      rule-text-held : TextHeld ruleIn rule checked.rule
-      rule-text-held = text-held ruleText ruleIn rule checked.rule held.rule-passes
+      rule_text_held : TextHeld rule_in rule checked.rule
+      rule_text_held = text_held rule_text rule_in rule checked.rule held.rule_passes
 
-      sheet-text-held : TextHeld sheetIn sheet checked.sheet
-      sheet-text-held = text-held sheetText sheetIn sheet checked.sheet held.sheet-passes
+      sheet_text_held : TextHeld sheet_in sheet checked.sheet
+      sheet_text_held = text_held sheet_text sheet_in sheet checked.sheet held.sheet_passes
 
-      rule-held : HoldsMarked checked.rule.value (textAreas T A)
-      rule-held = k.checks.rule-holds checked check-passes.is
+      rule_held : HoldsMarked checked.rule.value (text_areas T A)
+      rule_held = k.checks.rule_holds checked check_passes.is
 
-      sheet-held : HoldsIndexed checked.sheet.value (textAreas S Z)
-      sheet-held = k.checks.sheet-holds checked check-passes.is
+      sheet_held : HoldsIndexed checked.sheet.value (text_areas S Z)
+      sheet_held = k.checks.sheet_holds checked check_passes.is
 
-      read-record-held : HoldsIndexed value (textAreas R' B')
-      read-record-held = g.holds value record-passes.is
+      read_record_held : HoldsIndexed value (text_areas R' B')
+      read_record_held = g.holds value record_passes.is
 
-      pub can-fit : IndexedTable R' B'
-      can-fit = read-record-held.indexed
+      pub can_fit : IndexedTable R' B'
+      can_fit = read_record_held.indexed
 
-      sheet-left : tidied (textAreas S Z) ≡ leftBy sheet k.sheet-before
-      sheet-left =
-          sym (ap (λ y. leftAfter y (textAreas S Z) (tidied (textAreas S Z))) held.rule-passes)
-          ∙ k.checks.sheet-areas
-          ∙ ap (λ y. leftAfter y k.sheet-before (leftBy sheet k.sheet-before)) held.rule-passes
+      sheet_left : tidied (text_areas S Z) ≡ left_by sheet k.sheet_before
+      sheet_left =
+          sym (ap (λ y. left_after y (text_areas S Z) (tidied (text_areas S Z))) held.rule_passes)
+          ∙ k.checks.sheet_areas
+          ∙ ap (λ y. left_after y k.sheet_before (left_by sheet k.sheet_before)) held.rule_passes
 
       pub texts : Texts rule checked.rule value T A R' B'
-      texts = record { rule = rule-text-held; rule-held = rule-held; record-held = read-record-held }
+      texts = record { rule = rule_text_held; rule_held = rule_held; record_held = read_record_held }
 
-      pub run-ready : Runs limit C → Ready T A R' B' C limit
-      run-ready u = ready texts u
+      pub run_ready : Runs limit C → Ready T A R' B' C limit
+      run_ready u = ready texts u
 
       fit_is : {f : Bool} → Fits S Z R' B' f → f ≡ fits checked.sheet.content value
       fit_is w =
           w.is checked.sheet.content value
-          (held-sheet sheet-text-held sheet-held.was_read)
-          (was-read-denotes read-record-held.was_read)
+          (held_sheet sheet_text_held sheet_held.was_read)
+          (was_read_denotes read_record_held.was_read)
 
-      words_are : c.words ≡ typeBits checked.types
-      words_are = k.checks.words ∙ ap words_of check-passes.is
+      words_are : c.words ≡ type_bits checked.types
+      words_are = k.checks.words ∙ ap words_of check_passes.is
 
       -- By what evaluation comes to.
-      abbrev all-texts : CheckedTextsRead
-      all-texts = record { checked = checked; «record» = value }
+      abbrev all_texts : CheckedTextsRead
+      all_texts = record { checked = checked; «record» = value }
 
-      refusals : (j : Judged Bytes) (n : ℕ) → judgedNumber j ≡ (checkedAnswered lent all-texts j n).refusal
+      refusals : (j : Judged Bytes) (n : ℕ) → judged_number j ≡ (checked_answered lent all_texts j n).refusal
       refusals (done x) n = refl
       refusals (refuses e) n = refl
 
-      numbers : (j : Judged Bytes) (n : ℕ) → checkedNumbersOf 0 0 (typeBits checked.types) (yesOrNo (fits checked.sheet.content value)) n (writtenSize j) ≡ (checkedAnswered lent all-texts j n).numbers
+      numbers : (j : Judged Bytes) (n : ℕ) → checked_numbers_of 0 0 (type_bits checked.types) (yes_or_no (fits checked.sheet.content value)) n (written_size j) ≡ (checked_answered lent all_texts j n).numbers
       numbers (done x) n = refl
       numbers (refuses e) n = refl
 
-      areas : (j : Judged Bytes) (n : ℕ) → judgedNumber j ≡ 0
-          → parts (holding checked.rule.value k.rule-before) (holding checked.sheet.value k.sheet-before) (holding value (textAreas R B)) (workAreas (replicate (length C) 0) (writtenOutput j (length O))) ≡ (checkedAnswered lent all-texts j n).areas
+      areas : (j : Judged Bytes) (n : ℕ) → judged_number j ≡ 0
+          → parts (holding checked.rule.value k.rule_before) (holding checked.sheet.value k.sheet_before) (holding value (text_areas R B)) (work_areas (replicate (length C) 0) (written_output j (length O))) ≡ (checked_answered lent all_texts j n).areas
       areas (done x) n e = refl
-      areas (refuses e) n f = absurd (number-some e f)
+      areas (refuses e) n f = absurd (number_some e f)
 
       module _ (u : Runs limit C) {f : Bool} (w : Fits S Z R' B' f) {C' O' : Bytes} {e : evaluating.Answer} (v : Evaluates T A R' B' C limit O e C' O') where
-        pub judged : {o : CheckedOutcome} → o ≡ checkedRun c.words f e → AsLong C O C' O' → Judges checkedTidied checkedZeros Whole lent o.refusal (checkedTold o) (checkedAreasOf T A S Z R' B' C' O')
+        pub judged : {o : CheckedOutcome} → o ≡ checked_run c.words f e → AsLong C O C' O' → Judges checked_tidied checked_zeros Whole lent o.refusal (checked_told o) (checked_areas_of T A S Z R' B' C' O')
         judged is long = rw is (record {
-          refusal = refusal_is texts u v ∙ refusals result begun ∙ sym (ap (λ (y : Stage CheckedTextsRead). (evaluateCheckedAnswer lent limit y).refusal) stage_is);
-          numbers = (λ i. checkedNumbersOf 0 0 (words_are i) (yesOrNo (fit_is w i)) (steps-are texts u v i) (size_is texts u v i)) ∙ numbers result begun ∙ sym (ap (λ (y : Stage CheckedTextsRead). (evaluateCheckedAnswer lent limit y).numbers) stage_is);
-          areas = λ z. areas-left ∙ areas result begun (sym (refusal_is texts u v) ∙ z) ∙ sym (ap (λ (y : Stage CheckedTextsRead). (evaluateCheckedAnswer lent limit y).areas) stage_is);
+          refusal = refusal_is texts u v ∙ refusals result begun ∙ sym (ap (λ (y : Stage CheckedTextsRead). (evaluate_checked_answer lent limit y).refusal) stage_is);
+          numbers = (λ i. checked_numbers_of 0 0 (words_are i) (yes_or_no (fit_is w i)) (steps_are texts u v i) (size_is texts u v i)) ∙ numbers result begun ∙ sym (ap (λ (y : Stage CheckedTextsRead). (evaluate_checked_answer lent limit y).numbers) stage_is);
+          areas = λ z. areas_left ∙ areas result begun (sym (refusal_is texts u v) ∙ z) ∙ sym (ap (λ (y : Stage CheckedTextsRead). (evaluate_checked_answer lent limit y).areas) stage_is);
           sizes = as_long l long;
         })
           where
@@ -156,14 +156,14 @@ module _ (d : Bytes) (limit : ℕ) (T A S Z R B C O : Bytes) {c : Checked} (k : 
             result = (answer_of checked.rule.content value limit (length O)).result
 
             begun : ℕ
-            begun = (answer_of checked.rule.content value limit (length O)).stepsBegun
+            begun = (answer_of checked.rule.content value limit (length O)).steps_begun
 
-            stage_is : evaluateCheckedStage rule sheet d ≡ passed (record { checked = checked; «record» = value })
-            stage_is = all_read rule sheet d checked value check-passes.is record-passes.is
+            stage_is : evaluate_checked_stage rule sheet d ≡ passed (record { checked = checked; «record» = value })
+            stage_is = all_read rule sheet d checked value check_passes.is record_passes.is
 
-            areas-left : checkedTidied (checkedAreasOf T A S Z R' B' C' O') ≡ parts (holding checked.rule.value k.rule-before) (holding checked.sheet.value k.sheet-before) (holding value (textAreas R B)) (workAreas (replicate (length C) 0) (writtenOutput (answer_of checked.rule.content value limit (length O)).result (length O)))
-            areas-left = λ i. parts
-                ((k.checks.rule-areas ∙ left-holding rule checked.rule.value k.rule-before rule-text-held.reads) i)
-                ((sheet-left ∙ left-holding sheet checked.sheet.value k.sheet-before sheet-text-held.reads) i)
-                ((g.areas ∙ left-holding d value (textAreas R B) (record-held d value record-passes.is)) i)
-                (workAreas (cells_are texts u v i) (output-is texts u v i))
+            areas_left : checked_tidied (checked_areas_of T A S Z R' B' C' O') ≡ parts (holding checked.rule.value k.rule_before) (holding checked.sheet.value k.sheet_before) (holding value (text_areas R B)) (work_areas (replicate (length C) 0) (written_output (answer_of checked.rule.content value limit (length O)).result (length O)))
+            areas_left = λ i. parts
+                ((k.checks.rule_areas ∙ left_holding rule checked.rule.value k.rule_before rule_text_held.reads) i)
+                ((sheet_left ∙ left_holding sheet checked.sheet.value k.sheet_before sheet_text_held.reads) i)
+                ((g.areas ∙ left_holding d value (text_areas R B) (record_held d value record_passes.is)) i)
+                (work_areas (cells_are texts u v i) (output_is texts u v i))

@@ -6,24 +6,24 @@ use lib.Dec.{eqb}
 use lib.ListN.{length}
 use Rattle.model.specs.Bytes.{Bytes}
 use Rattle.model.specs.Judgement.{Judged, done, refuses, answer_of}
-use Rattle.syntax.specs.Entry.{tooShort}
-use Rattle.pipeline.specs.Areas.{TextAreas, textAreas, zeroed, tidied}
+use Rattle.syntax.specs.Entry.{too_short}
+use Rattle.pipeline.specs.Areas.{TextAreas, text_areas, zeroed, tidied}
 use Rattle.pipeline.specs.Laws.LongAreas.{Long}
 use Rattle.pipeline.specs.Stage.{Stage, passed, refused}
-use Rattle.pipeline.specs.Texts.{TextsRead, evaluateStage, CheckedTextsRead, evaluateCheckedStage}
+use Rattle.pipeline.specs.Texts.{TextsRead, evaluate_stage, CheckedTextsRead, evaluate_checked_stage}
 use Rattle.jehvrukam.specs.declared.evaluate_checked.CheckedOutcome.{CheckedOutcome}
-use Rattle.jehvrukam.specs.Contract.{entry, areasOf, checkedAreasOf, checkedNumbersOf}
-use Rattle.jehvrukam.specs.Entry.{WorkAreas, workAreas, cannotRun, zeroedWork}
-use Rattle.jehvrukam.specs.Evaluate.{Areas, Numbers, isInvalid, zeros, answered, evaluateAnswer, evaluateEntry}
-use Rattle.jehvrukam.specs.EvaluateChecked.{CheckedAreas, CheckedNumbers, isCheckedInvalid, checkedZeros, checkedAnswered, evaluateCheckedAnswer, evaluateCheckedEntry}
-use Rattle.jehvrukam.specs.Fits.{yesOrNo}
-use Rattle.jehvrukam.specs.Inner.{settledBy, SettledText, SettledWork, areasTidied, checkedTidied, Judges, Runs, checkedTold}
-use Rattle.jehvrukam.proofs.Settling.{finish, first-true, second-true, both_false}
+use Rattle.jehvrukam.specs.Contract.{entry, areas_of, checked_areas_of, checked_numbers_of}
+use Rattle.jehvrukam.specs.Entry.{WorkAreas, work_areas, cannot_run, zeroed_work}
+use Rattle.jehvrukam.specs.Evaluate.{Areas, Numbers, is_invalid, zeros, answered, evaluate_answer, evaluate_entry}
+use Rattle.jehvrukam.specs.EvaluateChecked.{CheckedAreas, CheckedNumbers, is_checked_invalid, checked_zeros, checked_answered, evaluate_checked_answer, evaluate_checked_entry}
+use Rattle.jehvrukam.specs.Fits.{yes_or_no}
+use Rattle.jehvrukam.specs.Inner.{settled_by, SettledText, SettledWork, areas_tidied, checked_tidied, Judges, Runs, checked_told}
+use Rattle.jehvrukam.proofs.Settling.{finish, first_true, second_true, both_false}
 
 -- ---- `jehvrukam_evaluate`
-evaluate-zeros : (a : Areas) (limit : ℕ) (x : Stage TextsRead) → ((evaluateAnswer a limit x).refusal ≡ 0 → ⊥) → (evaluateAnswer a limit x).areas ≡ zeros a
-evaluate-zeros a limit (refused e w p) n = refl
-evaluate-zeros a limit (passed t) n = go (answer_of t.rule.content t.«record» limit (length a.work.output)).result _ n
+evaluate_zeros : (a : Areas) (limit : ℕ) (x : Stage TextsRead) → ((evaluate_answer a limit x).refusal ≡ 0 → ⊥) → (evaluate_answer a limit x).areas ≡ zeros a
+evaluate_zeros a limit (refused e w p) n = refl
+evaluate_zeros a limit (passed t) n = go (answer_of t.rule.content t.«record» limit (length a.work.output)).result _ n
   where
     go : (j : Judged Bytes) (k : ℕ) → ((answered a t j k).refusal ≡ 0 → ⊥) → (answered a t j k).areas ≡ zeros a
     go (done x) k m = absurd (m refl)
@@ -32,103 +32,103 @@ evaluate-zeros a limit (passed t) n = go (answer_of t.rule.content t.«record» 
 abbrev parts : TextAreas → TextAreas → WorkAreas → Areas
 parts t r c = record { rule = t; «record» = r; work = c }
 
-settled-areas : {k : ℕ} {T A R B C O T' A' R' B' C' O' : Bytes} → SettledText k T A T' A' → SettledText k R B R' B' → SettledWork k C O C' O' → areasOf T' A' R' B' C' O' ≡ settledBy areasTidied zeros k (areasOf T A R B C O)
-settled-areas {k} {T} {A} {R} {B} {C} {O} t r c = (λ i. parts (t.is i) (r.is i) (c.is i)) ∙ go (eqb k 0)
+settled_areas : {k : ℕ} {T A R B C O T' A' R' B' C' O' : Bytes} → SettledText k T A T' A' → SettledText k R B R' B' → SettledWork k C O C' O' → areas_of T' A' R' B' C' O' ≡ settled_by areas_tidied zeros k (areas_of T A R B C O)
+settled_areas {k} {T} {A} {R} {B} {C} {O} t r c = (λ i. parts (t.is i) (r.is i) (c.is i)) ∙ go (eqb k 0)
   where
-    go : (b : Bool) → parts (elim b [ true ↦ tidied (textAreas T A) | false ↦ zeroed (textAreas T A) ]) (elim b [ true ↦ tidied (textAreas R B) | false ↦ zeroed (textAreas R B) ]) (elim b [ true ↦ workAreas C O | false ↦ zeroedWork (workAreas C O) ])
-        ≡ elim b [ true ↦ areasTidied (areasOf T A R B C O) | false ↦ zeros (areasOf T A R B C O) ]
+    go : (b : Bool) → parts (elim b [ true ↦ tidied (text_areas T A) | false ↦ zeroed (text_areas T A) ]) (elim b [ true ↦ tidied (text_areas R B) | false ↦ zeroed (text_areas R B) ]) (elim b [ true ↦ work_areas C O | false ↦ zeroed_work (work_areas C O) ])
+        ≡ elim b [ true ↦ areas_tidied (areas_of T A R B C O) | false ↦ zeros (areas_of T A R B C O) ]
     go true = refl
     go false = refl
 
 module _ (s d : Bytes) (limit : ℕ) (T A R B C O : Bytes) (n : Numbers) where
   abbrev lent : Areas
-  lent = areasOf T A R B C O
+  lent = areas_of T A R B C O
 
-  invalid : isInvalid limit lent ≡ true → entry 1 n lent ≡ evaluateEntry s d limit lent n
-  invalid e = rw (e, evaluateEntry)
+  invalid : is_invalid limit lent ≡ true → entry 1 n lent ≡ evaluate_entry s d limit lent n
+  invalid e = rw (e, evaluate_entry)
 
-  pub cannot : cannotRun limit C ≡ true → entry 1 n lent ≡ evaluateEntry s d limit lent n
-  cannot e = invalid (first-true (cannotRun limit C) _ e)
+  pub cannot : cannot_run limit C ≡ true → entry 1 n lent ≡ evaluate_entry s d limit lent n
+  cannot e = invalid (first_true (cannot_run limit C) _ e)
 
-  module _ (runs : cannotRun limit C ≡ false) where
-    pub rule-short : tooShort T A ≡ true → entry 1 n lent ≡ evaluateEntry s d limit lent n
-    rule-short e = invalid (second-true (cannotRun limit C) _ runs (first-true (tooShort T A) _ e))
+  module _ (runs : cannot_run limit C ≡ false) where
+    pub rule_short : too_short T A ≡ true → entry 1 n lent ≡ evaluate_entry s d limit lent n
+    rule_short e = invalid (second_true (cannot_run limit C) _ runs (first_true (too_short T A) _ e))
 
-    module _ (rule-long : tooShort T A ≡ false) where
-      pub record-short : tooShort R B ≡ true → entry 1 n lent ≡ evaluateEntry s d limit lent n
-      record-short e = invalid (second-true (cannotRun limit C) _ runs (second-true (tooShort T A) _ rule-long e))
+    module _ (rule_long : too_short T A ≡ false) where
+      pub record_short : too_short R B ≡ true → entry 1 n lent ≡ evaluate_entry s d limit lent n
+      record_short e = invalid (second_true (cannot_run limit C) _ runs (second_true (too_short T A) _ rule_long e))
 
-      module _ (record-long : tooShort R B ≡ false) where
-        pub sized : Long (textAreas T A) × Long (textAreas R B) × Runs limit C
-        sized = (record { long = rule-long }, record { long = record-long }, record { runs = runs })
+      module _ (record-long : too_short R B ≡ false) where
+        pub sized : Long (text_areas T A) × Long (text_areas R B) × Runs limit C
+        sized = (record { long = rule_long }, record { long = record-long }, record { runs = runs })
 
         pub evaluated : {k : ℕ} {m : Numbers} {T₁ A₁ R₁ B₁ C₁ O₁ T₂ A₂ R₂ B₂ C₂ O₂ : Bytes}
-            → Judges areasTidied zeros (evaluateAnswer lent limit (evaluateStage s d)) lent k m (areasOf T₁ A₁ R₁ B₁ C₁ O₁)
+            → Judges areas_tidied zeros (evaluate_answer lent limit (evaluate_stage s d)) lent k m (areas_of T₁ A₁ R₁ B₁ C₁ O₁)
             → SettledText k T₁ A₁ T₂ A₂
             → SettledText k R₁ B₁ R₂ B₂
             → SettledWork k C₁ O₁ C₂ O₂
-            → entry k m (areasOf T₂ A₂ R₂ B₂ C₂ O₂) ≡ evaluateEntry s d limit lent n
-        evaluated j t r c = finish areasTidied zeros (evaluateAnswer lent limit (evaluateStage s d)) lent (evaluate-zeros lent limit (evaluateStage s d)) j (settled-areas t r c) ∙ sym valid
+            → entry k m (areas_of T₂ A₂ R₂ B₂ C₂ O₂) ≡ evaluate_entry s d limit lent n
+        evaluated j t r c = finish areas_tidied zeros (evaluate_answer lent limit (evaluate_stage s d)) lent (evaluate_zeros lent limit (evaluate_stage s d)) j (settled_areas t r c) ∙ sym valid
           where
-            valid : evaluateEntry s d limit lent n ≡ evaluateAnswer lent limit (evaluateStage s d)
-            valid = rw (both_false (cannotRun limit C) _ runs (both_false (tooShort T A) _ rule-long record-long), evaluateEntry)
+            valid : evaluate_entry s d limit lent n ≡ evaluate_answer lent limit (evaluate_stage s d)
+            valid = rw (both_false (cannot_run limit C) _ runs (both_false (too_short T A) _ rule_long record-long), evaluate_entry)
 
 -- ---- `jehvrukam_evaluate_checked`
-evaluate-checked-zeros : (a : CheckedAreas) (limit : ℕ) (x : Stage CheckedTextsRead) → ((evaluateCheckedAnswer a limit x).refusal ≡ 0 → ⊥) → (evaluateCheckedAnswer a limit x).areas ≡ checkedZeros a
-evaluate-checked-zeros a limit (refused e w p) n = refl
-evaluate-checked-zeros a limit (passed t) n = go (answer_of t.checked.rule.content t.«record» limit (length a.work.output)).result _ n
+evaluate_checked_zeros : (a : CheckedAreas) (limit : ℕ) (x : Stage CheckedTextsRead) → ((evaluate_checked_answer a limit x).refusal ≡ 0 → ⊥) → (evaluate_checked_answer a limit x).areas ≡ checked_zeros a
+evaluate_checked_zeros a limit (refused e w p) n = refl
+evaluate_checked_zeros a limit (passed t) n = go (answer_of t.checked.rule.content t.«record» limit (length a.work.output)).result _ n
   where
-    go : (j : Judged Bytes) (k : ℕ) → ((checkedAnswered a t j k).refusal ≡ 0 → ⊥) → (checkedAnswered a t j k).areas ≡ checkedZeros a
+    go : (j : Judged Bytes) (k : ℕ) → ((checked_answered a t j k).refusal ≡ 0 → ⊥) → (checked_answered a t j k).areas ≡ checked_zeros a
     go (done x) k m = absurd (m refl)
     go (refuses e) k m = refl
 
-abbrev checkedParts : TextAreas → TextAreas → TextAreas → WorkAreas → CheckedAreas
-checkedParts t s r c = record { rule = t; sheet = s; «record» = r; work = c }
+abbrev checked_parts : TextAreas → TextAreas → TextAreas → WorkAreas → CheckedAreas
+checked_parts t s r c = record { rule = t; sheet = s; «record» = r; work = c }
 
-checked-settled-areas : {k : ℕ} {T A S Z R B C O T' A' S' Z' R' B' C' O' : Bytes} → SettledText k T A T' A' → SettledText k S Z S' Z' → SettledText k R B R' B' → SettledWork k C O C' O'
-    → checkedAreasOf T' A' S' Z' R' B' C' O' ≡ settledBy checkedTidied checkedZeros k (checkedAreasOf T A S Z R B C O)
-checked-settled-areas {k} {T} {A} {S} {Z} {R} {B} {C} {O} t s r c = (λ i. checkedParts (t.is i) (s.is i) (r.is i) (c.is i)) ∙ go (eqb k 0)
+checked_settled_areas : {k : ℕ} {T A S Z R B C O T' A' S' Z' R' B' C' O' : Bytes} → SettledText k T A T' A' → SettledText k S Z S' Z' → SettledText k R B R' B' → SettledWork k C O C' O'
+    → checked_areas_of T' A' S' Z' R' B' C' O' ≡ settled_by checked_tidied checked_zeros k (checked_areas_of T A S Z R B C O)
+checked_settled_areas {k} {T} {A} {S} {Z} {R} {B} {C} {O} t s r c = (λ i. checked_parts (t.is i) (s.is i) (r.is i) (c.is i)) ∙ go (eqb k 0)
   where
-    go : (b : Bool) → checkedParts (elim b [ true ↦ tidied (textAreas T A) | false ↦ zeroed (textAreas T A) ]) (elim b [ true ↦ tidied (textAreas S Z) | false ↦ zeroed (textAreas S Z) ]) (elim b [ true ↦ tidied (textAreas R B) | false ↦ zeroed (textAreas R B) ]) (elim b [ true ↦ workAreas C O | false ↦ zeroedWork (workAreas C O) ])
-        ≡ elim b [ true ↦ checkedTidied (checkedAreasOf T A S Z R B C O) | false ↦ checkedZeros (checkedAreasOf T A S Z R B C O) ]
+    go : (b : Bool) → checked_parts (elim b [ true ↦ tidied (text_areas T A) | false ↦ zeroed (text_areas T A) ]) (elim b [ true ↦ tidied (text_areas S Z) | false ↦ zeroed (text_areas S Z) ]) (elim b [ true ↦ tidied (text_areas R B) | false ↦ zeroed (text_areas R B) ]) (elim b [ true ↦ work_areas C O | false ↦ zeroed_work (work_areas C O) ])
+        ≡ elim b [ true ↦ checked_tidied (checked_areas_of T A S Z R B C O) | false ↦ checked_zeros (checked_areas_of T A S Z R B C O) ]
     go true = refl
     go false = refl
 
 module _ (rule sheet d : Bytes) (limit : ℕ) (T A S Z R B C O : Bytes) (n : CheckedNumbers) where
-  abbrev checked-lent : CheckedAreas
-  checked-lent = checkedAreasOf T A S Z R B C O
+  abbrev checked_lent : CheckedAreas
+  checked_lent = checked_areas_of T A S Z R B C O
 
-  checked-invalid : isCheckedInvalid limit checked-lent ≡ true → entry 1 n checked-lent ≡ evaluateCheckedEntry rule sheet d limit checked-lent n
-  checked-invalid e = rw (e, evaluateCheckedEntry)
+  checked_invalid : is_checked_invalid limit checked_lent ≡ true → entry 1 n checked_lent ≡ evaluate_checked_entry rule sheet d limit checked_lent n
+  checked_invalid e = rw (e, evaluate_checked_entry)
 
-  pub checked-cannot : cannotRun limit C ≡ true → entry 1 n checked-lent ≡ evaluateCheckedEntry rule sheet d limit checked-lent n
-  checked-cannot e = checked-invalid (first-true (cannotRun limit C) _ e)
+  pub checked_cannot : cannot_run limit C ≡ true → entry 1 n checked_lent ≡ evaluate_checked_entry rule sheet d limit checked_lent n
+  checked_cannot e = checked_invalid (first_true (cannot_run limit C) _ e)
 
-  module _ (runs : cannotRun limit C ≡ false) where
-    pub checked-rule-short : tooShort T A ≡ true → entry 1 n checked-lent ≡ evaluateCheckedEntry rule sheet d limit checked-lent n
-    checked-rule-short e = checked-invalid (second-true (cannotRun limit C) _ runs (first-true (tooShort T A) _ e))
+  module _ (runs : cannot_run limit C ≡ false) where
+    pub checked_rule_short : too_short T A ≡ true → entry 1 n checked_lent ≡ evaluate_checked_entry rule sheet d limit checked_lent n
+    checked_rule_short e = checked_invalid (second_true (cannot_run limit C) _ runs (first_true (too_short T A) _ e))
 
-    module _ (rule-long : tooShort T A ≡ false) where
-      pub checked-sheet-short : tooShort S Z ≡ true → entry 1 n checked-lent ≡ evaluateCheckedEntry rule sheet d limit checked-lent n
-      checked-sheet-short e = checked-invalid (second-true (cannotRun limit C) _ runs (second-true (tooShort T A) _ rule-long (first-true (tooShort S Z) _ e)))
+    module _ (rule_long : too_short T A ≡ false) where
+      pub checked_sheet_short : too_short S Z ≡ true → entry 1 n checked_lent ≡ evaluate_checked_entry rule sheet d limit checked_lent n
+      checked_sheet_short e = checked_invalid (second_true (cannot_run limit C) _ runs (second_true (too_short T A) _ rule_long (first_true (too_short S Z) _ e)))
 
-      module _ (sheet-long : tooShort S Z ≡ false) where
-        pub checked-record-short : tooShort R B ≡ true → entry 1 n checked-lent ≡ evaluateCheckedEntry rule sheet d limit checked-lent n
-        checked-record-short e = checked-invalid (second-true (cannotRun limit C) _ runs (second-true (tooShort T A) _ rule-long (second-true (tooShort S Z) _ sheet-long e)))
+      module _ (sheet_long : too_short S Z ≡ false) where
+        pub checked_record_short : too_short R B ≡ true → entry 1 n checked_lent ≡ evaluate_checked_entry rule sheet d limit checked_lent n
+        checked_record_short e = checked_invalid (second_true (cannot_run limit C) _ runs (second_true (too_short T A) _ rule_long (second_true (too_short S Z) _ sheet_long e)))
 
-        module _ (record-long : tooShort R B ≡ false) where
-          pub evaluated-checked : {k : ℕ} (o : CheckedOutcome) {fit : ℕ} {T₁ A₁ S₁ Z₁ R₁ B₁ C₁ O₁ T₂ A₂ S₂ Z₂ R₂ B₂ C₂ O₂ : Bytes}
-              → Judges checkedTidied checkedZeros (evaluateCheckedAnswer checked-lent limit (evaluateCheckedStage rule sheet d)) checked-lent k (checkedTold o) (checkedAreasOf T₁ A₁ S₁ Z₁ R₁ B₁ C₁ O₁)
+        module _ (record-long : too_short R B ≡ false) where
+          pub evaluated_checked : {k : ℕ} (o : CheckedOutcome) {fit : ℕ} {T₁ A₁ S₁ Z₁ R₁ B₁ C₁ O₁ T₂ A₂ S₂ Z₂ R₂ B₂ C₂ O₂ : Bytes}
+              → Judges checked_tidied checked_zeros (evaluate_checked_answer checked_lent limit (evaluate_checked_stage rule sheet d)) checked_lent k (checked_told o) (checked_areas_of T₁ A₁ S₁ Z₁ R₁ B₁ C₁ O₁)
               → SettledText k T₁ A₁ T₂ A₂
               → SettledText k S₁ Z₁ S₂ Z₂
               → SettledText k R₁ B₁ R₂ B₂
               → SettledWork k C₁ O₁ C₂ O₂
-              → fit ≡ yesOrNo o.fits
-              → entry k (checkedNumbersOf o.which o.place o.words fit o.steps o.size) (checkedAreasOf T₂ A₂ S₂ Z₂ R₂ B₂ C₂ O₂) ≡ evaluateCheckedEntry rule sheet d limit checked-lent n
-          evaluated-checked {k} o {fit} {T₂ = T₂} {A₂ = A₂} {S₂ = S₂} {Z₂ = Z₂} {R₂ = R₂} {B₂ = B₂} {C₂ = C₂} {O₂ = O₂} j t s r c e =
-              ap (λ f. entry k (checkedNumbersOf o.which o.place o.words f o.steps o.size) (checkedAreasOf T₂ A₂ S₂ Z₂ R₂ B₂ C₂ O₂)) e
-              ∙ finish checkedTidied checkedZeros (evaluateCheckedAnswer checked-lent limit (evaluateCheckedStage rule sheet d)) checked-lent (evaluate-checked-zeros checked-lent limit (evaluateCheckedStage rule sheet d)) j (checked-settled-areas t s r c)
+              → fit ≡ yes_or_no o.fits
+              → entry k (checked_numbers_of o.which o.place o.words fit o.steps o.size) (checked_areas_of T₂ A₂ S₂ Z₂ R₂ B₂ C₂ O₂) ≡ evaluate_checked_entry rule sheet d limit checked_lent n
+          evaluated_checked {k} o {fit} {T₂ = T₂} {A₂ = A₂} {S₂ = S₂} {Z₂ = Z₂} {R₂ = R₂} {B₂ = B₂} {C₂ = C₂} {O₂ = O₂} j t s r c e =
+              ap (λ f. entry k (checked_numbers_of o.which o.place o.words f o.steps o.size) (checked_areas_of T₂ A₂ S₂ Z₂ R₂ B₂ C₂ O₂)) e
+              ∙ finish checked_tidied checked_zeros (evaluate_checked_answer checked_lent limit (evaluate_checked_stage rule sheet d)) checked_lent (evaluate_checked_zeros checked_lent limit (evaluate_checked_stage rule sheet d)) j (checked_settled_areas t s r c)
               ∙ sym valid
             where
-              valid : evaluateCheckedEntry rule sheet d limit checked-lent n ≡ evaluateCheckedAnswer checked-lent limit (evaluateCheckedStage rule sheet d)
-              valid = rw (both_false (cannotRun limit C) _ runs (both_false (tooShort T A) _ rule-long (both_false (tooShort S Z) _ sheet-long record-long)), evaluateCheckedEntry)
+              valid : evaluate_checked_entry rule sheet d limit checked_lent n ≡ evaluate_checked_answer checked_lent limit (evaluate_checked_stage rule sheet d)
+              valid = rw (both_false (cannot_run limit C) _ runs (both_false (too_short T A) _ rule_long (both_false (too_short S Z) _ sheet_long record-long)), evaluate_checked_entry)

@@ -3,111 +3,111 @@ use mathlib.Core.Path.{◌≡◌, refl, sym, ap, ◌∙◌}
 use Prim.Native.Nat.{ℕ}
 use lib.ListN.{length, replicate}
 use Rattle.model.specs.Bytes.{Bytes}
-use Rattle.model.specs.Judgement.{Judged, done, refuses, judgedNumber, ruleIn, answer_of}
+use Rattle.model.specs.Judgement.{Judged, done, refuses, judged_number, rule_in, answer_of}
 use Rattle.model.specs.Rule.{Rule}
 use Rattle.model.specs.Value.{Value}
-use Rattle.syntax.specs.Output.{writtenSize, writtenOutput}
+use Rattle.syntax.specs.Output.{written_size, written_output}
 use Rattle.eval.specs.declared.Answer as evaluating
 use Rattle.eval.specs.Evaluate.{Ready, Evaluates}
 use Rattle.pipeline.specs.declared.text.Stop as pipeline
-use Rattle.pipeline.specs.Areas.{textAreas, holding, HoldsIndexed}
-use Rattle.pipeline.specs.Contract.{stopOf}
-use Rattle.pipeline.specs.Laws.Stages.{number-some, Passed, Stopped, TextHeld, text-held, record-held, left-holding}
+use Rattle.pipeline.specs.Areas.{text_areas, holding, HoldsIndexed}
+use Rattle.pipeline.specs.Contract.{stop_of}
+use Rattle.pipeline.specs.Laws.Stages.{number_some, Passed, Stopped, TextHeld, text_held, record_held, left_holding}
 use Rattle.pipeline.specs.Laws.LongAreas.{ReadsLong, RuleHeld}
-use Rattle.pipeline.specs.Stage.{Stage, passed, refused, ruleText, recordText, readAs}
-use Rattle.pipeline.specs.Texts.{TextRead, ruleStage, TextsRead, evaluateStage}
+use Rattle.pipeline.specs.Stage.{Stage, passed, refused, rule_text, record_text, read_as}
+use Rattle.pipeline.specs.Texts.{TextRead, rule_stage, TextsRead, evaluate_stage}
 use Rattle.jehvrukam.specs.declared.evaluate.Outcome.{Outcome}
-use Rattle.jehvrukam.specs.Contract.{areasOf, numbersOf}
-use Rattle.jehvrukam.specs.Entry.{workAreas}
-use Rattle.jehvrukam.specs.Evaluate.{Areas, Evaluated, zeros, answered, evaluateAnswer}
-use Rattle.jehvrukam.specs.Inner.{Judges, Runs, areasTidied, told, unrun}
-use Rattle.jehvrukam.proofs.Settling.{AsLong, same-long, long-text, long-work}
-use Rattle.jehvrukam.proofs.Stopping.{passes-stage, stops}
-use Rattle.jehvrukam.proofs.Running.{Texts, ready, refusal_is, steps-are, size_is, output-is, cells_are}
+use Rattle.jehvrukam.specs.Contract.{areas_of, numbers_of}
+use Rattle.jehvrukam.specs.Entry.{work_areas}
+use Rattle.jehvrukam.specs.Evaluate.{Areas, Evaluated, zeros, answered, evaluate_answer}
+use Rattle.jehvrukam.specs.Inner.{Judges, Runs, areas_tidied, told, unrun}
+use Rattle.jehvrukam.proofs.Settling.{AsLong, same_long, long_text, long_work}
+use Rattle.jehvrukam.proofs.Stopping.{passes_stage, stops}
+use Rattle.jehvrukam.proofs.Running.{Texts, ready, refusal_is, steps_are, size_is, output_is, cells_are}
 
 -- ---- `jehvrukam_evaluate`
-as_long : {T A R B C O T' A' R' B' C' O' : Bytes} → AsLong T A T' A' → AsLong R B R' B' → AsLong C O C' O' → zeros (areasOf T' A' R' B' C' O') ≡ zeros (areasOf T A R B C O)
-as_long t r c = λ i. record { rule = long-text t i; «record» = long-text r i; work = long-work c i }
+as_long : {T A R B C O T' A' R' B' C' O' : Bytes} → AsLong T A T' A' → AsLong R B R' B' → AsLong C O C' O' → zeros (areas_of T' A' R' B' C' O') ≡ zeros (areas_of T A R B C O)
+as_long t r c = λ i. record { rule = long_text t i; «record» = long_text r i; work = long_work c i }
 
-both_read : (s d : Bytes) (x : TextRead Rule) (v : Value) → ruleStage s ≡ passed x → readAs recordText d ≡ passed v → evaluateStage s d ≡ passed (record { rule = x; «record» = v })
+both_read : (s d : Bytes) (x : TextRead Rule) (v : Value) → rule_stage s ≡ passed x → read_as record_text d ≡ passed v → evaluate_stage s d ≡ passed (record { rule = x; «record» = v })
 both_read s d x v e f = rw (e, f)
 
-module _ (s d : Bytes) (limit : ℕ) (T A R B C O : Bytes) {T' A' : Bytes} {r : pipeline.Stop} (h : ReadsLong RuleHeld (ruleStage s) s (textAreas T A) r (textAreas T' A')) where
+module _ (s d : Bytes) (limit : ℕ) (T A R B C O : Bytes) {T' A' : Bytes} {r : pipeline.Stop} (h : ReadsLong RuleHeld (rule_stage s) s (text_areas T A) r (text_areas T' A')) where
   abbrev lent : Areas
-  lent = areasOf T A R B C O
+  lent = areas_of T A R B C O
 
   abbrev Whole : Evaluated
-  Whole = evaluateAnswer lent limit (evaluateStage s d)
+  Whole = evaluate_answer lent limit (evaluate_stage s d)
 
-  stopping : {X : Type 0} (x : Stage X) (y : Stage TextsRead) {q : pipeline.Stop} {a' : Areas} → ((p : Stopped x) → y ≡ refused p.refusal p.which p.place) → q ≡ stopOf x → (q.refusal ≡ 0 → ⊥) → zeros a' ≡ zeros lent
-      → Judges areasTidied zeros (evaluateAnswer lent limit y) lent q.refusal (numbersOf q.which q.place 0 0) a'
-  stopping = stops areasTidied zeros (evaluateAnswer lent limit) lent (λ w p. numbersOf w p 0 0) (λ e w p. refl) (λ e w p. refl)
+  stopping : {X : Type 0} (x : Stage X) (y : Stage TextsRead) {q : pipeline.Stop} {a' : Areas} → ((p : Stopped x) → y ≡ refused p.refusal p.which p.place) → q ≡ stop_of x → (q.refusal ≡ 0 → ⊥) → zeros a' ≡ zeros lent
+      → Judges areas_tidied zeros (evaluate_answer lent limit y) lent q.refusal (numbers_of q.which q.place 0 0) a'
+  stopping = stops areas_tidied zeros (evaluate_answer lent limit) lent (λ w p. numbers_of w p 0 0) (λ e w p. refl) (λ e w p. refl)
 
-  pub rule-stops : {o : Outcome} → (r.refusal ≡ 0 → ⊥) → o ≡ unrun r → AsLong T A T' A' → Judges areasTidied zeros Whole lent o.refusal (told o) (areasOf T' A' R B C O)
-  rule-stops n e l = rw e (stopping (ruleStage s) (evaluateStage s d) (λ p. rw p.is) h.stop n (as_long l (same-long R B) (same-long C O)))
+  pub rule_stops : {o : Outcome} → (r.refusal ≡ 0 → ⊥) → o ≡ unrun r → AsLong T A T' A' → Judges areas_tidied zeros Whole lent o.refusal (told o) (areas_of T' A' R B C O)
+  rule_stops n e l = rw e (stopping (rule_stage s) (evaluate_stage s d) (λ p. rw p.is) h.stop n (as_long l (same_long R B) (same_long C O)))
 
-  module _ (zero : r.refusal ≡ 0) {R' B' : Bytes} {q : pipeline.Stop} (g : ReadsLong HoldsIndexed (readAs recordText d) d (textAreas R B) q (textAreas R' B')) (l : AsLong T A T' A') (m : AsLong R B R' B') where
-    pub rule-passes : Passed (ruleStage s)
-    rule-passes = passes-stage (ruleStage s) h.stop zero
+  module _ (zero : r.refusal ≡ 0) {R' B' : Bytes} {q : pipeline.Stop} (g : ReadsLong HoldsIndexed (read_as record_text d) d (text_areas R B) q (text_areas R' B')) (l : AsLong T A T' A') (m : AsLong R B R' B') where
+    pub rule_passes : Passed (rule_stage s)
+    rule_passes = passes_stage (rule_stage s) h.stop zero
 
-    pub record-stops : {o : Outcome} → (q.refusal ≡ 0 → ⊥) → o ≡ unrun q → Judges areasTidied zeros Whole lent o.refusal (told o) (areasOf T' A' R' B' C O)
-    record-stops n e = rw e (stopping (readAs recordText d) (evaluateStage s d) (λ p. rw (rule-passes.is, p.is)) g.stop n (as_long l m (same-long C O)))
+    pub record_stops : {o : Outcome} → (q.refusal ≡ 0 → ⊥) → o ≡ unrun q → Judges areas_tidied zeros Whole lent o.refusal (told o) (areas_of T' A' R' B' C O)
+    record_stops n e = rw e (stopping (read_as record_text d) (evaluate_stage s d) (λ p. rw (rule_passes.is, p.is)) g.stop n (as_long l m (same_long C O)))
 
     module _ (zero₂ : q.refusal ≡ 0) where
-      pub record-passes : Passed (readAs recordText d)
-      record-passes = passes-stage (readAs recordText d) g.stop zero₂
+      pub record_passes : Passed (read_as record_text d)
+      record_passes = passes_stage (read_as record_text d) g.stop zero₂
 
-      rule-text-held : TextHeld ruleIn s rule-passes.result
-      rule-text-held = text-held ruleText ruleIn s rule-passes.result rule-passes.is
+      rule_text_held : TextHeld rule_in s rule_passes.result
+      rule_text_held = text_held rule_text rule_in s rule_passes.result rule_passes.is
 
-      pub texts : Texts s rule-passes.result record-passes.result T' A' R' B'
+      pub texts : Texts s rule_passes.result record_passes.result T' A' R' B'
       texts = record {
-        rule = rule-text-held;
-        rule-held = h.holds rule-passes.result rule-passes.is;
-        record-held = g.holds record-passes.result record-passes.is;
+        rule = rule_text_held;
+        rule_held = h.holds rule_passes.result rule_passes.is;
+        record_held = g.holds record_passes.result record_passes.is;
       }
 
-      pub run-ready : Runs limit C → Ready T' A' R' B' C limit
-      run-ready u = ready texts u
+      pub run_ready : Runs limit C → Ready T' A' R' B' C limit
+      run_ready u = ready texts u
 
       -- By what evaluation comes to.
-      refusals : (j : Judged Bytes) (n : ℕ) (t : TextsRead) → judgedNumber j ≡ (answered lent t j n).refusal
+      refusals : (j : Judged Bytes) (n : ℕ) (t : TextsRead) → judged_number j ≡ (answered lent t j n).refusal
       refusals (done x) n t = refl
       refusals (refuses e) n t = refl
 
-      numbers : (j : Judged Bytes) (n : ℕ) (t : TextsRead) → numbersOf 0 0 n (writtenSize j) ≡ (answered lent t j n).numbers
+      numbers : (j : Judged Bytes) (n : ℕ) (t : TextsRead) → numbers_of 0 0 n (written_size j) ≡ (answered lent t j n).numbers
       numbers (done x) n t = refl
       numbers (refuses e) n t = refl
 
-      areas : (j : Judged Bytes) (n : ℕ) (t : TextsRead) → judgedNumber j ≡ 0
-          → record { rule = holding t.rule.value (textAreas T A); «record» = holding t.«record» (textAreas R B); work = workAreas (replicate (length C) 0) (writtenOutput j (length O)) } ≡ (answered lent t j n).areas
+      areas : (j : Judged Bytes) (n : ℕ) (t : TextsRead) → judged_number j ≡ 0
+          → record { rule = holding t.rule.value (text_areas T A); «record» = holding t.«record» (text_areas R B); work = work_areas (replicate (length C) 0) (written_output j (length O)) } ≡ (answered lent t j n).areas
       areas (done x) n t e = refl
-      areas (refuses k) n t e = absurd (number-some k e)
+      areas (refuses k) n t e = absurd (number_some k e)
 
       module _ (u : Runs limit C) {C' O' : Bytes} {e : evaluating.Answer} (v : Evaluates T' A' R' B' C limit O e C' O') where
-        pub judged : AsLong C O C' O' → Judges areasTidied zeros Whole lent e.refusal (numbersOf 0 0 e.steps e.size) (areasOf T' A' R' B' C' O')
+        pub judged : AsLong C O C' O' → Judges areas_tidied zeros Whole lent e.refusal (numbers_of 0 0 e.steps e.size) (areas_of T' A' R' B' C' O')
         judged k = record {
-          refusal = refusal_is texts u v ∙ refusals result begun read-texts ∙ sym (ap (λ (y : Stage TextsRead). (evaluateAnswer lent limit y).refusal) stage_is);
-          numbers = (λ i. numbersOf 0 0 (steps-are texts u v i) (size_is texts u v i)) ∙ numbers result begun read-texts ∙ sym (ap (λ (y : Stage TextsRead). (evaluateAnswer lent limit y).numbers) stage_is);
-          areas = λ f. areas-left ∙ areas result begun read-texts (sym (refusal_is texts u v) ∙ f) ∙ sym (ap (λ (y : Stage TextsRead). (evaluateAnswer lent limit y).areas) stage_is);
+          refusal = refusal_is texts u v ∙ refusals result begun read_texts ∙ sym (ap (λ (y : Stage TextsRead). (evaluate_answer lent limit y).refusal) stage_is);
+          numbers = (λ i. numbers_of 0 0 (steps_are texts u v i) (size_is texts u v i)) ∙ numbers result begun read_texts ∙ sym (ap (λ (y : Stage TextsRead). (evaluate_answer lent limit y).numbers) stage_is);
+          areas = λ f. areas_left ∙ areas result begun read_texts (sym (refusal_is texts u v) ∙ f) ∙ sym (ap (λ (y : Stage TextsRead). (evaluate_answer lent limit y).areas) stage_is);
           sizes = as_long l m k;
         }
           where
             result : Judged Bytes
-            result = (answer_of rule-passes.result.content record-passes.result limit (length O)).result
+            result = (answer_of rule_passes.result.content record_passes.result limit (length O)).result
 
             begun : ℕ
-            begun = (answer_of rule-passes.result.content record-passes.result limit (length O)).stepsBegun
+            begun = (answer_of rule_passes.result.content record_passes.result limit (length O)).steps_begun
 
-            read-texts : TextsRead
-            read-texts = record { rule = rule-passes.result; «record» = record-passes.result }
+            read_texts : TextsRead
+            read_texts = record { rule = rule_passes.result; «record» = record_passes.result }
 
-            stage_is : evaluateStage s d ≡ passed (record { rule = rule-passes.result; «record» = record-passes.result })
-            stage_is = both_read s d rule-passes.result record-passes.result rule-passes.is record-passes.is
+            stage_is : evaluate_stage s d ≡ passed (record { rule = rule_passes.result; «record» = record_passes.result })
+            stage_is = both_read s d rule_passes.result record_passes.result rule_passes.is record_passes.is
 
-            areas-left : areasTidied (areasOf T' A' R' B' C' O') ≡ record { rule = holding rule-passes.result.value (textAreas T A); «record» = holding record-passes.result (textAreas R B); work = workAreas (replicate (length C) 0) (writtenOutput (answer_of rule-passes.result.content record-passes.result limit (length O)).result (length O)) }
-            areas-left = λ i. record {
-              rule = (h.areas ∙ left-holding s rule-passes.result.value (textAreas T A) rule-text-held.reads) i;
-              «record» = (g.areas ∙ left-holding d record-passes.result (textAreas R B) (record-held d record-passes.result record-passes.is)) i;
-              work = workAreas (cells_are texts u v i) (output-is texts u v i);
+            areas_left : areas_tidied (areas_of T' A' R' B' C' O') ≡ record { rule = holding rule_passes.result.value (text_areas T A); «record» = holding record_passes.result (text_areas R B); work = work_areas (replicate (length C) 0) (written_output (answer_of rule_passes.result.content record_passes.result limit (length O)).result (length O)) }
+            areas_left = λ i. record {
+              rule = (h.areas ∙ left_holding s rule_passes.result.value (text_areas T A) rule_text_held.reads) i;
+              «record» = (g.areas ∙ left_holding d record_passes.result (text_areas R B) (record_held d record_passes.result record_passes.is)) i;
+              work = work_areas (cells_are texts u v i) (output_is texts u v i);
             }

@@ -1,8 +1,8 @@
 -- The entry's equation from what the reader promises.
 use mathlib.Core.Path.{◌≡◌}
 use Prim.Native.Nat.{ℕ}
-use Rattle.json.specs.Contract.{AllRead}
-use Rattle.json.specs.declared.Answer.{Answer}
+use Rattle.json_reader.specs.Contract.{AllRead}
+use Rattle.json_reader.specs.declared.Answer.{Answer}
 use Rattle.model.specs.Bytes.{Bytes}
 use Rattle.syntax.specs.Entry.{read_entry}
 use Rattle.jehvrukam.specs.Contract.{answered}
@@ -12,9 +12,9 @@ alike a b c d = λ i. answered (a i) (b i) (c i) (d i)
 
 module _ {s T A : Bytes} {r : Answer} {T' A' : Bytes} (h : AllRead s T A r T' A') (p : ℕ) where
   -- Any refusal but 1, and success.
-  pub place-written : (r.refusal ≡ 1 → ⊥) → answered r.refusal r.place T' A' ≡ read_entry s T A p
-  place-written n = alike (h.refusal p) (h.place p n) (h.table p) (h.strings p)
+  pub place_written : (r.refusal ≡ 1 → ⊥) → answered r.refusal r.place T' A' ≡ read_entry s T A p
+  place_written n = alike (h.refusal p) (h.place p n) (h.table p) (h.strings p)
 
   -- "Refusal 1 touches nothing."
-  pub place-left : r.refusal ≡ 1 → answered r.refusal p T' A' ≡ read_entry s T A p
-  place-left n = alike (h.refusal p) (h.untouched p n) (h.table p) (h.strings p)
+  pub place_left : r.refusal ≡ 1 → answered r.refusal p T' A' ≡ read_entry s T A p
+  place_left n = alike (h.refusal p) (h.untouched p n) (h.table p) (h.strings p)

@@ -5,62 +5,62 @@ use Prim.Native.Nat.{ℕ, ◌*◌}
 use borrow.Author.Tests.{eqb-true, eqb-false, eq-eqb, ne_eqb}
 use lib.Dec.{eqb}
 use lib.ListN.{length}
-use Rattle.area.specs.Laws.{zeroFrom-all}
-use Rattle.area.specs.Words.{zeroFrom}
+use Rattle.area.specs.Laws.{zero_from_all}
+use Rattle.area.specs.Words.{zero_from}
 use Rattle.model.specs.Bytes.{Bytes}
 use Rattle.model.specs.Laws.Logic.{clash}
-use Rattle.model.specs.Limits.{maxValues}
-use Rattle.syntax.specs.Layout.{rowBytes}
-use Rattle.pipeline.specs.Areas.{textAreas, zeroed}
+use Rattle.model.specs.Limits.{max_values}
+use Rattle.syntax.specs.Layout.{row_bytes}
+use Rattle.pipeline.specs.Areas.{text_areas, zeroed}
 use Rattle.jehvrukam.specs.Contract.{entry}
-use Rattle.jehvrukam.specs.Entry.{Entry, workAreas, zeroedWork}
-use Rattle.jehvrukam.specs.Inner.{settledBy, SettledText, SettledWork, Judges}
+use Rattle.jehvrukam.specs.Entry.{Entry, work_areas, zeroed_work}
+use Rattle.jehvrukam.specs.Inner.{settled_by, SettledText, SettledWork, Judges}
 
 -- ---- the two areas of a text, and those of evaluation
-pub text-tidied : {k : ℕ} {T A T' : Bytes} → k ≡ 0 → T' ≡ zeroFrom (maxValues * rowBytes) T → SettledText k T A T' A
-text-tidied {k} {T} {A} z e = record { is = (λ i. textAreas (e i) A) ∙ rw (eq-eqb k 0 z, settledBy) }
+pub text_tidied : {k : ℕ} {T A T' : Bytes} → k ≡ 0 → T' ≡ zero_from (max_values * row_bytes) T → SettledText k T A T' A
+text_tidied {k} {T} {A} z e = record { is = (λ i. text_areas (e i) A) ∙ rw (eq-eqb k 0 z, settled_by) }
 
-pub text-cleared : {k : ℕ} {T A T' A' : Bytes} → (k ≡ 0 → ⊥) → T' ≡ zeroFrom 0 T → A' ≡ zeroFrom 0 A → SettledText k T A T' A'
-text-cleared {k} {T} {A} n e f = record { is = (λ i. textAreas ((e ∙ zeroFrom-all T) i) ((f ∙ zeroFrom-all A) i)) ∙ rw (ne_eqb k 0 n, settledBy) }
+pub text_cleared : {k : ℕ} {T A T' A' : Bytes} → (k ≡ 0 → ⊥) → T' ≡ zero_from 0 T → A' ≡ zero_from 0 A → SettledText k T A T' A'
+text_cleared {k} {T} {A} n e f = record { is = (λ i. text_areas ((e ∙ zero_from_all T) i) ((f ∙ zero_from_all A) i)) ∙ rw (ne_eqb k 0 n, settled_by) }
 
-pub work-kept : {k : ℕ} {C O : Bytes} → k ≡ 0 → SettledWork k C O C O
-work-kept {k} z = record { is = rw (eq-eqb k 0 z, settledBy) }
+pub work_kept : {k : ℕ} {C O : Bytes} → k ≡ 0 → SettledWork k C O C O
+work_kept {k} z = record { is = rw (eq-eqb k 0 z, settled_by) }
 
-pub work-cleared : {k : ℕ} {C O C' O' : Bytes} → (k ≡ 0 → ⊥) → C' ≡ zeroFrom 0 C → O' ≡ zeroFrom 0 O → SettledWork k C O C' O'
-work-cleared {k} {C} {O} n e f = record { is = (λ i. workAreas ((e ∙ zeroFrom-all C) i) ((f ∙ zeroFrom-all O) i)) ∙ rw (ne_eqb k 0 n, settledBy) }
+pub work_cleared : {k : ℕ} {C O C' O' : Bytes} → (k ≡ 0 → ⊥) → C' ≡ zero_from 0 C → O' ≡ zero_from 0 O → SettledWork k C O C' O'
+work_cleared {k} {C} {O} n e f = record { is = (λ i. work_areas ((e ∙ zero_from_all C) i) ((f ∙ zero_from_all O) i)) ∙ rw (ne_eqb k 0 n, settled_by) }
 
 -- Areas as long as others are the same once cleared.
 pub record AsLong (S Z S' Z' : Bytes) : Type 0 where
   pub first : length S' ≡ length S
   pub second : length Z' ≡ length Z
 
-pub same-long : (S Z : Bytes) → AsLong S Z S Z
-same-long S Z = record { first = refl; second = refl }
+pub same_long : (S Z : Bytes) → AsLong S Z S Z
+same_long S Z = record { first = refl; second = refl }
 
-pub long-text : {T A T' A' : Bytes} → AsLong T A T' A' → zeroed (textAreas T' A') ≡ zeroed (textAreas T A)
-long-text l = rw (l.first, l.second)
+pub long_text : {T A T' A' : Bytes} → AsLong T A T' A' → zeroed (text_areas T' A') ≡ zeroed (text_areas T A)
+long_text l = rw (l.first, l.second)
 
-pub long-work : {C O C' O' : Bytes} → AsLong C O C' O' → zeroedWork (workAreas C' O') ≡ zeroedWork (workAreas C O)
-long-work l = rw (l.first, l.second)
+pub long_work : {C O C' O' : Bytes} → AsLong C O C' O' → zeroed_work (work_areas C' O') ≡ zeroed_work (work_areas C O)
+long_work l = rw (l.first, l.second)
 
 -- ---- the whole answer
 module _ {N A : Type 0} (tidy clear : A → A) (whole : Entry N A) (a : A) (zero-areas : (whole.refusal ≡ 0 → ⊥) → whole.areas ≡ clear a) where
-  pub finish : {k : ℕ} {n : N} {a₁ a₂ : A} → Judges tidy clear whole a k n a₁ → a₂ ≡ settledBy tidy clear k a₁ → entry k n a₂ ≡ whole
-  finish {k} {n} {a₁} {a₂} j e = λ i. entry (j.refusal i) (j.numbers i) (areas-are i)
+  pub finish : {k : ℕ} {n : N} {a₁ a₂ : A} → Judges tidy clear whole a k n a₁ → a₂ ≡ settled_by tidy clear k a₁ → entry k n a₂ ≡ whole
+  finish {k} {n} {a₁} {a₂} j e = λ i. entry (j.refusal i) (j.numbers i) (areas_are i)
     where
       go : (b : Bool) → eqb k 0 ≡ b → elim b [ true ↦ tidy a₁ | false ↦ clear a₁ ] ≡ whole.areas
       go true f = j.areas (eqb-true k 0 f)
       go false f = j.sizes ∙ sym (zero-areas (λ g. eqb-false k 0 f (j.refusal ∙ g)))
 
-      areas-are : a₂ ≡ whole.areas
-      areas-are = e ∙ go (eqb k 0) refl
+      areas_are : a₂ ≡ whole.areas
+      areas_are = e ∙ go (eqb k 0) refl
 
 -- ---- refusal 1
-pub first-true : (a b : Bool) → a ≡ true → a || b ≡ true
-first-true a b e = rw e
+pub first_true : (a b : Bool) → a ≡ true → a || b ≡ true
+first_true a b e = rw e
 
-pub second-true : (a b : Bool) → a ≡ false → b ≡ true → a || b ≡ true
-second-true a b e f = rw (e, f)
+pub second_true : (a b : Bool) → a ≡ false → b ≡ true → a || b ≡ true
+second_true a b e f = rw (e, f)
 
 pub both_false : (a b : Bool) → a ≡ false → b ≡ false → a || b ≡ false
 both_false a b e f = rw (e, f)

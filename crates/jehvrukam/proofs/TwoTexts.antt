@@ -4,140 +4,140 @@ use mathlib.Core.Path.{◌≡◌, refl, sym, ap, ◌∙◌}
 use Prim.Native.Nat.{ℕ}
 use lib.Dec.{eqb}
 use Rattle.model.specs.Bytes.{Bytes}
-use Rattle.model.specs.Judgement.{ruleIn, sheetIn}
-use Rattle.syntax.specs.Entry.{tooShort}
+use Rattle.model.specs.Judgement.{rule_in, sheet_in}
+use Rattle.syntax.specs.Entry.{too_short}
 use Rattle.pipeline.specs.declared.check.Checked.{Checked}
 use Rattle.pipeline.specs.declared.fit.Fitted.{Fitted}
 use Rattle.pipeline.specs.declared.text.Stop as pipeline
-use Rattle.pipeline.specs.Areas.{TextAreas, textAreas, zeroed, holding, leftBy, tidied}
-use Rattle.pipeline.specs.Contract.{stopOf, leftAfter, words_of, ChecksTexts, fitOf, FitsTexts}
-use Rattle.pipeline.specs.Laws.Stages.{number-some, text-held, record-held, left-holding, check-held, fits-held}
-use Rattle.pipeline.specs.Laws.LongAreas.{ChecksLong, check-long, FitsLong, fit-long}
-use Rattle.pipeline.specs.Stage.{Stage, passed, refused, ruleText, sheetText}
-use Rattle.pipeline.specs.Texts.{TextsChecked, checkStage, TextsFitted, fitsStage}
-use Rattle.jehvrukam.specs.Check.{CheckAreas, CheckNumbers, isCheckInvalid, checkZeros, checkAnswer, checkEntry}
-use Rattle.jehvrukam.specs.Contract.{entry, checkAreasOf, checkNumbersOf, fitsAreasOf, fitsNumbersOf}
-use Rattle.jehvrukam.specs.Fits.{FitsAreas, FitsNumbers, yesOrNo, isFitsInvalid, fitsZeros, fitsAnswer, fitsEntry}
-use Rattle.jehvrukam.specs.Inner.{SettledText, checkTidied, fitsTidied, Judges}
-use Rattle.jehvrukam.proofs.Settling.{AsLong, long-text, finish, first-true, second-true, both_false}
+use Rattle.pipeline.specs.Areas.{TextAreas, text_areas, zeroed, holding, left_by, tidied}
+use Rattle.pipeline.specs.Contract.{stop_of, left_after, words_of, ChecksTexts, fit_of, FitsTexts}
+use Rattle.pipeline.specs.Laws.Stages.{number_some, text_held, record_held, left_holding, check_held, fits_held}
+use Rattle.pipeline.specs.Laws.LongAreas.{ChecksLong, check_long, FitsLong, fit_long}
+use Rattle.pipeline.specs.Stage.{Stage, passed, refused, rule_text, sheet_text}
+use Rattle.pipeline.specs.Texts.{TextsChecked, check_stage, TextsFitted, fits_stage}
+use Rattle.jehvrukam.specs.Check.{CheckAreas, CheckNumbers, is_check_invalid, check_zeros, check_answer, check_entry}
+use Rattle.jehvrukam.specs.Contract.{entry, check_areas_of, check_numbers_of, fits_areas_of, fits_numbers_of}
+use Rattle.jehvrukam.specs.Fits.{FitsAreas, FitsNumbers, yes_or_no, is_fits_invalid, fits_zeros, fits_answer, fits_entry}
+use Rattle.jehvrukam.specs.Inner.{SettledText, check_tidied, fits_tidied, Judges}
+use Rattle.jehvrukam.proofs.Settling.{AsLong, long_text, finish, first_true, second_true, both_false}
 
 -- ---- `jehvrukam_check`
-abbrev checkParts : TextAreas → TextAreas → CheckAreas
-checkParts t s = record { rule = t; sheet = s }
+abbrev check_parts : TextAreas → TextAreas → CheckAreas
+check_parts t s = record { rule = t; sheet = s }
 
 module _ (rule sheet : Bytes) (T A S Z : Bytes) (n : CheckNumbers) where
-  abbrev check-lent : CheckAreas
-  check-lent = checkAreasOf T A S Z
+  abbrev check_lent : CheckAreas
+  check_lent = check_areas_of T A S Z
 
-  check-invalid : isCheckInvalid check-lent ≡ true → entry 1 n check-lent ≡ checkEntry rule sheet check-lent n
-  check-invalid e = rw (e, checkEntry)
+  check_invalid : is_check_invalid check_lent ≡ true → entry 1 n check_lent ≡ check_entry rule sheet check_lent n
+  check_invalid e = rw (e, check_entry)
 
-  pub check-rule-short : tooShort T A ≡ true → entry 1 n check-lent ≡ checkEntry rule sheet check-lent n
-  check-rule-short e = check-invalid (first-true (tooShort T A) _ e)
+  pub check_rule_short : too_short T A ≡ true → entry 1 n check_lent ≡ check_entry rule sheet check_lent n
+  check_rule_short e = check_invalid (first_true (too_short T A) _ e)
 
-  module _ (rule-long : tooShort T A ≡ false) where
-    pub check-sheet-short : tooShort S Z ≡ true → entry 1 n check-lent ≡ checkEntry rule sheet check-lent n
-    check-sheet-short e = check-invalid (second-true (tooShort T A) _ rule-long e)
+  module _ (rule_long : too_short T A ≡ false) where
+    pub check_sheet_short : too_short S Z ≡ true → entry 1 n check_lent ≡ check_entry rule sheet check_lent n
+    check_sheet_short e = check_invalid (second_true (too_short T A) _ rule_long e)
 
-    module _ (sheet-long : tooShort S Z ≡ false) {c : Checked} {T₁ A₁ S₁ Z₁ : Bytes} (h : ChecksTexts rule sheet (textAreas T A) (textAreas S Z) c (textAreas T₁ A₁) (textAreas S₁ Z₁)) (l : AsLong T A T₁ A₁) (m : AsLong S Z S₁ Z₁) where
-      check-told : ChecksLong rule sheet (textAreas T A) (textAreas S Z) c (textAreas T₁ A₁) (textAreas S₁ Z₁)
-      check-told = check-long rule sheet (record { long = rule-long }) (record { long = sheet-long }) h
+    module _ (sheet_long : too_short S Z ≡ false) {c : Checked} {T₁ A₁ S₁ Z₁ : Bytes} (h : ChecksTexts rule sheet (text_areas T A) (text_areas S Z) c (text_areas T₁ A₁) (text_areas S₁ Z₁)) (l : AsLong T A T₁ A₁) (m : AsLong S Z S₁ Z₁) where
+      check_told : ChecksLong rule sheet (text_areas T A) (text_areas S Z) c (text_areas T₁ A₁) (text_areas S₁ Z₁)
+      check_told = check_long rule sheet (record { long = rule_long }) (record { long = sheet_long }) h
 
-      judges : (x : Stage TextsChecked) → checkStage rule sheet ≡ x → Judges checkTidied checkZeros (checkAnswer check-lent x) check-lent c.stop.refusal (checkNumbersOf c.stop.which c.stop.place c.words) (checkAreasOf T₁ A₁ S₁ Z₁)
+      judges : (x : Stage TextsChecked) → check_stage rule sheet ≡ x → Judges check_tidied check_zeros (check_answer check_lent x) check_lent c.stop.refusal (check_numbers_of c.stop.which c.stop.place c.words) (check_areas_of T₁ A₁ S₁ Z₁)
       judges x e =
-          let stop_is : c.stop ≡ stopOf x = check-told.stop ∙ ap stopOf e in
-          let words_are : c.words ≡ words_of x = check-told.words ∙ ap words_of e in
-          record { refusal = refusals x stop_is; numbers = (λ i. checkNumbersOf (stop_is i).which (stop_is i).place (words_are i)) ∙ numbers x; areas = λ f. areas x e (ap (λ (y : pipeline.Stop). y.refusal) (sym stop_is) ∙ f); sizes = λ i. checkParts (long-text l i) (long-text m i) }
+          let stop_is : c.stop ≡ stop_of x = check_told.stop ∙ ap stop_of e in
+          let words_are : c.words ≡ words_of x = check_told.words ∙ ap words_of e in
+          record { refusal = refusals x stop_is; numbers = (λ i. check_numbers_of (stop_is i).which (stop_is i).place (words_are i)) ∙ numbers x; areas = λ f. areas x e (ap (λ (y : pipeline.Stop). y.refusal) (sym stop_is) ∙ f); sizes = λ i. check_parts (long_text l i) (long_text m i) }
         where
-          refusals : (x : Stage TextsChecked) → c.stop ≡ stopOf x → c.stop.refusal ≡ (checkAnswer check-lent x).refusal
+          refusals : (x : Stage TextsChecked) → c.stop ≡ stop_of x → c.stop.refusal ≡ (check_answer check_lent x).refusal
           refusals (passed t) f = ap (λ (y : pipeline.Stop). y.refusal) f
           refusals (refused k w p) f = ap (λ (y : pipeline.Stop). y.refusal) f
 
-          numbers : (x : Stage TextsChecked) → checkNumbersOf (stopOf x).which (stopOf x).place (words_of x) ≡ (checkAnswer check-lent x).numbers
+          numbers : (x : Stage TextsChecked) → check_numbers_of (stop_of x).which (stop_of x).place (words_of x) ≡ (check_answer check_lent x).numbers
           numbers (passed t) = refl
           numbers (refused k w p) = refl
 
-          areas : (x : Stage TextsChecked) → checkStage rule sheet ≡ x → (stopOf x).refusal ≡ 0 → checkTidied (checkAreasOf T₁ A₁ S₁ Z₁) ≡ (checkAnswer check-lent x).areas
-          areas (refused k w p) f z = absurd (number-some k z)
+          areas : (x : Stage TextsChecked) → check_stage rule sheet ≡ x → (stop_of x).refusal ≡ 0 → check_tidied (check_areas_of T₁ A₁ S₁ Z₁) ≡ (check_answer check_lent x).areas
+          areas (refused k w p) f z = absurd (number_some k z)
           areas (passed t) f z =
-              let k = check-held rule sheet t f in
-              let r = text-held ruleText ruleIn rule t.rule k.rule-passes in
-              let s = text-held sheetText sheetIn sheet t.sheet k.sheet-passes in
-              let rule-left : tidied (textAreas T₁ A₁) ≡ holding t.rule.value (textAreas T A) = check-told.rule-areas ∙ left-holding rule t.rule.value (textAreas T A) r.reads in
-              let sheet-left : tidied (textAreas S₁ Z₁) ≡ holding t.sheet.value (textAreas S Z) = sym (ap (λ y. leftAfter y (textAreas S₁ Z₁) (tidied (textAreas S₁ Z₁))) k.rule-passes) ∙ check-told.sheet-areas ∙ ap (λ y. leftAfter y (textAreas S Z) (leftBy sheet (textAreas S Z))) k.rule-passes ∙ left-holding sheet t.sheet.value (textAreas S Z) s.reads in
-              λ i. checkParts (rule-left i) (sheet-left i)
+              let k = check_held rule sheet t f in
+              let r = text_held rule_text rule_in rule t.rule k.rule_passes in
+              let s = text_held sheet_text sheet_in sheet t.sheet k.sheet_passes in
+              let rule_left : tidied (text_areas T₁ A₁) ≡ holding t.rule.value (text_areas T A) = check_told.rule_areas ∙ left_holding rule t.rule.value (text_areas T A) r.reads in
+              let sheet_left : tidied (text_areas S₁ Z₁) ≡ holding t.sheet.value (text_areas S Z) = sym (ap (λ y. left_after y (text_areas S₁ Z₁) (tidied (text_areas S₁ Z₁))) k.rule_passes) ∙ check_told.sheet_areas ∙ ap (λ y. left_after y (text_areas S Z) (left_by sheet (text_areas S Z))) k.rule_passes ∙ left_holding sheet t.sheet.value (text_areas S Z) s.reads in
+              λ i. check_parts (rule_left i) (sheet_left i)
 
-      zeros : (x : Stage TextsChecked) → ((checkAnswer check-lent x).refusal ≡ 0 → ⊥) → (checkAnswer check-lent x).areas ≡ checkZeros check-lent
+      zeros : (x : Stage TextsChecked) → ((check_answer check_lent x).refusal ≡ 0 → ⊥) → (check_answer check_lent x).areas ≡ check_zeros check_lent
       zeros (passed t) f = absurd (f refl)
       zeros (refused k w p) f = refl
 
       pub checked : {T₂ A₂ S₂ Z₂ : Bytes} → SettledText c.stop.refusal T₁ A₁ T₂ A₂ → SettledText c.stop.refusal S₁ Z₁ S₂ Z₂
-          → entry c.stop.refusal (checkNumbersOf c.stop.which c.stop.place c.words) (checkAreasOf T₂ A₂ S₂ Z₂) ≡ checkEntry rule sheet check-lent n
-      checked t s = finish checkTidied checkZeros (checkAnswer check-lent (checkStage rule sheet)) check-lent (zeros (checkStage rule sheet)) (judges (checkStage rule sheet) refl) ((λ i. checkParts (t.is i) (s.is i)) ∙ go (eqb c.stop.refusal 0)) ∙ sym valid
+          → entry c.stop.refusal (check_numbers_of c.stop.which c.stop.place c.words) (check_areas_of T₂ A₂ S₂ Z₂) ≡ check_entry rule sheet check_lent n
+      checked t s = finish check_tidied check_zeros (check_answer check_lent (check_stage rule sheet)) check_lent (zeros (check_stage rule sheet)) (judges (check_stage rule sheet) refl) ((λ i. check_parts (t.is i) (s.is i)) ∙ go (eqb c.stop.refusal 0)) ∙ sym valid
         where
-          go : (b : Bool) → checkParts (elim b [ true ↦ tidied (textAreas T₁ A₁) | false ↦ zeroed (textAreas T₁ A₁) ]) (elim b [ true ↦ tidied (textAreas S₁ Z₁) | false ↦ zeroed (textAreas S₁ Z₁) ]) ≡ elim b [ true ↦ checkTidied (checkAreasOf T₁ A₁ S₁ Z₁) | false ↦ checkZeros (checkAreasOf T₁ A₁ S₁ Z₁) ]
+          go : (b : Bool) → check_parts (elim b [ true ↦ tidied (text_areas T₁ A₁) | false ↦ zeroed (text_areas T₁ A₁) ]) (elim b [ true ↦ tidied (text_areas S₁ Z₁) | false ↦ zeroed (text_areas S₁ Z₁) ]) ≡ elim b [ true ↦ check_tidied (check_areas_of T₁ A₁ S₁ Z₁) | false ↦ check_zeros (check_areas_of T₁ A₁ S₁ Z₁) ]
           go true = refl
           go false = refl
 
-          valid : checkEntry rule sheet check-lent n ≡ checkAnswer check-lent (checkStage rule sheet)
-          valid = rw (both_false (tooShort T A) _ rule-long sheet-long, checkEntry)
+          valid : check_entry rule sheet check_lent n ≡ check_answer check_lent (check_stage rule sheet)
+          valid = rw (both_false (too_short T A) _ rule_long sheet_long, check_entry)
 
 -- ---- `jehvrukam_fits`
-abbrev fitsParts : TextAreas → TextAreas → FitsAreas
-fitsParts s r = record { sheet = s; «record» = r }
+abbrev fits_parts : TextAreas → TextAreas → FitsAreas
+fits_parts s r = record { sheet = s; «record» = r }
 
 module _ (sheet record' : Bytes) (S Z R B : Bytes) (n : FitsNumbers) where
-  abbrev fits-lent : FitsAreas
-  fits-lent = fitsAreasOf S Z R B
+  abbrev fits_lent : FitsAreas
+  fits_lent = fits_areas_of S Z R B
 
-  fits-invalid : isFitsInvalid fits-lent ≡ true → entry 1 n fits-lent ≡ fitsEntry sheet record' fits-lent n
-  fits-invalid e = rw (e, fitsEntry)
+  fits_invalid : is_fits_invalid fits_lent ≡ true → entry 1 n fits_lent ≡ fits_entry sheet record' fits_lent n
+  fits_invalid e = rw (e, fits_entry)
 
-  pub fits-sheet-short : tooShort S Z ≡ true → entry 1 n fits-lent ≡ fitsEntry sheet record' fits-lent n
-  fits-sheet-short e = fits-invalid (first-true (tooShort S Z) _ e)
+  pub fits_sheet_short : too_short S Z ≡ true → entry 1 n fits_lent ≡ fits_entry sheet record' fits_lent n
+  fits_sheet_short e = fits_invalid (first_true (too_short S Z) _ e)
 
-  module _ (sheet-long : tooShort S Z ≡ false) where
-    pub fits-record-short : tooShort R B ≡ true → entry 1 n fits-lent ≡ fitsEntry sheet record' fits-lent n
-    fits-record-short e = fits-invalid (second-true (tooShort S Z) _ sheet-long e)
+  module _ (sheet_long : too_short S Z ≡ false) where
+    pub fits_record_short : too_short R B ≡ true → entry 1 n fits_lent ≡ fits_entry sheet record' fits_lent n
+    fits_record_short e = fits_invalid (second_true (too_short S Z) _ sheet_long e)
 
-    module _ (record-long : tooShort R B ≡ false) {c : Fitted} {S₁ Z₁ R₁ B₁ : Bytes} (h : FitsTexts sheet record' (textAreas S Z) (textAreas R B) c (textAreas S₁ Z₁) (textAreas R₁ B₁)) (l : AsLong S Z S₁ Z₁) (m : AsLong R B R₁ B₁) where
-      fit-told : FitsLong sheet record' (textAreas S Z) (textAreas R B) c (textAreas S₁ Z₁) (textAreas R₁ B₁)
-      fit-told = fit-long sheet record' (record { long = sheet-long }) (record { long = record-long }) h
+    module _ (record-long : too_short R B ≡ false) {c : Fitted} {S₁ Z₁ R₁ B₁ : Bytes} (h : FitsTexts sheet record' (text_areas S Z) (text_areas R B) c (text_areas S₁ Z₁) (text_areas R₁ B₁)) (l : AsLong S Z S₁ Z₁) (m : AsLong R B R₁ B₁) where
+      fit_told : FitsLong sheet record' (text_areas S Z) (text_areas R B) c (text_areas S₁ Z₁) (text_areas R₁ B₁)
+      fit_told = fit_long sheet record' (record { long = sheet_long }) (record { long = record-long }) h
 
-      fits-judges : (x : Stage TextsFitted) → fitsStage sheet record' ≡ x → Judges fitsTidied fitsZeros (fitsAnswer fits-lent x) fits-lent c.stop.refusal (fitsNumbersOf c.stop.which c.stop.place (yesOrNo c.fits)) (fitsAreasOf S₁ Z₁ R₁ B₁)
-      fits-judges x e =
-          let stop_is : c.stop ≡ stopOf x = fit-told.stop ∙ ap stopOf e in
-          let fit_is : c.fits ≡ fitOf x = fit-told.fit ∙ ap fitOf e in
-          record { refusal = refusals x stop_is; numbers = (λ i. fitsNumbersOf (stop_is i).which (stop_is i).place (yesOrNo (fit_is i))) ∙ numbers x; areas = λ f. areas x e (ap (λ (y : pipeline.Stop). y.refusal) (sym stop_is) ∙ f); sizes = λ i. fitsParts (long-text l i) (long-text m i) }
+      fits_judges : (x : Stage TextsFitted) → fits_stage sheet record' ≡ x → Judges fits_tidied fits_zeros (fits_answer fits_lent x) fits_lent c.stop.refusal (fits_numbers_of c.stop.which c.stop.place (yes_or_no c.fits)) (fits_areas_of S₁ Z₁ R₁ B₁)
+      fits_judges x e =
+          let stop_is : c.stop ≡ stop_of x = fit_told.stop ∙ ap stop_of e in
+          let fit_is : c.fits ≡ fit_of x = fit_told.fit ∙ ap fit_of e in
+          record { refusal = refusals x stop_is; numbers = (λ i. fits_numbers_of (stop_is i).which (stop_is i).place (yes_or_no (fit_is i))) ∙ numbers x; areas = λ f. areas x e (ap (λ (y : pipeline.Stop). y.refusal) (sym stop_is) ∙ f); sizes = λ i. fits_parts (long_text l i) (long_text m i) }
         where
-          refusals : (x : Stage TextsFitted) → c.stop ≡ stopOf x → c.stop.refusal ≡ (fitsAnswer fits-lent x).refusal
+          refusals : (x : Stage TextsFitted) → c.stop ≡ stop_of x → c.stop.refusal ≡ (fits_answer fits_lent x).refusal
           refusals (passed t) f = ap (λ (y : pipeline.Stop). y.refusal) f
           refusals (refused k w p) f = ap (λ (y : pipeline.Stop). y.refusal) f
 
-          numbers : (x : Stage TextsFitted) → fitsNumbersOf (stopOf x).which (stopOf x).place (yesOrNo (fitOf x)) ≡ (fitsAnswer fits-lent x).numbers
+          numbers : (x : Stage TextsFitted) → fits_numbers_of (stop_of x).which (stop_of x).place (yes_or_no (fit_of x)) ≡ (fits_answer fits_lent x).numbers
           numbers (passed t) = refl
           numbers (refused k w p) = refl
 
-          areas : (x : Stage TextsFitted) → fitsStage sheet record' ≡ x → (stopOf x).refusal ≡ 0 → fitsTidied (fitsAreasOf S₁ Z₁ R₁ B₁) ≡ (fitsAnswer fits-lent x).areas
-          areas (refused k w p) f z = absurd (number-some k z)
+          areas : (x : Stage TextsFitted) → fits_stage sheet record' ≡ x → (stop_of x).refusal ≡ 0 → fits_tidied (fits_areas_of S₁ Z₁ R₁ B₁) ≡ (fits_answer fits_lent x).areas
+          areas (refused k w p) f z = absurd (number_some k z)
           areas (passed t) f z =
-              let k = fits-held sheet record' t f in
-              let s = text-held sheetText sheetIn sheet t.sheet k.sheet-passes in
-              let sheet-left : tidied (textAreas S₁ Z₁) ≡ holding t.sheet.value (textAreas S Z) = fit-told.sheet-areas ∙ left-holding sheet t.sheet.value (textAreas S Z) s.reads in
-              let record-left : tidied (textAreas R₁ B₁) ≡ holding t.«record» (textAreas R B) = sym (ap (λ y. leftAfter y (textAreas R₁ B₁) (tidied (textAreas R₁ B₁))) k.sheet-passes) ∙ fit-told.record-areas ∙ ap (λ y. leftAfter y (textAreas R B) (leftBy record' (textAreas R B))) k.sheet-passes ∙ left-holding record' t.«record» (textAreas R B) (record-held record' t.«record» k.record-passes) in
-              λ i. fitsParts (sheet-left i) (record-left i)
+              let k = fits_held sheet record' t f in
+              let s = text_held sheet_text sheet_in sheet t.sheet k.sheet_passes in
+              let sheet_left : tidied (text_areas S₁ Z₁) ≡ holding t.sheet.value (text_areas S Z) = fit_told.sheet_areas ∙ left_holding sheet t.sheet.value (text_areas S Z) s.reads in
+              let record_left : tidied (text_areas R₁ B₁) ≡ holding t.«record» (text_areas R B) = sym (ap (λ y. left_after y (text_areas R₁ B₁) (tidied (text_areas R₁ B₁))) k.sheet_passes) ∙ fit_told.record_areas ∙ ap (λ y. left_after y (text_areas R B) (left_by record' (text_areas R B))) k.sheet_passes ∙ left_holding record' t.«record» (text_areas R B) (record_held record' t.«record» k.record_passes) in
+              λ i. fits_parts (sheet_left i) (record_left i)
 
-      fits-zeros : (x : Stage TextsFitted) → ((fitsAnswer fits-lent x).refusal ≡ 0 → ⊥) → (fitsAnswer fits-lent x).areas ≡ fitsZeros fits-lent
-      fits-zeros (passed t) f = absurd (f refl)
-      fits-zeros (refused k w p) f = refl
+      fits_zeros_lem : (x : Stage TextsFitted) → ((fits_answer fits_lent x).refusal ≡ 0 → ⊥) → (fits_answer fits_lent x).areas ≡ fits_zeros fits_lent
+      fits_zeros_lem (passed t) f = absurd (f refl)
+      fits_zeros_lem (refused k w p) f = refl
 
-      pub fitted : {S₂ Z₂ R₂ B₂ : Bytes} {fit : ℕ} → SettledText c.stop.refusal S₁ Z₁ S₂ Z₂ → SettledText c.stop.refusal R₁ B₁ R₂ B₂ → fit ≡ yesOrNo c.fits
-          → entry c.stop.refusal (fitsNumbersOf c.stop.which c.stop.place fit) (fitsAreasOf S₂ Z₂ R₂ B₂) ≡ fitsEntry sheet record' fits-lent n
-      fitted {S₂} {Z₂} {R₂} {B₂} s r e = ap (λ k. entry c.stop.refusal (fitsNumbersOf c.stop.which c.stop.place k) (fitsAreasOf S₂ Z₂ R₂ B₂)) e ∙ finish fitsTidied fitsZeros (fitsAnswer fits-lent (fitsStage sheet record')) fits-lent (fits-zeros (fitsStage sheet record')) (fits-judges (fitsStage sheet record') refl) ((λ i. fitsParts (s.is i) (r.is i)) ∙ go (eqb c.stop.refusal 0)) ∙ sym valid
+      pub fitted : {S₂ Z₂ R₂ B₂ : Bytes} {fit : ℕ} → SettledText c.stop.refusal S₁ Z₁ S₂ Z₂ → SettledText c.stop.refusal R₁ B₁ R₂ B₂ → fit ≡ yes_or_no c.fits
+          → entry c.stop.refusal (fits_numbers_of c.stop.which c.stop.place fit) (fits_areas_of S₂ Z₂ R₂ B₂) ≡ fits_entry sheet record' fits_lent n
+      fitted {S₂} {Z₂} {R₂} {B₂} s r e = ap (λ k. entry c.stop.refusal (fits_numbers_of c.stop.which c.stop.place k) (fits_areas_of S₂ Z₂ R₂ B₂)) e ∙ finish fits_tidied fits_zeros (fits_answer fits_lent (fits_stage sheet record')) fits_lent (fits_zeros_lem (fits_stage sheet record')) (fits_judges (fits_stage sheet record') refl) ((λ i. fits_parts (s.is i) (r.is i)) ∙ go (eqb c.stop.refusal 0)) ∙ sym valid
         where
-          go : (b : Bool) → fitsParts (elim b [ true ↦ tidied (textAreas S₁ Z₁) | false ↦ zeroed (textAreas S₁ Z₁) ]) (elim b [ true ↦ tidied (textAreas R₁ B₁) | false ↦ zeroed (textAreas R₁ B₁) ]) ≡ elim b [ true ↦ fitsTidied (fitsAreasOf S₁ Z₁ R₁ B₁) | false ↦ fitsZeros (fitsAreasOf S₁ Z₁ R₁ B₁) ]
+          go : (b : Bool) → fits_parts (elim b [ true ↦ tidied (text_areas S₁ Z₁) | false ↦ zeroed (text_areas S₁ Z₁) ]) (elim b [ true ↦ tidied (text_areas R₁ B₁) | false ↦ zeroed (text_areas R₁ B₁) ]) ≡ elim b [ true ↦ fits_tidied (fits_areas_of S₁ Z₁ R₁ B₁) | false ↦ fits_zeros (fits_areas_of S₁ Z₁ R₁ B₁) ]
           go true = refl
           go false = refl
 
-          valid : fitsEntry sheet record' fits-lent n ≡ fitsAnswer fits-lent (fitsStage sheet record')
-          valid = rw (both_false (tooShort S Z) _ sheet-long record-long, fitsEntry)
+          valid : fits_entry sheet record' fits_lent n ≡ fits_answer fits_lent (fits_stage sheet record')
+          valid = rw (both_false (too_short S Z) _ sheet_long record-long, fits_entry)

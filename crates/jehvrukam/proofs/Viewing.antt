@@ -6,39 +6,39 @@ use borrow.Author.Tests.{eq-eqb, ne_eqb}
 use Rattle.model.specs.Bytes.{Bytes}
 use Rattle.model.specs.Laws.Logic.{T→true}
 use Rattle.syntax.specs.Layout.{unbiased}
-use Rattle.viewer.specs.Answer.{integerOf, stringOf}
-use Rattle.viewer.specs.Form.{isInteger, integerIn}
+use Rattle.viewer.specs.Answer.{integer_of, string_of}
+use Rattle.viewer.specs.Form.{is_integer, integer_in}
 use Rattle.table.specs.Row.{joined}
-use Rattle.viewer.specs.Row.{rowCount}
-use Rattle.viewer.specs.View.{rowSeen}
-use Rattle.viewer.specs.Laws.Told.{told as seen-told, form-integer}
+use Rattle.viewer.specs.Row.{row_count}
+use Rattle.viewer.specs.View.{row_seen}
+use Rattle.viewer.specs.Laws.Told.{told as seen-told, form_integer}
 use Rattle.table.specs.declared.row.Row.{Row}
 use Rattle.viewer.specs.declared.row.RowAnswer.TheVariants as rows
 use Rattle.jehvrukam.specs.Contract.{told, span}
-use Rattle.jehvrukam.specs.View.{toldOr}
+use Rattle.jehvrukam.specs.View.{told_or}
 
 -- ---- an answer, which a definition says, is one that tells nothing, or one that tells something
 module _ {N A : Type 0} (of : A → Option N) {answer said is : A} (p : answer ≡ said) (q : answer ≡ is) where
-  pub tells_none : {n : N} → of is ≡ none → told 1 n ≡ toldOr n (of said)
-  tells_none {n} e = sym (ap (toldOr n) (ap of (sym p ∙ q) ∙ e))
+  pub tells_none : {n : N} → of is ≡ none → told 1 n ≡ told_or n (of said)
+  tells_none {n} e = sym (ap (told_or n) (ap of (sym p ∙ q) ∙ e))
 
-  pub tells-some : (n : N) {m : N} → of is ≡ some m → told 0 m ≡ toldOr n (of said)
-  tells-some n e = sym (ap (toldOr n) (ap of (sym p ∙ q) ∙ e))
+  pub tells_some : (n : N) {m : N} → of is ≡ some m → told 0 m ≡ told_or n (of said)
+  tells_some n e = sym (ap (told_or n) (ap of (sym p ∙ q) ∙ e))
 
 -- ---- by the kind
 module _ (r : Row) where
-  pub no-integer : (r.kind ≡ 4 → ⊥) → integerOf (rows.Is r) ≡ none
-  no-integer h = rw (ne_eqb r.kind 4 h)
+  pub no_integer : (r.kind ≡ 4 → ⊥) → integer_of (rows.Is r) ≡ none
+  no_integer h = rw (ne_eqb r.kind 4 h)
 
-  pub an-integer : r.kind ≡ 4 → integerOf (rows.Is r) ≡ some (unbiased (joined r))
-  an-integer h = rw (eq-eqb r.kind 4 h)
+  pub an_integer : r.kind ≡ 4 → integer_of (rows.Is r) ≡ some (unbiased (joined r))
+  an_integer h = rw (eq-eqb r.kind 4 h)
 
-  pub no-string : (r.kind ≡ 5 → ⊥) → stringOf (rows.Is r) ≡ none
-  no-string h = rw (ne_eqb r.kind 5 h)
+  pub no_string : (r.kind ≡ 5 → ⊥) → string_of (rows.Is r) ≡ none
+  no_string h = rw (ne_eqb r.kind 5 h)
 
-  pub a-string : r.kind ≡ 5 → stringOf (rows.Is r) ≡ some (span r.first r.second)
-  a-string h = rw (eq-eqb r.kind 5 h)
+  pub a_string : r.kind ≡ 5 → string_of (rows.Is r) ≡ some (span r.first r.second)
+  a_string h = rw (eq-eqb r.kind 5 h)
 
 -- ---- a row of kind 4 that is told holds an integer
-pub tells-integer : (table : Bytes) (place : ℕ) (r : Row) → rowSeen table place ≡ rows.Is r → r.kind ≡ 4 → integerIn r ≡ unbiased (joined r)
-tells-integer table place r e k = rw (T→true (isInteger (joined r)) (form-integer (rowCount table) place r (seen-told table place r e).form k))
+pub tells_integer : (table : Bytes) (place : ℕ) (r : Row) → row_seen table place ≡ rows.Is r → r.kind ≡ 4 → integer_in r ≡ unbiased (joined r)
+tells_integer table place r e k = rw (T→true (is_integer (joined r)) (form_integer (row_count table) place r (seen-told table place r e).form k))

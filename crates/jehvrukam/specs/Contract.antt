@@ -2,11 +2,11 @@
 use Rattle.std.specs.Prelude.{ℕ}
 use Rattle.model.specs.Bytes.{Bytes}
 use Rattle.syntax.specs.Entry.{ReadAnswer}
-use Rattle.pipeline.specs.Areas.{textAreas}
+use Rattle.pipeline.specs.Areas.{text_areas}
 use Rattle.table.specs.declared.row.Span.{Span}
 use Rattle.viewer.specs.Answer.{Seen}
 use Rattle.jehvrukam.specs.Check.{CheckAreas, CheckNumbers}
-use Rattle.jehvrukam.specs.Entry.{Entry, workAreas}
+use Rattle.jehvrukam.specs.Entry.{Entry, work_areas}
 use Rattle.jehvrukam.specs.Evaluate.{Areas, Numbers}
 use Rattle.jehvrukam.specs.EvaluateChecked.{CheckedAreas, CheckedNumbers}
 use Rattle.jehvrukam.specs.Fits.{FitsAreas, FitsNumbers}
@@ -19,32 +19,32 @@ abbrev pub entry : {N A : Type 0} → ℕ → N → A → Entry N A
 entry refusal n a = record { refusal = refusal; numbers = n; areas = a }
 
 -- The lent areas and the numbers, before or after a call: of `jehvrukam_evaluate`,
-abbrev pub areasOf : Bytes → Bytes → Bytes → Bytes → Bytes → Bytes → Areas
-areasOf T A R B C O = record { rule = textAreas T A; «record» = textAreas R B; work = workAreas C O }
+abbrev pub areas_of : Bytes → Bytes → Bytes → Bytes → Bytes → Bytes → Areas
+areas_of T A R B C O = record { rule = text_areas T A; «record» = text_areas R B; work = work_areas C O }
 
-abbrev pub numbersOf : ℕ → ℕ → ℕ → ℕ → Numbers
-numbersOf which place steps size = record { which = which; place = place; steps = steps; size = size }
+abbrev pub numbers_of : ℕ → ℕ → ℕ → ℕ → Numbers
+numbers_of which place steps size = record { which = which; place = place; steps = steps; size = size }
 
 -- of `jehvrukam_check`,
-abbrev pub checkAreasOf : Bytes → Bytes → Bytes → Bytes → CheckAreas
-checkAreasOf T A S Z = record { rule = textAreas T A; sheet = textAreas S Z }
+abbrev pub check_areas_of : Bytes → Bytes → Bytes → Bytes → CheckAreas
+check_areas_of T A S Z = record { rule = text_areas T A; sheet = text_areas S Z }
 
-abbrev pub checkNumbersOf : ℕ → ℕ → ℕ → CheckNumbers
-checkNumbersOf which place words = record { which = which; place = place; words = words }
+abbrev pub check_numbers_of : ℕ → ℕ → ℕ → CheckNumbers
+check_numbers_of which place words = record { which = which; place = place; words = words }
 
 -- of `jehvrukam_fits`,
-abbrev pub fitsAreasOf : Bytes → Bytes → Bytes → Bytes → FitsAreas
-fitsAreasOf S Z R B = record { sheet = textAreas S Z; «record» = textAreas R B }
+abbrev pub fits_areas_of : Bytes → Bytes → Bytes → Bytes → FitsAreas
+fits_areas_of S Z R B = record { sheet = text_areas S Z; «record» = text_areas R B }
 
-abbrev pub fitsNumbersOf : ℕ → ℕ → ℕ → FitsNumbers
-fitsNumbersOf which place fit = record { which = which; place = place; fit = fit }
+abbrev pub fits_numbers_of : ℕ → ℕ → ℕ → FitsNumbers
+fits_numbers_of which place fit = record { which = which; place = place; fit = fit }
 
 -- of `jehvrukam_evaluate_checked`.
-abbrev pub checkedAreasOf : Bytes → Bytes → Bytes → Bytes → Bytes → Bytes → Bytes → Bytes → CheckedAreas
-checkedAreasOf T A S Z R B C O = record { rule = textAreas T A; sheet = textAreas S Z; «record» = textAreas R B; work = workAreas C O }
+abbrev pub checked_areas_of : Bytes → Bytes → Bytes → Bytes → Bytes → Bytes → Bytes → Bytes → CheckedAreas
+checked_areas_of T A S Z R B C O = record { rule = text_areas T A; sheet = text_areas S Z; «record» = text_areas R B; work = work_areas C O }
 
-abbrev pub checkedNumbersOf : ℕ → ℕ → ℕ → ℕ → ℕ → ℕ → CheckedNumbers
-checkedNumbersOf which place words fit steps size = record { which = which; place = place; words = words; fit = fit; steps = steps; size = size }
+abbrev pub checked_numbers_of : ℕ → ℕ → ℕ → ℕ → ℕ → ℕ → CheckedNumbers
+checked_numbers_of which place words fit steps size = record { which = which; place = place; words = words; fit = fit; steps = steps; size = size }
 
 -- The answers of the viewer's entries.
 abbrev pub told : {N : Type 0} → ℕ → N → Told N

@@ -2,10 +2,10 @@
 use Rattle.std.proofs.Math.Option.{Option, none, some}
 use Rattle.std.specs.Prelude.{ℕ, ℤ}
 use Rattle.model.specs.Bytes.{Bytes}
-use Rattle.model.specs.Refusal.{number, invalidArgument}
+use Rattle.model.specs.Refusal.{number, invalid_argument}
 use Rattle.table.specs.declared.row.Span.{Span}
-use Rattle.viewer.specs.Answer.{Seen, seenOf, name_of, integerOf, stringOf, place_of}
-use Rattle.viewer.specs.View.{rowSeen, partSeen}
+use Rattle.viewer.specs.Answer.{Seen, seen_of, name_of, integer_of, string_of, place_of}
+use Rattle.viewer.specs.View.{row_seen, part_seen}
 
 -- A refusal's number, or 0; the numbers that are told.
 pub record Told (N : Type 0) : Type 0 where
@@ -13,25 +13,25 @@ pub record Told (N : Type 0) : Type 0 where
   pub numbers : N
 
 -- 01, Reading: "A place or number that is not there, or a row that has not the form described in docs/, gives refusal 1." It touches nothing.
-abbrev pub toldOr : {N : Type 0} → N → Option N → Told N
-toldOr n none = record { refusal = number invalidArgument; numbers = n }
-toldOr n (some m) = record { refusal = 0; numbers = m }
+abbrev pub told_or : {N : Type 0} → N → Option N → Told N
+told_or n none = record { refusal = number invalid_argument; numbers = n }
+told_or n (some m) = record { refusal = 0; numbers = m }
 
 -- `jehvrukam_view`: kind and count.
-abbrev pub viewEntry : Bytes → ℕ → Seen → Told Seen
-viewEntry table place n = toldOr n (seenOf (rowSeen table place))
+abbrev pub view_entry : Bytes → ℕ → Seen → Told Seen
+view_entry table place n = told_or n (seen_of (row_seen table place))
 
 -- `jehvrukam_view_part`: the place of the nth item or member's content, from 0.
-abbrev pub viewPartEntry : Bytes → ℕ → ℕ → ℕ → Told ℕ
-viewPartEntry table place nth n = toldOr n (place_of (partSeen table place nth))
+abbrev pub view_part_entry : Bytes → ℕ → ℕ → ℕ → Told ℕ
+view_part_entry table place nth n = told_or n (place_of (part_seen table place nth))
 
 -- `jehvrukam_view_integer`, `jehvrukam_view_string`: of a row of that kind only.
-abbrev pub viewIntegerEntry : Bytes → ℕ → ℤ → Told ℤ
-viewIntegerEntry table place n = toldOr n (integerOf (rowSeen table place))
+abbrev pub view_integer_entry : Bytes → ℕ → ℤ → Told ℤ
+view_integer_entry table place n = told_or n (integer_of (row_seen table place))
 
-abbrev pub viewStringEntry : Bytes → ℕ → Span → Told Span
-viewStringEntry table place n = toldOr n (stringOf (rowSeen table place))
+abbrev pub view_string_entry : Bytes → ℕ → Span → Told Span
+view_string_entry table place n = told_or n (string_of (row_seen table place))
 
 -- `jehvrukam_view_name`
-abbrev pub viewNameEntry : Bytes → ℕ → Span → Told Span
-viewNameEntry table place n = toldOr n (name_of (rowSeen table place))
+abbrev pub view_name_entry : Bytes → ℕ → Span → Told Span
+view_name_entry table place n = told_or n (name_of (row_seen table place))

@@ -1,12 +1,12 @@
 // Evaluation from texts: the stages in 01's order.
 ghost use Rattle.std.specs.Prelude.{◌≡◌};
-ghost use Rattle.pipeline.specs.Areas.{textAreas};
+ghost use Rattle.pipeline.specs.Areas.{text_areas};
 ghost use Rattle.pipeline.specs.Laws.LongAreas.{Long};
-ghost use Rattle.pipeline.specs.Texts.{evaluateStage};
-ghost use Rattle.jehvrukam.specs.Contract.{areasOf};
-ghost use Rattle.jehvrukam.specs.Entry.{cannotRun};
-ghost use Rattle.jehvrukam.specs.Evaluate.{zeros, evaluateAnswer};
-ghost use Rattle.jehvrukam.specs.Inner.{Judges, Runs, areasTidied, told, unrun};
+ghost use Rattle.pipeline.specs.Texts.{evaluate_stage};
+ghost use Rattle.jehvrukam.specs.Contract.{areas_of};
+ghost use Rattle.jehvrukam.specs.Entry.{cannot_run};
+ghost use Rattle.jehvrukam.specs.Evaluate.{zeros, evaluate_answer};
+ghost use Rattle.jehvrukam.specs.Inner.{Judges, Runs, areas_tidied, told, unrun};
 
 use eval::evaluate;
 use heap::cell::CELL_BYTES;
@@ -25,7 +25,7 @@ pub struct Outcome {
 
 // Whether the limit is above the largest, or there are not cells enough.
 pub fn cannot_run(limit: u64, cells: &[u8]) -> bool
-    ensures { result ≡ cannotRun limit cells.now }
+    ensures { result ≡ cannot_run limit cells.now }
 {
     if MAX_STEPS < limit {
         return true;
@@ -58,8 +58,8 @@ pub fn judge(
     cells: &mut [u8],
     output: &mut [u8],
 ) -> Outcome
-    requires { Long (textAreas rule_table.old rule_strings.old) × Long (textAreas record_table.old record_strings.old) × Runs limit cells.old }
-    ensures { Judges areasTidied zeros (evaluateAnswer (areasOf rule_table.old rule_strings.old record_table.old record_strings.old cells.old output.old) limit (evaluateStage rule_text.now record_text.now)) (areasOf rule_table.old rule_strings.old record_table.old record_strings.old cells.old output.old) result.refusal (told result) (areasOf rule_table.new rule_strings.new record_table.new record_strings.new cells.new output.new) }
+    requires { Long (text_areas rule_table.old rule_strings.old) × Long (text_areas record_table.old record_strings.old) × Runs limit cells.old }
+    ensures { Judges areas_tidied zeros (evaluate_answer (areas_of rule_table.old rule_strings.old record_table.old record_strings.old cells.old output.old) limit (evaluate_stage rule_text.now record_text.now)) (areas_of rule_table.old rule_strings.old record_table.old record_strings.old cells.old output.old) result.refusal (told result) (areas_of rule_table.new rule_strings.new record_table.new record_strings.new cells.new output.new) }
 {
     let a = read_rule(rule_text, rule_table, rule_strings);
     if a.refusal != 0 {

@@ -1,12 +1,12 @@
 // Evaluation under a sheet, from texts: the stages in 01's order.
 ghost use Rattle.std.specs.Prelude.{◌≡◌};
-ghost use Rattle.pipeline.specs.Areas.{textAreas};
+ghost use Rattle.pipeline.specs.Areas.{text_areas};
 ghost use Rattle.pipeline.specs.Laws.LongAreas.{Long};
-ghost use Rattle.pipeline.specs.Texts.{evaluateCheckedStage};
-ghost use Rattle.jehvrukam.specs.Contract.{checkedAreasOf};
-ghost use Rattle.jehvrukam.specs.Entry.{workAreas};
-ghost use Rattle.jehvrukam.specs.EvaluateChecked.{checkedZeros, evaluateCheckedAnswer};
-ghost use Rattle.jehvrukam.specs.Inner.{AfterCheck, Judges, JudgesAfter, Runs, checkedRun, checkedTidied, checkedTold, checkedUnrun};
+ghost use Rattle.pipeline.specs.Texts.{evaluate_checked_stage};
+ghost use Rattle.jehvrukam.specs.Contract.{checked_areas_of};
+ghost use Rattle.jehvrukam.specs.Entry.{work_areas};
+ghost use Rattle.jehvrukam.specs.EvaluateChecked.{checked_zeros, evaluate_checked_answer};
+ghost use Rattle.jehvrukam.specs.Inner.{AfterCheck, Judges, JudgesAfter, Runs, checked_run, checked_tidied, checked_told, checked_unrun};
 
 use eval::{Answer, evaluate};
 use pipeline::check::{Checked, check_texts};
@@ -27,7 +27,7 @@ pub struct CheckedOutcome {
 
 // A text that is refused before evaluation.
 fn not_run(s: Stop) -> CheckedOutcome
-    ensures { result ≡ checkedUnrun s }
+    ensures { result ≡ checked_unrun s }
 {
     CheckedOutcome {
         refusal: s.refusal,
@@ -42,7 +42,7 @@ fn not_run(s: Stop) -> CheckedOutcome
 
 // After evaluation the types found and whether the record fits are told, with a refusal too.
 fn ended(words: u64, fit: bool, e: Answer) -> CheckedOutcome
-    ensures { result ≡ checkedRun words fit e }
+    ensures { result ≡ checked_run words fit e }
 {
     CheckedOutcome {
         refusal: e.refusal,
@@ -69,8 +69,8 @@ fn run_checked(
     cells: &mut [u8],
     output: &mut [u8],
 ) -> CheckedOutcome
-    requires { AfterCheck a (textAreas rule_table.now rule_strings.now) (textAreas sheet_table.now sheet_strings.now) × Long (textAreas record_table.old record_strings.old) × Runs limit cells.old }
-    ensures { JudgesAfter a record_text.now limit (checkedAreasOf rule_table.now rule_strings.now sheet_table.now sheet_strings.now record_table.old record_strings.old cells.old output.old) result (textAreas record_table.new record_strings.new) (workAreas cells.new output.new) }
+    requires { AfterCheck a (text_areas rule_table.now rule_strings.now) (text_areas sheet_table.now sheet_strings.now) × Long (text_areas record_table.old record_strings.old) × Runs limit cells.old }
+    ensures { JudgesAfter a record_text.now limit (checked_areas_of rule_table.now rule_strings.now sheet_table.now sheet_strings.now record_table.old record_strings.old cells.old output.old) result (text_areas record_table.new record_strings.new) (work_areas cells.new output.new) }
 {
     let checked = a.stop;
     if checked.refusal != 0 {
@@ -108,8 +108,8 @@ pub fn judge(
     cells: &mut [u8],
     output: &mut [u8],
 ) -> CheckedOutcome
-    requires { Long (textAreas rule_table.old rule_strings.old) × Long (textAreas sheet_table.old sheet_strings.old) × Long (textAreas record_table.old record_strings.old) × Runs limit cells.old }
-    ensures { Judges checkedTidied checkedZeros (evaluateCheckedAnswer (checkedAreasOf rule_table.old rule_strings.old sheet_table.old sheet_strings.old record_table.old record_strings.old cells.old output.old) limit (evaluateCheckedStage rule_text.now sheet_text.now record_text.now)) (checkedAreasOf rule_table.old rule_strings.old sheet_table.old sheet_strings.old record_table.old record_strings.old cells.old output.old) result.refusal (checkedTold result) (checkedAreasOf rule_table.new rule_strings.new sheet_table.new sheet_strings.new record_table.new record_strings.new cells.new output.new) }
+    requires { Long (text_areas rule_table.old rule_strings.old) × Long (text_areas sheet_table.old sheet_strings.old) × Long (text_areas record_table.old record_strings.old) × Runs limit cells.old }
+    ensures { Judges checked_tidied checked_zeros (evaluate_checked_answer (checked_areas_of rule_table.old rule_strings.old sheet_table.old sheet_strings.old record_table.old record_strings.old cells.old output.old) limit (evaluate_checked_stage rule_text.now sheet_text.now record_text.now)) (checked_areas_of rule_table.old rule_strings.old sheet_table.old sheet_strings.old record_table.old record_strings.old cells.old output.old) result.refusal (checked_told result) (checked_areas_of rule_table.new rule_strings.new sheet_table.new sheet_strings.new record_table.new record_strings.new cells.new output.new) }
 {
     let a = check_texts(
         rule_text,

@@ -2,17 +2,17 @@
 // area are what a definition says of the bytes given, whatever they are.
 ghost use Rattle.std.specs.Prelude.{◌≡◌};
 ghost use Rattle.syntax.specs.Entry.{read_entry};
-ghost use Rattle.jehvrukam.specs.Check.{checkEntry};
-ghost use Rattle.jehvrukam.specs.Contract.{answered, entry, areasOf, numbersOf, checkAreasOf, checkNumbersOf, fitsAreasOf, fitsNumbersOf, checkedAreasOf, checkedNumbersOf};
-ghost use Rattle.jehvrukam.specs.Evaluate.{evaluateEntry};
-ghost use Rattle.jehvrukam.specs.EvaluateChecked.{evaluateCheckedEntry};
-ghost use Rattle.jehvrukam.specs.Fits.{fitsEntry};
+ghost use Rattle.jehvrukam.specs.Check.{check_entry};
+ghost use Rattle.jehvrukam.specs.Contract.{answered, entry, areas_of, numbers_of, check_areas_of, check_numbers_of, fits_areas_of, fits_numbers_of, checked_areas_of, checked_numbers_of};
+ghost use Rattle.jehvrukam.specs.Evaluate.{evaluate_entry};
+ghost use Rattle.jehvrukam.specs.EvaluateChecked.{evaluate_checked_entry};
+ghost use Rattle.jehvrukam.specs.Fits.{fits_entry};
 
 use crate::evaluate::{cannot_run, judge};
 use crate::evaluate_checked::judge as judge_checked;
 use crate::settle::{settle_text, settle_work};
 use crate::told::yes_or_no;
-use json::read;
+use json_reader::read;
 use pipeline::check::check_texts;
 use pipeline::fit::fit_texts;
 use pipeline::text::is_short;
@@ -53,7 +53,7 @@ pub extern "C" fn jehvrukam_check(
     place: &mut u64,
     words: &mut u64,
 ) -> u32
-    ensures { entry result (checkNumbersOf which.new place.new words.new) (checkAreasOf rule_table.new rule_strings.new sheet_table.new sheet_strings.new) ≡ checkEntry rule_text.now sheet_text.now (checkAreasOf rule_table.old rule_strings.old sheet_table.old sheet_strings.old) (checkNumbersOf which.old place.old words.old) }
+    ensures { entry result (check_numbers_of which.new place.new words.new) (check_areas_of rule_table.new rule_strings.new sheet_table.new sheet_strings.new) ≡ check_entry rule_text.now sheet_text.now (check_areas_of rule_table.old rule_strings.old sheet_table.old sheet_strings.old) (check_numbers_of which.old place.old words.old) }
 {
     if is_short(rule_table, rule_strings) {
         return 1;
@@ -91,7 +91,7 @@ pub extern "C" fn jehvrukam_fits(
     place: &mut u64,
     fits: &mut u64,
 ) -> u32
-    ensures { entry result (fitsNumbersOf which.new place.new fits.new) (fitsAreasOf sheet_table.new sheet_strings.new record_table.new record_strings.new) ≡ fitsEntry sheet_text.now record_text.now (fitsAreasOf sheet_table.old sheet_strings.old record_table.old record_strings.old) (fitsNumbersOf which.old place.old fits.old) }
+    ensures { entry result (fits_numbers_of which.new place.new fits.new) (fits_areas_of sheet_table.new sheet_strings.new record_table.new record_strings.new) ≡ fits_entry sheet_text.now record_text.now (fits_areas_of sheet_table.old sheet_strings.old record_table.old record_strings.old) (fits_numbers_of which.old place.old fits.old) }
 {
     if is_short(sheet_table, sheet_strings) {
         return 1;
@@ -133,7 +133,7 @@ pub extern "C" fn jehvrukam_evaluate(
     steps: &mut u64,
     length: &mut u64,
 ) -> u32
-    ensures { entry result (numbersOf which.new place.new steps.new length.new) (areasOf rule_table.new rule_strings.new record_table.new record_strings.new cells.new output.new) ≡ evaluateEntry rule_text.now record_text.now limit (areasOf rule_table.old rule_strings.old record_table.old record_strings.old cells.old output.old) (numbersOf which.old place.old steps.old length.old) }
+    ensures { entry result (numbers_of which.new place.new steps.new length.new) (areas_of rule_table.new rule_strings.new record_table.new record_strings.new cells.new output.new) ≡ evaluate_entry rule_text.now record_text.now limit (areas_of rule_table.old rule_strings.old record_table.old record_strings.old cells.old output.old) (numbers_of which.old place.old steps.old length.old) }
 {
     if cannot_run(limit, cells) {
         return 1;
@@ -187,7 +187,7 @@ pub extern "C" fn jehvrukam_evaluate_checked(
     steps: &mut u64,
     length: &mut u64,
 ) -> u32
-    ensures { entry result (checkedNumbersOf which.new place.new words.new fits.new steps.new length.new) (checkedAreasOf rule_table.new rule_strings.new sheet_table.new sheet_strings.new record_table.new record_strings.new cells.new output.new) ≡ evaluateCheckedEntry rule_text.now sheet_text.now record_text.now limit (checkedAreasOf rule_table.old rule_strings.old sheet_table.old sheet_strings.old record_table.old record_strings.old cells.old output.old) (checkedNumbersOf which.old place.old words.old fits.old steps.old length.old) }
+    ensures { entry result (checked_numbers_of which.new place.new words.new fits.new steps.new length.new) (checked_areas_of rule_table.new rule_strings.new sheet_table.new sheet_strings.new record_table.new record_strings.new cells.new output.new) ≡ evaluate_checked_entry rule_text.now sheet_text.now record_text.now limit (checked_areas_of rule_table.old rule_strings.old sheet_table.old sheet_strings.old record_table.old record_strings.old cells.old output.old) (checked_numbers_of which.old place.old words.old fits.old steps.old length.old) }
 {
     if cannot_run(limit, cells) {
         return 1;

@@ -2,7 +2,7 @@
 ghost use Rattle.jehvrukam.specs.Inner.{SettledText, SettledWork};
 
 use area::clear_from;
-use json::clear_index;
+use json_reader::clear_index;
 
 // On a refusal a text's areas are cleared; after success the work room behind the table's rows is.
 pub fn settle_text(refusal: u32, table: &mut [u8], strings: &mut [u8])

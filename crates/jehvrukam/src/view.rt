@@ -1,7 +1,7 @@
 // The viewer for C: what a row of a table says. Each contract is one equation, for any bytes as a table and any place.
 ghost use Rattle.std.specs.Prelude.{◌≡◌};
 ghost use Rattle.jehvrukam.specs.Contract.{told, seen, span};
-ghost use Rattle.jehvrukam.specs.View.{viewEntry, viewPartEntry, viewIntegerEntry, viewStringEntry, viewNameEntry};
+ghost use Rattle.jehvrukam.specs.View.{view_entry, view_part_entry, view_integer_entry, view_string_entry, view_name_entry};
 
 use viewer::part::PartAnswer;
 use viewer::row::{RowAnswer, count_of, integer_of};
@@ -10,7 +10,7 @@ use viewer::view::{part_at, row_at};
 // The kind of the value at a place, and how many items or members it has.
 #[unsafe(no_mangle)]
 pub extern "C" fn jehvrukam_view(table: &[u8], place: u64, kind: &mut u64, count: &mut u64) -> u32
-    ensures { told result (seen kind.new count.new) ≡ viewEntry table.now place (seen kind.old count.old) }
+    ensures { told result (seen kind.new count.new) ≡ view_entry table.now place (seen kind.old count.old) }
 {
     let RowAnswer::Is(r) = row_at(table, place as usize) else {
         return 1;
@@ -23,7 +23,7 @@ pub extern "C" fn jehvrukam_view(table: &[u8], place: u64, kind: &mut u64, count
 // The place of its nth item or member's content, from 0.
 #[unsafe(no_mangle)]
 pub extern "C" fn jehvrukam_view_part(table: &[u8], place: u64, nth: u64, part: &mut u64) -> u32
-    ensures { told result part.new ≡ viewPartEntry table.now place nth part.old }
+    ensures { told result part.new ≡ view_part_entry table.now place nth part.old }
 {
     let PartAnswer::At(p) = part_at(table, place as usize, nth as usize) else {
         return 1;
@@ -35,7 +35,7 @@ pub extern "C" fn jehvrukam_view_part(table: &[u8], place: u64, nth: u64, part: 
 // The integer at a place.
 #[unsafe(no_mangle)]
 pub extern "C" fn jehvrukam_view_integer(table: &[u8], place: u64, value: &mut i64) -> u32
-    ensures { told result value.new ≡ viewIntegerEntry table.now place value.old }
+    ensures { told result value.new ≡ view_integer_entry table.now place value.old }
 {
     let RowAnswer::Is(r) = row_at(table, place as usize) else {
         return 1;
@@ -55,7 +55,7 @@ pub extern "C" fn jehvrukam_view_string(
     start: &mut u64,
     length: &mut u64,
 ) -> u32
-    ensures { told result (span start.new length.new) ≡ viewStringEntry table.now place (span start.old length.old) }
+    ensures { told result (span start.new length.new) ≡ view_string_entry table.now place (span start.old length.old) }
 {
     let RowAnswer::Is(r) = row_at(table, place as usize) else {
         return 1;
@@ -76,7 +76,7 @@ pub extern "C" fn jehvrukam_view_name(
     start: &mut u64,
     length: &mut u64,
 ) -> u32
-    ensures { told result (span start.new length.new) ≡ viewNameEntry table.now place (span start.old length.old) }
+    ensures { told result (span start.new length.new) ≡ view_name_entry table.now place (span start.old length.old) }
 {
     let RowAnswer::Is(r) = row_at(table, place as usize) else {
         return 1;

@@ -2,8 +2,8 @@
 use Rattle.std.proofs.Math.Option.{Option, none, some}
 use Rattle.std.specs.Prelude.{◌≡◌, ℕ, ◌≤◌, T, ℤ}
 use Rattle.model.specs.Rule.{Operation}
-use Rattle.model.specs.Shape.{Keyword as ModelKeyword, var, if, reduce, and, plusTime, extractFromUVCI, counted}
-use Rattle.model.specs.Value.{withinLimits}
+use Rattle.model.specs.Shape.{Keyword as ModelKeyword, var, if, reduce, and, plus_time, extract_from_uvci, counted}
+use Rattle.model.specs.Value.{within_limits}
 use Rattle.model.specs.declared.Comparison.{Comparison}
 use Rattle.model.specs.declared.Domain.{Domain}
 use Rattle.model.specs.declared.TimeUnit.{TimeUnit}
@@ -21,58 +21,58 @@ unit_of Units.NoUnit = none
 unit_of (Units.Unit u) = some u
 
 -- The operation in the model's terms. 2^53 was added to an amount or index.
-abbrev pub operationOf : Op → Operation
-operationOf Ops.Array = Operation.array
-operationOf Ops.Equal = Operation.equal
-operationOf Ops.MemberOf = Operation.memberOf
-operationOf Ops.Plus = Operation.plus
-operationOf Ops.Not = Operation.not
-operationOf Ops.DateOfBirth = Operation.dateOfBirth
-operationOf (Ops.Compare d c) = Operation.compare d c
-operationOf (Ops.PlusTime n u) = Operation.plusTime (unbiased n) u
-operationOf (Ops.ExtractFromUvci n) = Operation.extractFromUVCI (unbiased n)
+abbrev pub operation_of : Op → Operation
+operation_of Ops.Array = Operation.array
+operation_of Ops.Equal = Operation.equal
+operation_of Ops.MemberOf = Operation.member_of
+operation_of Ops.Plus = Operation.plus
+operation_of Ops.Not = Operation.not
+operation_of Ops.DateOfBirth = Operation.date_of_birth
+operation_of (Ops.Compare d c) = Operation.compare d c
+operation_of (Ops.PlusTime n u) = Operation.plus_time (unbiased n) u
+operation_of (Ops.ExtractFromUvci n) = Operation.extract_from_uvci (unbiased n)
 
 -- The keyword in the model's terms; none where no name fits.
-abbrev pub keywordOf : Keyword → Option ModelKeyword
-keywordOf Keywords.NoKeyword = none
-keywordOf Keywords.Var = some var
-keywordOf Keywords.If = some if
-keywordOf Keywords.Reduce = some reduce
-keywordOf Keywords.And = some and
-keywordOf Keywords.PlusTime = some plusTime
-keywordOf Keywords.ExtractFromUvci = some extractFromUVCI
-keywordOf (Keywords.Counted least most op) = some (counted least most (operationOf op))
+abbrev pub keyword_of : Keyword → Option ModelKeyword
+keyword_of Keywords.NoKeyword = none
+keyword_of Keywords.Var = some var
+keyword_of Keywords.If = some if
+keyword_of Keywords.Reduce = some reduce
+keyword_of Keywords.And = some and
+keyword_of Keywords.PlusTime = some plus_time
+keyword_of Keywords.ExtractFromUvci = some extract_from_uvci
+keyword_of (Keywords.Counted least most op) = some (counted least most (operation_of op))
 
 -- And back: the code's operation, and its keyword.
-abbrev pub opFor : Operation → Op
-opFor Operation.array = Ops.Array
-opFor Operation.equal = Ops.Equal
-opFor Operation.memberOf = Ops.MemberOf
-opFor Operation.plus = Ops.Plus
-opFor Operation.not = Ops.Not
-opFor Operation.dateOfBirth = Ops.DateOfBirth
-opFor (Operation.compare d c) = Ops.Compare d c
-opFor (Operation.plusTime z u) = Ops.PlusTime (biased z) u
-opFor (Operation.extractFromUVCI z) = Ops.ExtractFromUvci (biased z)
+abbrev pub op_for : Operation → Op
+op_for Operation.array = Ops.Array
+op_for Operation.equal = Ops.Equal
+op_for Operation.member_of = Ops.MemberOf
+op_for Operation.plus = Ops.Plus
+op_for Operation.not = Ops.Not
+op_for Operation.date_of_birth = Ops.DateOfBirth
+op_for (Operation.compare d c) = Ops.Compare d c
+op_for (Operation.plus_time z u) = Ops.PlusTime (biased z) u
+op_for (Operation.extract_from_uvci z) = Ops.ExtractFromUvci (biased z)
 
-abbrev pub keywordFor : Option ModelKeyword → Keyword
-keywordFor none = Keywords.NoKeyword
-keywordFor (some var) = Keywords.Var
-keywordFor (some if) = Keywords.If
-keywordFor (some reduce) = Keywords.Reduce
-keywordFor (some and) = Keywords.And
-keywordFor (some plusTime) = Keywords.PlusTime
-keywordFor (some extractFromUVCI) = Keywords.ExtractFromUvci
-keywordFor (some (counted least most o)) = Keywords.Counted least most (opFor o)
+abbrev pub keyword_for : Option ModelKeyword → Keyword
+keyword_for none = Keywords.NoKeyword
+keyword_for (some var) = Keywords.Var
+keyword_for (some if) = Keywords.If
+keyword_for (some reduce) = Keywords.Reduce
+keyword_for (some and) = Keywords.And
+keyword_for (some plus_time) = Keywords.PlusTime
+keyword_for (some extract_from_uvci) = Keywords.ExtractFromUvci
+keyword_for (some (counted least most o)) = Keywords.Counted least most (op_for o)
 
 -- The operation, with its number of operands as 01's table has it. 2^53 was added to an amount or index.
 pub data Stands : Op → Operation → ℕ → Type 0 where
-  stands-array : {n : ℕ} → Stands Ops.Array Operation.array n
-  stands-equal : {n : ℕ} → n ≡ 2 → Stands Ops.Equal Operation.equal n
-  stands-member-of : {n : ℕ} → n ≡ 2 → Stands Ops.MemberOf Operation.memberOf n
-  stands-plus : {n : ℕ} → n ≡ 2 → Stands Ops.Plus Operation.plus n
-  stands-not : {n : ℕ} → n ≡ 1 → Stands Ops.Not Operation.not n
-  stands-date-of-birth : {n : ℕ} → n ≡ 1 → Stands Ops.DateOfBirth Operation.dateOfBirth n
-  stands-compare : {n : ℕ} {d : Domain} {c : Comparison} → 2 ≤ n → n ≤ 3 → Stands (Ops.Compare d c) (Operation.compare d c) n
-  stands-plus-time : {n m : ℕ} {k : ℤ} {u : TimeUnit} → n ≡ 1 → T (withinLimits k) → m ≡ biased k → Stands (Ops.PlusTime m u) (Operation.plusTime k u) n
-  stands-extract : {n m : ℕ} {k : ℤ} → n ≡ 1 → T (withinLimits k) → m ≡ biased k → Stands (Ops.ExtractFromUvci m) (Operation.extractFromUVCI k) n
+  stands_array : {n : ℕ} → Stands Ops.Array Operation.array n
+  stands_equal : {n : ℕ} → n ≡ 2 → Stands Ops.Equal Operation.equal n
+  stands_member_of : {n : ℕ} → n ≡ 2 → Stands Ops.MemberOf Operation.member_of n
+  stands_plus : {n : ℕ} → n ≡ 2 → Stands Ops.Plus Operation.plus n
+  stands_not : {n : ℕ} → n ≡ 1 → Stands Ops.Not Operation.not n
+  stands_date_of_birth : {n : ℕ} → n ≡ 1 → Stands Ops.DateOfBirth Operation.date_of_birth n
+  stands_compare : {n : ℕ} {d : Domain} {c : Comparison} → 2 ≤ n → n ≤ 3 → Stands (Ops.Compare d c) (Operation.compare d c) n
+  stands_plus_time : {n m : ℕ} {k : ℤ} {u : TimeUnit} → n ≡ 1 → T (within_limits k) → m ≡ biased k → Stands (Ops.PlusTime m u) (Operation.plus_time k u) n
+  stands_extract : {n m : ℕ} {k : ℤ} → n ≡ 1 → T (within_limits k) → m ≡ biased k → Stands (Ops.ExtractFromUvci m) (Operation.extract_from_uvci k) n

@@ -1,13 +1,13 @@
 // The names of operations and units (01, Shape of a rule).
 ghost use Rattle.std.specs.Prelude.{cond, [], ◌∷◌, ◌≡◌, length};
 ghost use Rattle.std.proofs.Math.Option.{none};
-ghost use Rattle.model.specs.Bytes.{sameBytes};
-ghost use Rattle.model.specs.Shape.{keywords, keywordNamed, units, unitNamed};
-ghost use Rattle.bytes.specs.Names.{entry_at};
-ghost use Rattle.keywords.specs.Contract.{keywordOf, unit_of};
+ghost use Rattle.model.specs.Bytes.{same_bytes};
+ghost use Rattle.model.specs.Shape.{keywords, keyword_named, units, unit_named};
+ghost use Rattle.octets.specs.Names.{entry_at};
+ghost use Rattle.keywords.specs.Contract.{keyword_of, unit_of};
 
-use bytes::names::{Position, position_of};
-use bytes::same;
+use octets::names::{Position, position_of};
+use octets::same;
 use model::{Comparison, Domain, TimeUnit};
 
 // An operation that evaluates all operands first. 2^53 was added to an amount and an index.
@@ -73,7 +73,7 @@ fn compare(domain: Domain, comparison: Comparison) -> Keyword
 
 // The keyword at a place of 01's table. "The four date words, in the table's order, mean >, <, <=, >= on instants."
 fn keyword_at(i: usize) -> Keyword
-    ensures { keywordOf result ≡ entry_at keywords i }
+    ensures { keyword_of result ≡ entry_at keywords i }
 {
     match i {
         0 => Keyword::Var,
@@ -101,7 +101,7 @@ fn keyword_at(i: usize) -> Keyword
 
 // The keyword at a place of 01's table, if this name is the word there.
 fn spelled(name: &[u8], word: &[u8], i: usize) -> Keyword
-    ensures { keywordOf result ≡ cond (sameBytes name.now word.now) (entry_at keywords i) none }
+    ensures { keyword_of result ≡ cond (same_bytes name.now word.now) (entry_at keywords i) none }
 {
     if same(name, word) {
         return keyword_at(i);
@@ -111,7 +111,7 @@ fn spelled(name: &[u8], word: &[u8], i: usize) -> Keyword
 
 // The keyword whose name is one byte.
 fn of_one_byte(a: u8) -> Keyword
-    ensures { keywordOf result ≡ keywordNamed (a ∷ []) }
+    ensures { keyword_of result ≡ keyword_named (a ∷ []) }
 {
     match a {
         b'+' => keyword_at(5),
@@ -124,7 +124,7 @@ fn of_one_byte(a: u8) -> Keyword
 
 // The keyword whose name is two bytes.
 fn of_two_bytes(a: u8, b: u8) -> Keyword
-    ensures { keywordOf result ≡ keywordNamed (a ∷ b ∷ []) }
+    ensures { keyword_of result ≡ keyword_named (a ∷ b ∷ []) }
 {
     if b == b'=' {
         return match a {
@@ -146,7 +146,7 @@ fn of_two_bytes(a: u8, b: u8) -> Keyword
 // The keyword whose name is three bytes. The first byte leaves one word.
 fn of_three_bytes(name: &[u8]) -> Keyword
     requires { length name.now ≡ 3 }
-    ensures { keywordOf result ≡ keywordNamed name.now }
+    ensures { keyword_of result ≡ keyword_named name.now }
 {
     match name[0] {
         b'v' => spelled(name, b"var", 0),
@@ -159,7 +159,7 @@ fn of_three_bytes(name: &[u8]) -> Keyword
 // The keyword whose name is six bytes.
 fn of_six_bytes(name: &[u8]) -> Keyword
     requires { length name.now ≡ 6 }
-    ensures { keywordOf result ≡ keywordNamed name.now }
+    ensures { keyword_of result ≡ keyword_named name.now }
 {
     match name[0] {
         b'r' => spelled(name, b"reduce", 2),
@@ -170,7 +170,7 @@ fn of_six_bytes(name: &[u8]) -> Keyword
 
 // The keyword of this name. Few words have the same length.
 pub fn keyword_named(name: &[u8]) -> Keyword
-    ensures { keywordOf result ≡ keywordNamed name.now }
+    ensures { keyword_of result ≡ keyword_named name.now }
 {
     match name.len() {
         1 => of_one_byte(name[0]),
@@ -202,7 +202,7 @@ fn unit_at(i: usize) -> UnitAnswer
 
 // The unit of this name.
 pub fn unit_named(name: &[u8]) -> UnitAnswer
-    ensures { unit_of result ≡ unitNamed name.now }
+    ensures { unit_of result ≡ unit_named name.now }
 {
     let names = b"year month day hour ";
     let sizes = [4, 5, 3, 4];

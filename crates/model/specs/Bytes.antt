@@ -20,30 +20,30 @@ abbrev pub byte : String → ℕ
 byte s = code (char_at s 0)
 
 -- 01, Reading: "Names and strings are equal when their decoded UTF-8 bytes are."
-abbrev pub sameBytes : Bytes → Bytes → Bool
-sameBytes [] [] = true
-sameBytes [] (y ∷ t) = false
-sameBytes (x ∷ s) [] = false
-sameBytes (x ∷ s) (y ∷ t) = eqb x y && sameBytes s t
+abbrev pub same_bytes : Bytes → Bytes → Bool
+same_bytes [] [] = true
+same_bytes [] (y ∷ t) = false
+same_bytes (x ∷ s) [] = false
+same_bytes (x ∷ s) (y ∷ t) = eqb x y && same_bytes s t
 
-abbrev pub isDigit : ℕ → Bool
-isDigit x = leb (byte "0") x && leb x (byte "9")
+abbrev pub is_digit : ℕ → Bool
+is_digit x = leb (byte "0") x && leb x (byte "9")
 
 -- The number that a digit stands for.
-abbrev pub digitValue : ℕ → ℕ
-digitValue x = x - byte "0"
+abbrev pub digit_value : ℕ → ℕ
+digit_value x = x - byte "0"
 
 -- A number's last decimal digit.
-abbrev pub digitByte : ℕ → ℕ
-digitByte n = byte "0" + n % 10
+abbrev pub digit_byte : ℕ → ℕ
+digit_byte n = byte "0" + n % 10
 
 -- The fragments of a string between its separators. A string without a separator is one fragment, "" too.
-abbrev pub consHead : ℕ → List Bytes → List Bytes
-consHead x [] = (x ∷ []) ∷ []
-consHead x (f ∷ fs) = (x ∷ f) ∷ fs
+abbrev pub cons_head : ℕ → List Bytes → List Bytes
+cons_head x [] = (x ∷ []) ∷ []
+cons_head x (f ∷ fs) = (x ∷ f) ∷ fs
 
-abbrev pub splitOn : (ℕ → Bool) → Bytes → List Bytes
-splitOn separator [] = [] ∷ []
-splitOn separator (x ∷ s) =
-    let fragments = splitOn separator s in
-    cond (separator x) ([] ∷ fragments) (consHead x fragments)
+abbrev pub split_on : (ℕ → Bool) → Bytes → List Bytes
+split_on separator [] = [] ∷ []
+split_on separator (x ∷ s) =
+    let fragments = split_on separator s in
+    cond (separator x) ([] ∷ fragments) (cons_head x fragments)

@@ -4,11 +4,11 @@ use Rattle.std.specs.Prelude.{ℕ, zero, suc}
 use Rattle.model.specs.Eval.{Outcome, value, refusal, context}
 use Rattle.model.specs.Operations.{operate}
 use Rattle.model.specs.Path.{value_at}
-use Rattle.model.specs.Refusal.{EvalFault, fault, wrongKind, outOfSteps}
+use Rattle.model.specs.Refusal.{EvalFault, fault, wrong_kind, out_of_steps}
 use Rattle.model.specs.Result.{Result, ok, refuse, required}
-use Rattle.model.specs.Rule.{Rule, literal, var, if, and, reduce, apply, Rules, no-rules, rule, literalValue}
+use Rattle.model.specs.Rule.{Rule, literal, var, if, and, reduce, apply, Rules, no_rules, rule, literal_value}
 use Rattle.model.specs.Truth.{Truth, truthy, falsy, neither, truth}
-use Rattle.model.specs.Value.{Value, Values, no_items, item, asArray}
+use Rattle.model.specs.Value.{Value, Values, no_items, item, as_array}
 
 -- How a run ends, and the steps that are left.
 pub data Plain (A : Type 0) : Type 0 where
@@ -26,7 +26,7 @@ lift (refuse e) = denies (fault e)
 
 -- One step and then the run; refusal 10 where none is left.
 abbrev pub step : {A : Type 0} → PlainRun A → PlainRun A
-step m zero = denies outOfSteps zero
+step m zero = denies out_of_steps zero
 step m (suc n) = m n
 
 -- One run and then another, with the steps that the first left.
@@ -44,10 +44,10 @@ branch truthy second third = second
 branch falsy second third = third
 branch neither second third = third
 
-abbrev pub goOn : Truth → Value → PlainRun Value → PlainRun Value
-goOn truthy v next = next
-goOn falsy v next = gives v
-goOn neither v next = denies (fault wrongKind)
+abbrev pub go_on : Truth → Value → PlainRun Value → PlainRun Value
+go_on truthy v next = next
+go_on falsy v next = gives v
+go_on neither v next = denies (fault wrong_kind)
 
 abbrev pub fold : (Value → Value → PlainRun Value) → Values → Value → PlainRun Value
 fold f no_items acc = gives acc
@@ -57,47 +57,47 @@ fold f (item v vs) acc = do
 
 -- What a rule does in a context after its own step.
 unfoldable mutual
-  pub plainBody : Rule → Value → PlainRun Value
-  plainBody (literal l) c = gives (literalValue l)
-  plainBody (var q) c = gives (value_at q c)
-  plainBody (if guard second third) c = do
-    v ← step (plainBody guard c)
-    branch (truth v) (step (plainBody second c)) (step (plainBody third c))
-  plainBody (and r rs) c = do
-    v ← step (plainBody r c)
-    plainAnd rs c v
-  plainBody (reduce r lambda initial) c = do
-    v ← step (plainBody r c)
-    i ← step (plainBody initial c)
-    vs ← lift (required wrongKind (asArray v))
-    fold (λ cur acc. step (plainBody lambda (context cur acc))) vs i
-  plainBody (apply o rs) c = do
-    vs ← plainAll rs c
+  pub plain_body : Rule → Value → PlainRun Value
+  plain_body (literal l) c = gives (literal_value l)
+  plain_body (var q) c = gives (value_at q c)
+  plain_body (if guard second third) c = do
+    v ← step (plain_body guard c)
+    branch (truth v) (step (plain_body second c)) (step (plain_body third c))
+  plain_body (and r rs) c = do
+    v ← step (plain_body r c)
+    plain_and rs c v
+  plain_body (reduce r lambda initial) c = do
+    v ← step (plain_body r c)
+    i ← step (plain_body initial c)
+    vs ← lift (required wrong_kind (as_array v))
+    fold (λ cur acc. step (plain_body lambda (context cur acc))) vs i
+  plain_body (apply o rs) c = do
+    vs ← plain_all rs c
     lift (operate o vs)
 
   -- The values of all operands.
-  pub plainAll : Rules → Value → PlainRun Values
-  plainAll no-rules c = gives no_items
-  plainAll (rule r rs) c = do
-    v ← step (plainBody r c)
-    vs ← plainAll rs c
+  pub plain_all : Rules → Value → PlainRun Values
+  plain_all no_rules c = gives no_items
+  plain_all (rule r rs) c = do
+    v ← step (plain_body r c)
+    vs ← plain_all rs c
     gives (item v vs)
 
   -- `and` that has met the value v, with these operands left.
-  pub plainAnd : Rules → Value → Value → PlainRun Value
-  plainAnd no-rules c v = goOn (truth v) v (gives v)
-  plainAnd (rule r rs) c v =
-      goOn (truth v) v (do
-        w ← step (plainBody r c)
-        plainAnd rs c w)
+  pub plain_and : Rules → Value → Value → PlainRun Value
+  plain_and no_rules c v = go_on (truth v) v (gives v)
+  plain_and (rule r rs) c v =
+      go_on (truth v) v (do
+        w ← step (plain_body r c)
+        plain_and rs c w)
 
 -- A rule evaluated in a context: a whole rule on a record, from its limit.
-abbrev pub evalPlain : Rule → Value → PlainRun Value
-evalPlain r c = step (plainBody r c)
+abbrev pub eval_plain : Rule → Value → PlainRun Value
+eval_plain r c = step (plain_body r c)
 
-abbrev pub plainOutcome : Plain Value → Outcome
-plainOutcome (gives v n) = value v
-plainOutcome (denies e n) = refusal e
+abbrev pub plain_outcome : Plain Value → Outcome
+plain_outcome (gives v n) = value v
+plain_outcome (denies e n) = refusal e
 
 abbrev pub left : {A : Type 0} → Plain A → ℕ
 left (gives a n) = n

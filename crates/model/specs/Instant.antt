@@ -1,16 +1,16 @@
 -- Instant: a count of milliseconds from 1970-01-01 (Gregorian, no leap seconds), within a range.
 use Rattle.std.specs.Prelude.{Bool, ◌&&◌, ℕ, suc, ◌+◌, ◌-◌, ℤ, pos, negsuc, ◌+ℤ◌, neg_ℤ}
 use Rattle.std.specs.Int.Signed.{le_z}
-use Rattle.model.specs.Refusal.{outOfRange}
+use Rattle.model.specs.Refusal.{out_of_range}
 use Rattle.model.specs.Result.{Result, ok, provided}
 
 -- The milliseconds from 0000-01-01 to 1970-01-01.
-abbrev pub msBefore1970 : ℕ
-msBefore1970 = 62167219200000
+abbrev pub ms_before1970 : ℕ
+ms_before1970 = 62167219200000
 
 -- 01, Dates: "The earliest and the latest instant": the start of 0000-01-01 and the last millisecond of 9999-12-31.
 abbrev pub earliest : ℤ
-earliest = neg_ℤ (pos msBefore1970)
+earliest = neg_ℤ (pos ms_before1970)
 
 abbrev pub latest : ℤ
 latest = pos 253402300799999
@@ -20,18 +20,18 @@ in_range t = le_z earliest t && le_z t latest
 
 -- 01, Dates: instants "must both lie between, else 9".
 abbrev pub ranged : ℤ → Result ℤ
-ranged t = provided (in_range t) outOfRange (ok t)
+ranged t = provided (in_range t) out_of_range (ok t)
 
-abbrev pub msPerDay : ℕ
-msPerDay = 86400000
+abbrev pub ms_per_day : ℕ
+ms_per_day = 86400000
 
-abbrev pub msPerHour : ℕ
-msPerHour = 3600000
+abbrev pub ms_per_hour : ℕ
+ms_per_hour = 3600000
 
 -- From milliseconds since 0000-01-01 to an instant, and back from an instant in range.
-abbrev pub fromYear0 : ℕ → ℤ
-fromYear0 u = pos u +ℤ earliest
+abbrev pub from_year0 : ℕ → ℤ
+from_year0 u = pos u +ℤ earliest
 
-abbrev pub sinceYear0 : ℤ → ℕ
-sinceYear0 (pos n) = n + msBefore1970
-sinceYear0 (negsuc n) = msBefore1970 - suc n
+abbrev pub since_year0 : ℤ → ℕ
+since_year0 (pos n) = n + ms_before1970
+since_year0 (negsuc n) = ms_before1970 - suc n

@@ -1,30 +1,30 @@
 -- InstantText: 01, Writing: "An instant's text is a fixed record of 24 bytes", as 2020-03-02T00:00:00.000Z.
 use Rattle.std.specs.Prelude.{[], ◌∷◌, ◌++◌, ℕ, ◌/◌, ◌%◌, ℤ}
-use Rattle.model.specs.Bytes.{Bytes, ascii, digitByte}
-use Rattle.model.specs.Calendar.{dateOfDay}
-use Rattle.model.specs.Instant.{sinceYear0, msPerDay}
+use Rattle.model.specs.Bytes.{Bytes, ascii, digit_byte}
+use Rattle.model.specs.Calendar.{date_of_day}
+use Rattle.model.specs.Instant.{since_year0, ms_per_day}
 use Rattle.model.specs.declared.Date.{Date}
 
 -- A number's last two decimal digits, its last three and four.
 abbrev pub digits2 : ℕ → Bytes
-digits2 n = digitByte (n / 10) ∷ digitByte n ∷ []
+digits2 n = digit_byte (n / 10) ∷ digit_byte n ∷ []
 
 abbrev pub digits3 : ℕ → Bytes
-digits3 n = digitByte (n / 100) ∷ digits2 n
+digits3 n = digit_byte (n / 100) ∷ digits2 n
 
 abbrev pub digits4 : ℕ → Bytes
-digits4 n = digitByte (n / 1000) ∷ digits3 n
+digits4 n = digit_byte (n / 1000) ∷ digits3 n
 
-abbrev pub dateDigits : Date → Bytes
-dateDigits w = digits4 w.year ++ (ascii "-" ++ (digits2 w.month ++ (ascii "-" ++ digits2 w.day)))
+abbrev pub date_digits : Date → Bytes
+date_digits w = digits4 w.year ++ (ascii "-" ++ (digits2 w.month ++ (ascii "-" ++ digits2 w.day)))
 
 -- Of a time of day in milliseconds.
-abbrev pub timeDigits : ℕ → Bytes
-timeDigits t =
+abbrev pub time_digits : ℕ → Bytes
+time_digits t =
     digits2 (t / 3600000)
     ++ (ascii ":" ++ (digits2 (t / 60000 % 60) ++ (ascii ":" ++ (digits2 (t / 1000 % 60) ++ (ascii "." ++ digits3 (t % 1000))))))
 
-unfoldable pub instantText : ℤ → Bytes
-instantText t =
-    let u = sinceYear0 t in
-    dateDigits (dateOfDay (u / msPerDay)) ++ (ascii "T" ++ (timeDigits (u % msPerDay) ++ ascii "Z"))
+unfoldable pub instant_text : ℤ → Bytes
+instant_text t =
+    let u = since_year0 t in
+    date_digits (date_of_day (u / ms_per_day)) ++ (ascii "T" ++ (time_digits (u % ms_per_day) ++ ascii "Z"))

@@ -4,14 +4,14 @@ use Rattle.std.specs.Prelude.{cond, ℕ, ltb, length}
 use Rattle.std.proofs.Math.Option.{Option, none, some}
 use Rattle.model.specs.Bytes.{Bytes}
 use Rattle.model.specs.Eval.{run, Outcome, value, refusal, outcome}
-use Rattle.model.specs.Refusal.{Refusal, number, notRule, notSheet, evaluating, answerTooLarge, outputTooShort}
+use Rattle.model.specs.Refusal.{Refusal, number, not_rule, not_sheet, evaluating, answer_too_large, output_too_short}
 use Rattle.model.specs.Rule.{Rule}
 use Rattle.model.specs.Run.{steps}
 use Rattle.model.specs.Shape.{shape}
-use Rattle.model.specs.Sheet.{Sheet, sheetOf}
-use Rattle.model.specs.Size.{isTooLarge}
+use Rattle.model.specs.Sheet.{Sheet, sheet_of}
+use Rattle.model.specs.Size.{is_too_large}
 use Rattle.model.specs.Value.{Value}
-use Rattle.model.specs.Writing.{valueText}
+use Rattle.model.specs.Writing.{value_text}
 
 -- A result, or the refusal that is given.
 pub data Judged (A : Type 0) : Type 0 where
@@ -19,40 +19,40 @@ pub data Judged (A : Type 0) : Type 0 where
   refuses : Refusal → Judged A
 
 -- 01, What comes back: 0 is "done", any other number a refusal.
-abbrev pub judgedNumber : {A : Type 0} → Judged A → ℕ
-judgedNumber (done a) = 0
-judgedNumber (refuses e) = number e
+abbrev pub judged_number : {A : Type 0} → Judged A → ℕ
+judged_number (done a) = 0
+judged_number (refuses e) = number e
 
-abbrev pub orRefuse : {A : Type 0} → Refusal → Option A → Judged A
-orRefuse e none = refuses e
-orRefuse e (some a) = done a
+abbrev pub or_refuse : {A : Type 0} → Refusal → Option A → Judged A
+or_refuse e none = refuses e
+or_refuse e (some a) = done a
 
 -- 6: "the text reads, but is not a rule"
-abbrev pub ruleIn : Value → Judged Rule
-ruleIn v = orRefuse notRule (shape v)
+abbrev pub rule_in : Value → Judged Rule
+rule_in v = or_refuse not_rule (shape v)
 
 -- 14: "the text reads, but is not a sheet"
-abbrev pub sheetIn : Value → Judged Sheet
-sheetIn v = orRefuse notSheet (sheetOf v)
+abbrev pub sheet_in : Value → Judged Sheet
+sheet_in v = or_refuse not_sheet (sheet_of v)
 
 -- An answer's text, for an output area of some bytes: 11, then 12, "the answer's text is longer than the output area".
-abbrev pub writtenWithin : ℕ → Value → Judged Bytes
-writtenWithin room v =
-    cond (isTooLarge v) (refuses answerTooLarge)
-    (cond (ltb room (length (valueText v))) (refuses outputTooShort)
-    (done (valueText v)))
+abbrev pub written_within : ℕ → Value → Judged Bytes
+written_within room v =
+    cond (is_too_large v) (refuses answer_too_large)
+    (cond (ltb room (length (value_text v))) (refuses output_too_short)
+    (done (value_text v)))
 
 -- What evaluation gave, written; its own refusals stay.
 abbrev pub written : ℕ → Outcome → Judged Bytes
-written room (value v) = writtenWithin room v
+written room (value v) = written_within room v
 written room (refusal e) = refuses (evaluating e)
 
 -- What comes back with a number of steps.
 pub record Answer : Type 0 where
   pub result : Judged Bytes
-  pub stepsBegun : ℕ
+  pub steps_begun : ℕ
 
 -- A rule evaluated on a record under a limit, with an output area of some bytes. The steps begun are told with every refusal, 11 and 12 too.
 abbrev pub answer_of : Rule → Value → ℕ → ℕ → Answer
 answer_of r record' limit room =
-    record { result = written room (outcome (run r record' limit)); stepsBegun = steps (run r record' limit) }
+    record { result = written room (outcome (run r record' limit)); steps_begun = steps (run r record' limit) }

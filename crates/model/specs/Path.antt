@@ -1,49 +1,49 @@
 -- Path: what `var` and the names of a sheet say, and where it leads in a value.
 use Rattle.std.specs.Prelude.{Bool, true, false, ◌&&◌, not, cond, List, [], ◌∷◌, ℕ, zero, suc, ◌+◌, ◌*◌, eqb}
 use Rattle.std.proofs.Math.Option.{Option, none, some}
-use Rattle.model.specs.Bytes.{Bytes, byte, sameBytes, isDigit, digitValue, splitOn}
+use Rattle.model.specs.Bytes.{Bytes, byte, same_bytes, is_digit, digit_value, split_on}
 use Rattle.model.specs.Lists.{all}
 use Rattle.model.specs.Option.{◌>>=◌, when, or_else}
-use Rattle.model.specs.Value.{Value, scalar, instant, array, object, null, Values, no_items, item, Members, no-members, member}
+use Rattle.model.specs.Value.{Value, scalar, instant, array, object, null, Values, no_items, item, Members, no_members, member}
 
 -- The fragments, outermost first.
 abbrev pub Path : Type 0
 Path = List Bytes
 
-abbrev isNonEmpty : Bytes → Bool
-isNonEmpty [] = false
-isNonEmpty (x ∷ s) = true
+abbrev is_non_empty : Bytes → Bool
+is_non_empty [] = false
+is_non_empty (x ∷ s) = true
 
--- 01, Shape: "empty, or non-empty fragments parted by dots".
-abbrev pub pathOf : Bytes → Option Path
-pathOf [] = some []
-pathOf (x ∷ s) =
-    let fragments = splitOn (eqb (byte ".")) (x ∷ s) in
-    when (all isNonEmpty fragments) (some fragments)
+-- 01, Shape: "empty, or non_empty_lem fragments parted by dots".
+abbrev pub path_of : Bytes → Option Path
+path_of [] = some []
+path_of (x ∷ s) =
+    let fragments = split_on (eqb (byte ".")) (x ∷ s) in
+    when (all is_non_empty fragments) (some fragments)
 
-abbrev pub samePath : Path → Path → Bool
-samePath [] [] = true
-samePath [] (g ∷ r) = false
-samePath (f ∷ q) [] = false
-samePath (f ∷ q) (g ∷ r) = sameBytes f g && samePath q r
+abbrev pub same_path : Path → Path → Bool
+same_path [] [] = true
+same_path [] (g ∷ r) = false
+same_path (f ∷ q) [] = false
+same_path (f ∷ q) (g ∷ r) = same_bytes f g && same_path q r
 
 -- ---- one fragment
 -- 01, `var`: "on an object a fragment names a member".
-abbrev pub memberNamed : Bytes → Members → Option Value
-memberNamed f no-members = none
-memberNamed f (member name v ms) =
-    let later = memberNamed f ms in
-    cond (sameBytes f name) (some v) later
+abbrev pub member_named : Bytes → Members → Option Value
+member_named f no_members = none
+member_named f (member name v ms) =
+    let later = member_named f ms in
+    cond (same_bytes f name) (some v) later
 
 -- "on an array, 0 or digits without a leading zero are an index"
-abbrev pub decimalFrom : ℕ → Bytes → Option ℕ
-decimalFrom n [] = some n
-decimalFrom n (x ∷ s) = when (isDigit x) (decimalFrom (n * 10 + digitValue x) s)
+abbrev pub decimal_from : ℕ → Bytes → Option ℕ
+decimal_from n [] = some n
+decimal_from n (x ∷ s) = when (is_digit x) (decimal_from (n * 10 + digit_value x) s)
 
 abbrev pub index_of : Bytes → Option ℕ
 index_of [] = none
-index_of (x ∷ []) = decimalFrom 0 (x ∷ [])
-index_of (x ∷ y ∷ s) = when (not (eqb x (byte "0"))) (decimalFrom 0 (x ∷ y ∷ s))
+index_of (x ∷ []) = decimal_from 0 (x ∷ [])
+index_of (x ∷ y ∷ s) = when (not (eqb x (byte "0"))) (decimal_from 0 (x ∷ y ∷ s))
 
 abbrev pub item_at : Values → ℕ → Option Value
 item_at no_items k = none
@@ -55,7 +55,7 @@ abbrev pub part : Bytes → Value → Option Value
 part f (scalar x) = none
 part f (instant t) = none
 part f (array vs) = index_of f >>= item_at vs
-part f (object ms) = memberNamed f ms
+part f (object ms) = member_named f ms
 
 -- ---- a whole path
 -- The value at a path; none where it is absent. The empty path leads to the whole.

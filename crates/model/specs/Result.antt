@@ -1,7 +1,7 @@
 -- Result: what an operation gives on the values of its operands, or the fault that refuses it; chained by `do`.
 use Rattle.std.specs.Prelude.{Bool, true, false, ℕ}
 use Rattle.std.proofs.Math.Option.{Option, none, some}
-use Rattle.model.specs.Refusal.{Fault, faultNumber}
+use Rattle.model.specs.Refusal.{Fault, fault_number}
 
 pub data Result (A : Type 0) : Type 0 where
   ok : A → Result A
@@ -22,11 +22,11 @@ abbrev pub provided : {A : Type 0} → Bool → Fault → Result A → Result A
 provided true e r = r
 provided false e r = refuse e
 
-abbrev pub isOk : {A : Type 0} → Result A → Bool
-isOk (ok a) = true
-isOk (refuse e) = false
+abbrev pub is_ok : {A : Type 0} → Result A → Bool
+is_ok (ok a) = true
+is_ok (refuse e) = false
 
 -- 01's number: 0 is "done".
-abbrev pub resultNumber : {A : Type 0} → Result A → ℕ
-resultNumber (ok a) = 0
-resultNumber (refuse e) = faultNumber e
+abbrev pub result_number : {A : Type 0} → Result A → ℕ
+result_number (ok a) = 0
+result_number (refuse e) = fault_number e

@@ -18,13 +18,13 @@ pub data Literal : Type 0 where
 pub data Operation : Type 0 where
   array : Operation
   equal : Operation  -- ===
-  memberOf : Operation  -- in
+  member_of : Operation  -- in
   plus : Operation  -- +
   not : Operation  -- !
-  dateOfBirth : Operation  -- dccDateOfBirth
+  date_of_birth : Operation  -- dccDateOfBirth
   compare : Domain → Comparison → Operation
-  plusTime : ℤ → TimeUnit → Operation
-  extractFromUVCI : ℤ → Operation
+  plus_time : ℤ → TimeUnit → Operation
+  extract_from_uvci : ℤ → Operation
 
 mutual
   pub data Rule : Type 0 where
@@ -36,11 +36,11 @@ mutual
     apply : Operation → Rules → Rule
 
   pub data Rules : Type 0 where
-    no-rules : Rules
+    no_rules : Rules
     rule : Rule → Rules → Rules
 
 -- The value of a literal.
-abbrev pub literalValue : Literal → Value
-literalValue (boolean b) = scalar (Scalar.boolean b)
-literalValue (integer z) = scalar (Scalar.integer z)
-literalValue (string s) = scalar (Scalar.string s)
+abbrev pub literal_value : Literal → Value
+literal_value (boolean b) = scalar (Scalar.boolean b)
+literal_value (integer z) = scalar (Scalar.integer z)
+literal_value (string s) = scalar (Scalar.string s)

@@ -1,7 +1,7 @@
 -- Run: a computation that begins rules under a step limit and names each rule that it begins; chained by `do`.
 use mathlib.Core.List.{List, [], ◌∷◌, ◌++◌, Memᴰ, reverse}
 use Rattle.std.specs.Prelude.{ℕ, zero, suc, length}
-use Rattle.model.specs.Refusal.{EvalFault, fault, outOfSteps}
+use Rattle.model.specs.Refusal.{EvalFault, fault, out_of_steps}
 use Rattle.model.specs.Result.{Result, ok, refuse}
 
 -- 01, Evaluation: "A rule is named by its place": the path of operand positions, from 0, that leads to it from the root.
@@ -51,7 +51,7 @@ lift (refuse e) = refused (fault e)
 
 -- One step begins the rule of this name; refusal 10 where none is left: "one step more than the limit would be needed".
 abbrev pub begin : {A : Type 0} → Name → Run A → Run A
-begin p m zero = failed outOfSteps []
+begin p m zero = failed out_of_steps []
 begin p m (suc n) = log (p ∷ []) (m n)
 
 -- One run and then another, with the steps that the first left.

@@ -2,12 +2,12 @@
 -- The steps of each `do` stand in text order: the operation's name, the number of its operands, then these from left to right.
 use Rattle.std.specs.Prelude.{◌&&◌, List, [], ◌∷◌, ℕ, leb, length}
 use Rattle.std.proofs.Math.Option.{Option, none, some}
-use Rattle.model.specs.Bytes.{Bytes, ascii, sameBytes}
+use Rattle.model.specs.Bytes.{Bytes, ascii, same_bytes}
 use Rattle.model.specs.Lists.{find}
 use Rattle.model.specs.Option.{◌>>=◌, when}
-use Rattle.model.specs.Path.{pathOf}
-use Rattle.model.specs.Rule.{Literal, Operation, Rule, literal, apply, Rules, no-rules, rule}
-use Rattle.model.specs.Value.{Value, scalar, instant, array, object, Scalar, null, boolean, integer, string, Values, no_items, item, Members, no-members, member, asInteger, asString}
+use Rattle.model.specs.Path.{path_of}
+use Rattle.model.specs.Rule.{Literal, Operation, Rule, literal, apply, Rules, no_rules, rule}
+use Rattle.model.specs.Value.{Value, scalar, instant, array, object, Scalar, null, boolean, integer, string, Values, no_items, item, Members, no_members, member, as_integer, as_string}
 use Rattle.model.specs.declared.Comparison.TheVariants.{Greater, Less, GreaterOrEqual, LessOrEqual}
 use Rattle.model.specs.declared.TimeUnit.{TimeUnit}
 use Rattle.model.specs.declared.TimeUnit.TheVariants.{Year, Month, Day, Hour}
@@ -16,7 +16,7 @@ use Rattle.model.specs.declared.Domain.TheVariants.{OnIntegers, OnInstants}
 -- ---- names
 -- How an operation is written. `counted least most o` has from `least` to `most` rules as operands.
 pub data Keyword : Type 0 where
-  var if reduce and plusTime extractFromUVCI : Keyword
+  var if reduce and plus_time extract_from_uvci : Keyword
   counted : ℕ → ℕ → Operation → Keyword
 
 -- 01's table of operations. "The four date words, in the table's order, mean >, <, <=, >= on instants."
@@ -26,7 +26,7 @@ keywords =
     ∷ (ascii "if", if)
     ∷ (ascii "reduce", reduce)
     ∷ (ascii "===", counted 2 2 Operation.equal)
-    ∷ (ascii "in", counted 2 2 Operation.memberOf)
+    ∷ (ascii "in", counted 2 2 Operation.member_of)
     ∷ (ascii "+", counted 2 2 Operation.plus)
     ∷ (ascii "and", and)
     ∷ (ascii ">", counted 2 3 (Operation.compare OnIntegers Greater))
@@ -38,34 +38,34 @@ keywords =
     ∷ (ascii "not-after", counted 2 3 (Operation.compare OnInstants LessOrEqual))
     ∷ (ascii "not-before", counted 2 3 (Operation.compare OnInstants GreaterOrEqual))
     ∷ (ascii "!", counted 1 1 Operation.not)
-    ∷ (ascii "dccDateOfBirth", counted 1 1 Operation.dateOfBirth)
-    ∷ (ascii "plusTime", plusTime)
-    ∷ (ascii "extractFromUVCI", extractFromUVCI)
+    ∷ (ascii "dccDateOfBirth", counted 1 1 Operation.date_of_birth)
+    ∷ (ascii "plus_time", plus_time)
+    ∷ (ascii "extract_from_uvci", extract_from_uvci)
     ∷ []
 
 -- A name that is none of these is no operation.
-abbrev pub keywordNamed : Bytes → Option Keyword
-keywordNamed s = find (sameBytes s) keywords
+abbrev pub keyword_named : Bytes → Option Keyword
+keyword_named s = find (same_bytes s) keywords
 
 -- "one of "year" "month" "day" "hour""
 abbrev pub units : List (Bytes × TimeUnit)
 units = (ascii "year", Year) ∷ (ascii "month", Month) ∷ (ascii "day", Day) ∷ (ascii "hour", Hour) ∷ []
 
-abbrev pub unitNamed : Bytes → Option TimeUnit
-unitNamed s = find (sameBytes s) units
+abbrev pub unit_named : Bytes → Option TimeUnit
+unit_named s = find (same_bytes s) units
 
 -- ---- operands
 -- An item of an array, with the rule that it is, if it is one.
 pub record Operand : Type 0 where
   pub value : Value
-  pub asRule : Option Rule
+  pub as_rule : Option Rule
 
 -- The rules that all operands are.
-abbrev pub rulesOf : List Operand → Option Rules
-rulesOf [] = some no-rules
-rulesOf (a ∷ l) = do
-  r ← a.asRule
-  rs ← rulesOf l
+abbrev pub rules_of : List Operand → Option Rules
+rules_of [] = some no_rules
+rules_of (a ∷ l) = do
+  r ← a.as_rule
+  rs ← rules_of l
   some (rule r rs)
 
 -- What a function gives on exactly two elements, on exactly three; none for any other number.
@@ -83,54 +83,54 @@ exactly3 (a ∷ b ∷ c ∷ []) f = f a b c
 exactly3 (a ∷ b ∷ c ∷ d ∷ l) f = none
 
 -- `and` of two or more rules.
-abbrev pub andOf : Rules → Option Rule
-andOf no-rules = none
-andOf (rule r rs) = some (Rule.and r rs)
+abbrev pub and_of : Rules → Option Rule
+and_of no_rules = none
+and_of (rule r rs) = some (Rule.and r rs)
 
 -- The rule of a keyword and its operands; `var` has none.
 abbrev pub with_operands : Keyword → List Operand → Option Rule
 with_operands var l = none
 with_operands if l =
     exactly3 l λ guard yes no. do
-      g ← guard.asRule
-      a ← yes.asRule
-      b ← no.asRule
+      g ← guard.as_rule
+      a ← yes.as_rule
+      b ← no.as_rule
       some (Rule.if g a b)
 with_operands reduce l =
     exactly3 l λ operand lambda initial. do
-      a ← operand.asRule
-      f ← lambda.asRule
-      i ← initial.asRule
+      a ← operand.as_rule
+      f ← lambda.as_rule
+      i ← initial.as_rule
       some (Rule.reduce a f i)
-with_operands and l = when (leb 2 (length l)) (rulesOf l >>= andOf)
-with_operands plusTime l =
+with_operands and l = when (leb 2 (length l)) (rules_of l >>= and_of)
+with_operands plus_time l =
     exactly3 l λ operand amount unit. do
-      r ← operand.asRule
-      n ← asInteger amount.value
-      s ← asString unit.value
-      u ← unitNamed s
-      some (apply (Operation.plusTime n u) (rule r no-rules))
-with_operands extractFromUVCI l =
+      r ← operand.as_rule
+      n ← as_integer amount.value
+      s ← as_string unit.value
+      u ← unit_named s
+      some (apply (Operation.plus_time n u) (rule r no_rules))
+with_operands extract_from_uvci l =
     exactly2 l λ operand index. do
-      r ← operand.asRule
-      n ← asInteger index.value
-      some (apply (Operation.extractFromUVCI n) (rule r no-rules))
+      r ← operand.as_rule
+      n ← as_integer index.value
+      some (apply (Operation.extract_from_uvci n) (rule r no_rules))
 with_operands (counted least most o) l =
     when (leb least (length l) && leb (length l) most) (do
-      rs ← rulesOf l
+      rs ← rules_of l
       some (apply o rs))
 
 -- 01: `var` takes "a string itself, not an array".
-abbrev pub withString : Keyword → Bytes → Option Rule
-withString var s = do
-  q ← pathOf s
+abbrev pub with_string : Keyword → Bytes → Option Rule
+with_string var s = do
+  q ← path_of s
   some (Rule.var q)
-withString if s = none
-withString reduce s = none
-withString and s = none
-withString plusTime s = none
-withString extractFromUVCI s = none
-withString (counted least most o) s = none
+with_string if s = none
+with_string reduce s = none
+with_string and s = none
+with_string plus_time s = none
+with_string extract_from_uvci s = none
+with_string (counted least most o) s = none
 
 -- ---- values
 -- What stands as the content of an operation's member.
@@ -140,50 +140,50 @@ pub data Content : Type 0 where
   other : Content
 
 -- A string is the operand of `var`; no other scalar stands as content.
-abbrev pub scalarContent : Scalar → Content
-scalarContent null = other
-scalarContent (boolean b) = other
-scalarContent (integer z) = other
-scalarContent (string s) = text s
+abbrev pub scalar_content : Scalar → Content
+scalar_content null = other
+scalar_content (boolean b) = other
+scalar_content (integer z) = other
+scalar_content (string s) = text s
 
 -- `var` wants a string, every other keyword operands in an array.
 abbrev pub build : Content → Keyword → Option Rule
-build (text s) o = withString o s
+build (text s) o = with_string o s
 build (list l) o = with_operands o l
 build other o = none
 
 -- "A boolean, integer or string"; "Null is no rule."
-abbrev pub literalShape : Scalar → Option Rule
-literalShape null = none
-literalShape (boolean b) = some (literal (Literal.boolean b))
-literalShape (integer z) = some (literal (Literal.integer z))
-literalShape (string s) = some (literal (Literal.string s))
+abbrev pub literal_shape : Scalar → Option Rule
+literal_shape null = none
+literal_shape (boolean b) = some (literal (Literal.boolean b))
+literal_shape (integer z) = some (literal (Literal.integer z))
+literal_shape (string s) = some (literal (Literal.string s))
 
 -- 01: "A boolean, integer or string; an array of rules (possibly empty); or an object with exactly one member, named for an operation,
 -- with these operands in an array." "Null is no rule."
 unfoldable mutual
   pub shape : Value → Option Rule
-  shape (scalar x) = literalShape x
+  shape (scalar x) = literal_shape x
   shape (instant t) = none
   shape (array vs) = do
-    rs ← rulesOf (operandsOf vs)
+    rs ← rules_of (operands_of vs)
     some (apply Operation.array rs)
-  shape (object ms) = objectShape ms
+  shape (object ms) = object_shape ms
 
   -- Each item of an array as an operand.
-  pub operandsOf : Values → List Operand
-  operandsOf no_items = []
-  operandsOf (item v vs) = record { value = v; asRule = shape v } ∷ operandsOf vs
+  pub operands_of : Values → List Operand
+  operands_of no_items = []
+  operands_of (item v vs) = record { value = v; as_rule = shape v } ∷ operands_of vs
 
   -- "An object must yield its single member, or else it is refused with 6."
-  pub objectShape : Members → Option Rule
-  objectShape no-members = none
-  objectShape (member name v no-members) = keywordNamed name >>= build (contentOf v)
-  objectShape (member name v (member name₂ v₂ ms)) = none
+  pub object_shape : Members → Option Rule
+  object_shape no_members = none
+  object_shape (member name v no_members) = keyword_named name >>= build (content_of v)
+  object_shape (member name v (member name₂ v₂ ms)) = none
 
   -- A string, or operands in an array.
-  pub contentOf : Value → Content
-  contentOf (scalar x) = scalarContent x
-  contentOf (instant t) = other
-  contentOf (array vs) = list (operandsOf vs)
-  contentOf (object ms) = other
+  pub content_of : Value → Content
+  content_of (scalar x) = scalar_content x
+  content_of (instant t) = other
+  content_of (array vs) = list (operands_of vs)
+  content_of (object ms) = other

@@ -1,13 +1,13 @@
 -- Sheet: the types that a site states for the paths of its records; which values are sheets (none is refusal 14); which records fit.
 use Rattle.std.specs.Prelude.{Bool, not, List, [], ◌∷◌, leb}
 use Rattle.std.proofs.Math.Option.{Option, none, some}
-use Rattle.model.specs.Bytes.{Bytes, ascii, sameBytes}
-use Rattle.model.specs.Limits.{maxSheetMembers}
+use Rattle.model.specs.Bytes.{Bytes, ascii, same_bytes}
+use Rattle.model.specs.Limits.{max_sheet_members}
 use Rattle.model.specs.Lists.{find, all}
 use Rattle.model.specs.Option.{◌>>=◌, when}
-use Rattle.model.specs.Path.{Path, pathOf, value_at}
-use Rattle.model.specs.Types.{Types, isIn, hasType}
-use Rattle.model.specs.Value.{Value, scalar, instant, array, object, Values, no_items, item, Members, no-members, member, asString, asArray, memberCount}
+use Rattle.model.specs.Path.{Path, path_of, value_at}
+use Rattle.model.specs.Types.{Types, is_in, has_type}
+use Rattle.model.specs.Value.{Value, scalar, instant, array, object, Values, no_items, item, Members, no_members, member, as_string, as_array, member_count}
 use Rattle.model.specs.declared.Ty.{Ty}
 use Rattle.model.specs.declared.Ty.TheVariants as Ty
 
@@ -31,50 +31,50 @@ words =
     ∷ []
 
 -- A string that is none of these is no word.
-abbrev pub typeNamed : Bytes → Option Ty
-typeNamed s = find (sameBytes s) words
+abbrev pub type_named : Bytes → Option Ty
+type_named s = find (same_bytes s) words
 
--- "each content a non-empty array of distinct words"
+-- "each content a non_empty_lem array of distinct words"
 abbrev pub types_of : Values → Option Types
 types_of no_items = some []
 types_of (item v vs) = do
-  s ← asString v
-  a ← typeNamed s
+  s ← as_string v
+  a ← type_named s
   ts ← types_of vs
-  when (not (isIn ts a)) (some (a ∷ ts))
+  when (not (is_in ts a)) (some (a ∷ ts))
 
 -- A list, if it has an element.
-abbrev pub nonEmpty : {A : Type 0} → List A → Option (List A)
-nonEmpty [] = none
-nonEmpty (a ∷ l) = some (a ∷ l)
+abbrev pub non_empty : {A : Type 0} → List A → Option (List A)
+non_empty [] = none
+non_empty (a ∷ l) = some (a ∷ l)
 
 -- The types of a content.
-abbrev pub contentTypes : Value → Option Types
-contentTypes v = do
-  vs ← asArray v
+abbrev pub content_types : Value → Option Types
+content_types v = do
+  vs ← as_array v
   ts ← types_of vs
-  nonEmpty ts
+  non_empty ts
 
--- "Each name is a non-empty `var` path"
-abbrev pub entryPath : Bytes → Option Path
-entryPath s = pathOf s >>= nonEmpty
+-- "Each name is a non_empty_lem `var` path"
+abbrev pub entry_path : Bytes → Option Path
+entry_path s = path_of s >>= non_empty
 
 -- All members as entries, or none.
-abbrev pub entriesOf : Members → Option Sheet
-entriesOf no-members = some []
-entriesOf (member name v ms) = do
-  q ← entryPath name
-  ts ← contentTypes v
-  entries ← entriesOf ms
+abbrev pub entries_of : Members → Option Sheet
+entries_of no_members = some []
+entries_of (member name v ms) = do
+  q ← entry_path name
+  ts ← content_types v
+  entries ← entries_of ms
   some ((q, ts) ∷ entries)
 
 -- "A sheet is an object of at most 256 members."
-unfoldable pub sheetOf : Value → Option Sheet
-sheetOf (scalar x) = none
-sheetOf (instant t) = none
-sheetOf (array vs) = none
-sheetOf (object ms) = when (leb (memberCount ms) maxSheetMembers) (entriesOf ms)
+unfoldable pub sheet_of : Value → Option Sheet
+sheet_of (scalar x) = none
+sheet_of (instant t) = none
+sheet_of (array vs) = none
+sheet_of (object ms) = when (leb (member_count ms) max_sheet_members) (entries_of ms)
 
 -- "A record fits if at each path its value, null where missing, belongs to a listed word."
 abbrev pub fits : Sheet → Value → Bool
-fits sheet c = all (λ entry. hasType entry.1 (value_at entry.0 c)) sheet
+fits sheet c = all (λ entry. has_type entry.1 (value_at entry.0 c)) sheet

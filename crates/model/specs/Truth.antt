@@ -1,7 +1,7 @@
 -- Truth: 01, Evaluation: "Falsy: false, null, "", 0, [], {}. Truthy: true and every other string, integer, array and object.
 -- An instant is neither."
 use Rattle.std.specs.Prelude.{true, false, [], ◌∷◌, zero, suc, pos, negsuc}
-use Rattle.model.specs.Value.{Value, scalar, instant, array, object, null, boolean, integer, string, no_items, item, no-members, member}
+use Rattle.model.specs.Value.{Value, scalar, instant, array, object, null, boolean, integer, string, no_items, item, no_members, member}
 
 pub data Truth : Type 0 where
   truthy falsy neither : Truth
@@ -18,5 +18,5 @@ truth (scalar (string (x ∷ s))) = truthy
 truth (instant t) = neither
 truth (array no_items) = falsy
 truth (array (item v vs)) = truthy
-truth (object no-members) = falsy
+truth (object no_members) = falsy
 truth (object (member name v ms)) = truthy

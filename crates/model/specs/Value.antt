@@ -4,8 +4,8 @@ use Rattle.std.specs.Prelude.{Bool, true, false, ◌&&◌, ℕ, suc, eqb, ℤ, p
 use Rattle.std.specs.Bool.{beq}
 use Rattle.std.proofs.Math.Option.{Option, none, some}
 use Rattle.std.specs.Int.Signed.{le_z}
-use Rattle.model.specs.Bytes.{Bytes, sameBytes}
-use Rattle.model.specs.Limits.{maxInteger}
+use Rattle.model.specs.Bytes.{Bytes, same_bytes}
+use Rattle.model.specs.Limits.{max_integer}
 use Rattle.model.specs.Option.{is_some}
 
 -- 01, Evaluation, `===`: "null, boolean, integer or string (a scalar)".
@@ -30,45 +30,45 @@ mutual
 
   -- The members of an object, in the order of the text: a name and its content.
   pub data Members : Type 0 where
-    no-members : Members
+    no_members : Members
     member : Bytes → Value → Members → Members
 
 -- ---- a value as one of a kind, or none where it is of another
-abbrev pub asScalar : Value → Option Scalar
-asScalar (scalar x) = some x
-asScalar (instant t) = none
-asScalar (array vs) = none
-asScalar (object ms) = none
+abbrev pub as_scalar : Value → Option Scalar
+as_scalar (scalar x) = some x
+as_scalar (instant t) = none
+as_scalar (array vs) = none
+as_scalar (object ms) = none
 
-abbrev pub asInstant : Value → Option ℤ
-asInstant (scalar x) = none
-asInstant (instant t) = some t
-asInstant (array vs) = none
-asInstant (object ms) = none
+abbrev pub as_instant : Value → Option ℤ
+as_instant (scalar x) = none
+as_instant (instant t) = some t
+as_instant (array vs) = none
+as_instant (object ms) = none
 
-abbrev pub asArray : Value → Option Values
-asArray (scalar x) = none
-asArray (instant t) = none
-asArray (array vs) = some vs
-asArray (object ms) = none
+abbrev pub as_array : Value → Option Values
+as_array (scalar x) = none
+as_array (instant t) = none
+as_array (array vs) = some vs
+as_array (object ms) = none
 
-abbrev pub asInteger : Value → Option ℤ
-asInteger (scalar null) = none
-asInteger (scalar (boolean b)) = none
-asInteger (scalar (integer z)) = some z
-asInteger (scalar (string s)) = none
-asInteger (instant t) = none
-asInteger (array vs) = none
-asInteger (object ms) = none
+abbrev pub as_integer : Value → Option ℤ
+as_integer (scalar null) = none
+as_integer (scalar (boolean b)) = none
+as_integer (scalar (integer z)) = some z
+as_integer (scalar (string s)) = none
+as_integer (instant t) = none
+as_integer (array vs) = none
+as_integer (object ms) = none
 
-abbrev pub asString : Value → Option Bytes
-asString (scalar null) = none
-asString (scalar (boolean b)) = none
-asString (scalar (integer z)) = none
-asString (scalar (string s)) = some s
-asString (instant t) = none
-asString (array vs) = none
-asString (object ms) = none
+abbrev pub as_string : Value → Option Bytes
+as_string (scalar null) = none
+as_string (scalar (boolean b)) = none
+as_string (scalar (integer z)) = none
+as_string (scalar (string s)) = some s
+as_string (instant t) = none
+as_string (array vs) = none
+as_string (object ms) = none
 
 -- ---- kinds
 abbrev pub is_null : Value → Bool
@@ -80,78 +80,78 @@ is_null (instant t) = false
 is_null (array vs) = false
 is_null (object ms) = false
 
-abbrev pub isBoolean : Value → Bool
-isBoolean (scalar null) = false
-isBoolean (scalar (boolean b)) = true
-isBoolean (scalar (integer z)) = false
-isBoolean (scalar (string s)) = false
-isBoolean (instant t) = false
-isBoolean (array vs) = false
-isBoolean (object ms) = false
+abbrev pub is_boolean : Value → Bool
+is_boolean (scalar null) = false
+is_boolean (scalar (boolean b)) = true
+is_boolean (scalar (integer z)) = false
+is_boolean (scalar (string s)) = false
+is_boolean (instant t) = false
+is_boolean (array vs) = false
+is_boolean (object ms) = false
 
-abbrev pub isObject : Value → Bool
-isObject (scalar x) = false
-isObject (instant t) = false
-isObject (array vs) = false
-isObject (object ms) = true
+abbrev pub is_object : Value → Bool
+is_object (scalar x) = false
+is_object (instant t) = false
+is_object (array vs) = false
+is_object (object ms) = true
 
-abbrev pub isInteger : Value → Bool
-isInteger v = is_some (asInteger v)
+abbrev pub is_integer : Value → Bool
+is_integer v = is_some (as_integer v)
 
-abbrev pub isString : Value → Bool
-isString v = is_some (asString v)
+abbrev pub is_string : Value → Bool
+is_string v = is_some (as_string v)
 
 -- ---- scalars are equal when kind and content are
-abbrev pub sameInteger : ℤ → ℤ → Bool
-sameInteger (pos m) (pos n) = eqb m n
-sameInteger (pos m) (negsuc n) = false
-sameInteger (negsuc m) (pos n) = false
-sameInteger (negsuc m) (negsuc n) = eqb m n
+abbrev pub same_integer : ℤ → ℤ → Bool
+same_integer (pos m) (pos n) = eqb m n
+same_integer (pos m) (negsuc n) = false
+same_integer (negsuc m) (pos n) = false
+same_integer (negsuc m) (negsuc n) = eqb m n
 
-abbrev pub sameScalar : Scalar → Scalar → Bool
-sameScalar null null = true
-sameScalar null (boolean b) = false
-sameScalar null (integer z) = false
-sameScalar null (string s) = false
-sameScalar (boolean a) null = false
-sameScalar (boolean a) (boolean b) = beq a b
-sameScalar (boolean a) (integer z) = false
-sameScalar (boolean a) (string s) = false
-sameScalar (integer y) null = false
-sameScalar (integer y) (boolean b) = false
-sameScalar (integer y) (integer z) = sameInteger y z
-sameScalar (integer y) (string s) = false
-sameScalar (string r) null = false
-sameScalar (string r) (boolean b) = false
-sameScalar (string r) (integer z) = false
-sameScalar (string r) (string s) = sameBytes r s
+abbrev pub same_scalar : Scalar → Scalar → Bool
+same_scalar null null = true
+same_scalar null (boolean b) = false
+same_scalar null (integer z) = false
+same_scalar null (string s) = false
+same_scalar (boolean a) null = false
+same_scalar (boolean a) (boolean b) = beq a b
+same_scalar (boolean a) (integer z) = false
+same_scalar (boolean a) (string s) = false
+same_scalar (integer y) null = false
+same_scalar (integer y) (boolean b) = false
+same_scalar (integer y) (integer z) = same_integer y z
+same_scalar (integer y) (string s) = false
+same_scalar (string r) null = false
+same_scalar (string r) (boolean b) = false
+same_scalar (string r) (integer z) = false
+same_scalar (string r) (string s) = same_bytes r s
 
 -- ---- what holds of values
 -- A test holds of every item.
-abbrev pub allItems : (Value → Bool) → Values → Bool
-allItems f no_items = true
-allItems f (item v vs) = f v && allItems f vs
+abbrev pub all_items : (Value → Bool) → Values → Bool
+all_items f no_items = true
+all_items f (item v vs) = f v && all_items f vs
 
-abbrev pub memberCount : Members → ℕ
-memberCount no-members = 0
-memberCount (member name v ms) = suc (memberCount ms)
+abbrev pub member_count : Members → ℕ
+member_count no_members = 0
+member_count (member name v ms) = suc (member_count ms)
 
 -- 01, refusal 4: an integer not "beyond 9007199254740991 either way".
-abbrev pub withinLimits : ℤ → Bool
-withinLimits z = le_z (neg_ℤ (pos maxInteger)) z && le_z z (pos maxInteger)
+abbrev pub within_limits : ℤ → Bool
+within_limits z = le_z (neg_ℤ (pos max_integer)) z && le_z z (pos max_integer)
 
 -- No instant in it, at any depth. Whatever a text reads as is such (`read-well-formed` of the crate syntax).
 unfoldable mutual
-  pub instantFree : Value → Bool
-  instantFree (scalar x) = true
-  instantFree (instant t) = false
-  instantFree (array vs) = instantFreeItems vs
-  instantFree (object ms) = instantFreeMembers ms
+  pub instant_free : Value → Bool
+  instant_free (scalar x) = true
+  instant_free (instant t) = false
+  instant_free (array vs) = instant_free_items vs
+  instant_free (object ms) = instant_free_members ms
 
-  pub instantFreeItems : Values → Bool
-  instantFreeItems no_items = true
-  instantFreeItems (item v vs) = instantFree v && instantFreeItems vs
+  pub instant_free_items : Values → Bool
+  instant_free_items no_items = true
+  instant_free_items (item v vs) = instant_free v && instant_free_items vs
 
-  pub instantFreeMembers : Members → Bool
-  instantFreeMembers no-members = true
-  instantFreeMembers (member name v ms) = instantFree v && instantFreeMembers ms
+  pub instant_free_members : Members → Bool
+  instant_free_members no_members = true
+  instant_free_members (member name v ms) = instant_free v && instant_free_members ms

@@ -20,23 +20,23 @@ use Rattle.name_index.specs.Inner.{Highest, Common}
 
 -- ---- symbols
 
-symbol-past : (n : Bytes) (p : ℕ) → length n ≤ p → symbol_at n p ≡ 0
+symbol_past : (n : Bytes) (p : ℕ) → length n ≤ p → symbol_at n p ≡ 0
 unfolding symbol_at
-symbol-past [] p h = refl
-symbol-past (x ∷ n) zero h = absurd (none h)
+symbol_past [] p h = refl
+symbol_past (x ∷ n) zero h = absurd (none h)
   where
     none : {k : ℕ} → suc k ≤ 0 → ⊥
     none h = omega arith
-symbol-past (x ∷ n) (suc p) h = symbol-past n p (omega arith)
+symbol_past (x ∷ n) (suc p) h = symbol_past n p (omega arith)
 
-symbol-in : (n : Bytes) (p : ℕ) → p < length n → symbol_at n p ≡ 256 + get_or n p 0
+symbol_in : (n : Bytes) (p : ℕ) → p < length n → symbol_at n p ≡ 256 + get_or n p 0
 unfolding symbol_at
-symbol-in [] p h = absurd (none h)
+symbol_in [] p h = absurd (none h)
   where
     none : {k : ℕ} → suc k ≤ 0 → ⊥
     none h = omega arith
-symbol-in (x ∷ n) zero h = refl
-symbol-in (x ∷ n) (suc p) h = symbol-in n p (omega arith)
+symbol_in (x ∷ n) zero h = refl
+symbol_in (x ∷ n) (suc p) h = symbol_in n p (omega arith)
 
 module _ (A : Bytes) (start len : ℕ) (h : start + len ≤ length A) where
   pub length_part : length (part A start len) ≡ len
@@ -45,26 +45,26 @@ module _ (A : Bytes) (start len : ℕ) (h : start + len ≤ length A) where
   get_d_part : (p : ℕ) → p < len → get_or (part A start len) p 0 ≡ get_or A (start + p) 0
   get_d_part p l = get_or-take len (drop start A) p 0 l ∙ get_or-drop start A p 0
 
-  pub part-past : (p : ℕ) → len ≤ p → symbol_at (part A start len) p ≡ 0
-  part-past p l = symbol-past (part A start len) p (rw length_part l)
+  pub part_past : (p : ℕ) → len ≤ p → symbol_at (part A start len) p ≡ 0
+  part_past p l = symbol_past (part A start len) p (rw length_part l)
 
   pub part_in : (p : ℕ) → p < len → symbol_at (part A start len) p ≡ 256 + get_or A (start + p) 0
-  part_in p l = symbol-in (part A start len) p (rw length_part l) ∙ ap (λ (x : ℕ). 256 + x) (get_d_part p l)
+  part_in p l = symbol_in (part A start len) p (rw length_part l) ∙ ap (λ (x : ℕ). 256 + x) (get_d_part p l)
 
 -- ---- bits
 
-bit-side : (y : ℕ) → y < 2 → y * 4 ≡ side (eqb y 1)
-bit-side zero h = refl
-bit-side (suc zero) h = refl
-bit-side (suc (suc y)) h = absurd (none h)
+bit_side : (y : ℕ) → y < 2 → y * 4 ≡ side (eqb y 1)
+bit_side zero h = refl
+bit_side (suc zero) h = refl
+bit_side (suc (suc y)) h = absurd (none h)
   where
     none : {k : ℕ} → suc (suc (suc k)) ≤ 2 → ⊥
     none h = omega arith
 
-pub turn-side : (n : Bytes) (r s : ℕ) → s ≡ symbol_at n (r / 16) → s / 2 ^ (15 - r % 16) % 2 * 4 ≡ side (bit_at n r)
+pub turn_side : (n : Bytes) (r s : ℕ) → s ≡ symbol_at n (r / 16) → s / 2 ^ (15 - r % 16) % 2 * 4 ≡ side (bit_at n r)
 unfolding bit_at
-turn-side n r s e =
-    bit-side (s / 2 ^ (15 - r % 16) % 2) (omega arith) ∙ ap (λ (x : ℕ). side (eqb (x / 2 ^ (15 - r % 16) % 2) 1)) e
+turn_side n r s e =
+    bit_side (s / 2 ^ (15 - r % 16) % 2) (omega arith) ∙ ap (λ (x : ℕ). side (eqb (x / 2 ^ (15 - r % 16) % 2) 1)) e
 
 same_bit : (u v : Bytes) (i : ℕ) → symbol_at u (i / 16) / 2 ^ (15 - i % 16) ≡ symbol_at v (i / 16) / 2 ^ (15 - i % 16) → bit_at u i ≡ bit_at v i
 unfolding bit_at
@@ -76,8 +76,8 @@ bit_is u i p k x q r e =
     ap (λ (z : ℕ). eqb (symbol_at u z / 2 ^ (15 - i % 16) % 2) 1) q ∙ ap (λ (z : ℕ). eqb (symbol_at u p / 2 ^ (15 - z) % 2) 1) r
     ∙ ap (λ (z : ℕ). eqb (z / 2 ^ (15 - k) % 2) 1) (sym e)
 
-odd-same : (x y : ℕ) → x < 2 → y < 2 → eqb x 1 ≡ eqb y 1 → x ≡ y
-odd-same x y hx hy e = elim (dec_lt x 1) [
+odd_same : (x y : ℕ) → x < 2 → y < 2 → eqb x 1 ≡ eqb y 1 → x ≡ y
+odd_same x y hx hy e = elim (dec_lt x 1) [
   | yes h ↦ elim (dec_lt y 1) [
     | yes k ↦ omega arith
     | no k ↦ absurd (omega (arith, eqb-true x 1 (e ∙ eq-eqb y 1 (omega arith))))
@@ -87,15 +87,15 @@ odd-same x y hx hy e = elim (dec_lt x 1) [
 
 -- ---- the highest bit in which two numbers differ
 
-xor-none : (x y : ℕ) → bit_xor x y ≡ 0 → x ≡ y
-xor-none x y h = omega (arith, xor_add_and x y, and_le_l x y, and_le_r x y)
+xor_none : (x y : ℕ) → bit_xor x y ≡ 0 → x ≡ y
+xor_none x y h = omega (arith, xor_add_and x y, and_le_l x y, and_le_r x y)
 
 module _ (x y : ℕ) (hx : x < 512) (hy : y < 512) (ne : x ≡ y → ⊥) where
   some : 0 < bit_xor x y
   some = go (bit_xor x y) refl
     where
       go : (a : ℕ) → bit_xor x y ≡ a → 0 < a
-      go zero e = absurd (ne (xor-none x y e))
+      go zero e = absurd (ne (xor_none x y e))
       go (suc a) e = omega arith
 
   small : bit_xor x y < 2 ^ 16
@@ -109,18 +109,18 @@ module _ (x y : ℕ) (hx : x < 512) (hy : y < 512) (ne : x ≡ y → ⊥) where
         over : 2 ^ 16 ≤ 2 ^ j → ⊥
         over h = omega (arith, small)
 
-    next-same : x / 2 ^ suc j ≡ y / 2 ^ suc j
-    next-same = xor-none (x / 2 ^ suc j) (y / 2 ^ suc j) (sym (xor_shr x y (suc j)) ∙ div-eq_of_lt high)
+    next_same : x / 2 ^ suc j ≡ y / 2 ^ suc j
+    next_same = xor_none (x / 2 ^ suc j) (y / 2 ^ suc j) (sym (xor_shr x y (suc j)) ∙ div-eq_of_lt high)
 
     above_same : (k : ℕ) → x / 2 ^ (suc j + k) ≡ y / 2 ^ (suc j + k)
-    above_same k = sym (shr-shr x (suc j) k) ∙ ap (λ (z : ℕ). z / 2 ^ k) next-same ∙ shr-shr y (suc j) k
+    above_same k = sym (shr-shr x (suc j) k) ∙ ap (λ (z : ℕ). z / 2 ^ k) next_same ∙ shr-shr y (suc j) k
 
     halves : (z : ℕ) → z / 2 ^ j / 2 ≡ z / 2 ^ suc j
     halves z = shr-shr z j 1 ∙ ap (λ (k : ℕ). z / 2 ^ k) (add-one j)
 
-    top-differs : x / 2 ^ j % 2 ≡ y / 2 ^ j % 2 → ⊥
-    top-differs e =
-        let same : x / 2 ^ j ≡ y / 2 ^ j = omega (arith, halves x, halves y, next-same) in
+    top_differs : x / 2 ^ j % 2 ≡ y / 2 ^ j % 2 → ⊥
+    top_differs e =
+        let same : x / 2 ^ j ≡ y / 2 ^ j = omega (arith, halves x, halves y, next_same) in
         let none : bit_xor x y / 2 ^ j ≡ 0 = xor_shr x y j ∙ ap (λ (z : ℕ). bit_xor (x / 2 ^ j) z) (sym same) ∙ xor_self (x / 2 ^ j) in
         let one : 1 ≤ bit_xor x y / 2 ^ j = (le-div_iff_mul-le (pow_pos j)).1 (omega (arith, low)) in
         omega arith
@@ -140,48 +140,48 @@ module _ (x y : ℕ) (hx : x < 512) (hy : y < 512) (ne : x ≡ y → ⊥) where
         small = omega (arith, t.1);
         above = λ i h. let k : 15 - i ≡ suc j + (15 - i - suc j) = omega (arith, t.1) in
             subst (λ (z : ℕ). x / 2 ^ z ≡ y / 2 ^ z) (sym k) (above_same j t.2 t.3 (15 - i - suc j));
-        differ = subst (λ (z : ℕ). x / 2 ^ z % 2 ≡ y / 2 ^ z % 2 → ⊥) (sym q) (top-differs j t.2 t.3);
+        differ = subst (λ (z : ℕ). x / 2 ^ z % 2 ≡ y / 2 ^ z % 2 → ⊥) (sym q) (top_differs j t.2 t.3);
       }
 
 -- ---- comparing two names
 
 module _ (A : Bytes) (a m b n p : ℕ) (ha : a + m ≤ length A) (hb : b + n ≤ length A) (h : Common A a m b n p) where
-  same-before : (i : ℕ) → i < p → symbol_at (part A a m) i ≡ symbol_at (part A b n) i
-  same-before i l =
+  same_before : (i : ℕ) → i < p → symbol_at (part A a m) i ≡ symbol_at (part A b n) i
+  same_before i l =
       let il : i < m = omega (arith, h.left) in
       let ir : i < n = omega (arith, h.right) in
       part_in A a m ha i il ∙ ap (λ (x : ℕ). 256 + x) (h.same i l) ∙ sym (part_in A b n hb i ir)
 
   -- Equal symbols there: both names end.
   module _ (e : symbol_at (part A a m) p ≡ symbol_at (part A b n) p) where
-    left-ends : p ≡ m
-    left-ends = elim (dec_lt p m) [
+    left_ends : p ≡ m
+    left_ends = elim (dec_lt p m) [
       | no g ↦ omega (arith, h.left)
       | yes g ↦ absurd (elim (dec_lt p n) [
         | yes k ↦ h.parts g k (omega (arith, part_in A a m ha p g, part_in A b n hb p k, e))
-        | no k ↦ omega (arith, part_in A a m ha p g, part-past A b n hb p (omega (arith, k)), e)
+        | no k ↦ omega (arith, part_in A a m ha p g, part_past A b n hb p (omega (arith, k)), e)
       ])
     ]
 
-    right-ends : p ≡ n
-    right-ends = elim (dec_lt p n) [
+    right_ends : p ≡ n
+    right_ends = elim (dec_lt p n) [
       | no g ↦ omega (arith, h.right)
-      | yes g ↦ absurd (omega (arith, part_in A b n hb p g, part-past A a m ha p (omega (arith, left-ends)), e))
+      | yes g ↦ absurd (omega (arith, part_in A b n hb p g, part_past A a m ha p (omega (arith, left_ends)), e))
     ]
 
     pub names_same : part A a m ≡ part A b n
     names_same =
         ext_get_or 0 (part A a m) (part A b n)
-        (length_part A a m ha ∙ sym left-ends ∙ right-ends ∙ sym (length_part A b n hb))
+        (length_part A a m ha ∙ sym left_ends ∙ right_ends ∙ sym (length_part A b n hb))
         (λ i l.
         let q : i < m = rw (length_part A a m ha) at l in
-        get_d_part A a m ha i q ∙ h.same i (omega (arith, left-ends)) ∙ sym (get_d_part A b n hb i (omega (arith, left-ends, right-ends))))
+        get_d_part A a m ha i q ∙ h.same i (omega (arith, left_ends)) ∙ sym (get_d_part A b n hb i (omega (arith, left_ends, right_ends))))
 
   -- Different symbols there: the names part at the highest bit in which they differ.
   module _ (x y k : ℕ) (ex : x ≡ symbol_at (part A a m) p) (ey : y ≡ symbol_at (part A b n) p) (t : Highest x y k) where
-    agree-below : Agree (p * 16 + k) (part A a m) (part A b n)
-    agree-below i l = elim (dec_lt (i / 16) p) [
-      | yes g ↦ same_bit (part A a m) (part A b n) i (ap (λ (z : ℕ). z / 2 ^ (15 - i % 16)) (same-before (i / 16) g))
+    agree_below : Agree (p * 16 + k) (part A a m) (part A b n)
+    agree_below i l = elim (dec_lt (i / 16) p) [
+      | yes g ↦ same_bit (part A a m) (part A b n) i (ap (λ (z : ℕ). z / 2 ^ (15 - i % 16)) (same_before (i / 16) g))
       | no g ↦
           let q : i / 16 ≡ p = omega (arith, t.small) in
           same_bit (part A a m) (part A b n) i
@@ -190,12 +190,12 @@ module _ (A : Bytes) (a m b n p : ℕ) (ha : a + m ≤ length A) (hb : b + n ≤
           ∙ ap (λ (z : ℕ). z / 2 ^ (15 - i % 16)) ey ∙ ap (λ (z : ℕ). symbol_at (part A b n) z / 2 ^ (15 - i % 16)) (sym q))
     ]
 
-    differ-there : bit_at (part A a m) (p * 16 + k) ≡ bit_at (part A b n) (p * 16 + k) → ⊥
-    differ-there e =
+    differ_there : bit_at (part A a m) (p * 16 + k) ≡ bit_at (part A b n) (p * 16 + k) → ⊥
+    differ_there e =
         let q : (p * 16 + k) / 16 ≡ p = omega (arith, t.small) in
         let r : (p * 16 + k) % 16 ≡ k = omega (arith, t.small) in
-        t.differ (odd-same (x / 2 ^ (15 - k) % 2) (y / 2 ^ (15 - k) % 2) (omega arith) (omega arith)
+        t.differ (odd_same (x / 2 ^ (15 - k) % 2) (y / 2 ^ (15 - k) % 2) (omega arith) (omega arith)
         (sym (bit_is (part A a m) (p * 16 + k) p k x q r ex) ∙ e ∙ bit_is (part A b n) (p * 16 + k) p k y q r ey))
 
-    pub names-part : p < 67108864 → Critical (part A a m) (part A b n) (p * 16 + k)
-    names-part l = record { agree = agree-below; differ = differ-there; small = omega (arith, t.small) }
+    pub names_part : p < 67108864 → Critical (part A a m) (part A b n) (p * 16 + k)
+    names_part l = record { agree = agree_below; differ = differ_there; small = omega (arith, t.small) }

@@ -9,16 +9,16 @@ use native.Mathlib.Nat.{add-zero}
 use lib.ListN.{length}
 use Rattle.model.specs.Bytes.{Bytes}
 use Rattle.area.specs.Words.{word_at}
-use Rattle.syntax.specs.Layout.{rowBytes, entryBytes}
+use Rattle.syntax.specs.Layout.{row_bytes, entry_bytes}
 use Rattle.name_index.specs.declared.Compared.{Compared}
 use Rattle.name_index.specs.declared.Compared.TheVariants.{Same, Differ}
 use Rattle.name_index.specs.Bits.{part, bit_at}
 use Rattle.name_index.specs.Trie.{Trie, leaf, node, Node, Ordered, Walk, here, Ends}
-use Rattle.name_index.specs.Slots.{nameStart, nameLength, place, entry, side, link_in, rankIn, link_at, Holds}
-use Rattle.name_index.specs.Laws.Slots.{entry-word}
+use Rattle.name_index.specs.Slots.{name_start, name_length, place, entry, side, link_in, rank_in, link_at, Holds}
+use Rattle.name_index.specs.Laws.Slots.{entry_word}
 use Rattle.name_index.specs.Inner.{Told, Ranked, ToldOf, Reached, Stopped, NoNode, IsNode}
-use Rattle.name_index.proofs.Trie.{walk_more, walk-node}
-use Rattle.name_index.proofs.Table.{side-small}
+use Rattle.name_index.proofs.Trie.{walk_more, walk_node}
+use Rattle.name_index.proofs.Table.{side_small}
 
 -- ---- comparing with the name of a leaf's row
 
@@ -30,27 +30,27 @@ module _ (T A : Bytes) (link row : ℕ) (n : Bytes) where
   told_none r h q e l i = absurd (omega (arith, half q e))
 
   module _ (x y : ℕ) (ex : x ≡ word_at T (link / 2 * 16 + 16)) (ey : y ≡ word_at T (link / 2 * 16 + 20)) (r : Compared) where
-    pub told-outside : length A < y + x / 256 → ToldOf T A link row n r
-    told-outside h q e l i =
-        let a : x / 256 ≡ nameLength T q = ap (λ (z : ℕ). z / 256) (ex ∙ ap (λ (z : ℕ). word_at T (z * 16 + 16)) (half q e)) in
-        let b : y ≡ nameStart T q = ey ∙ ap (λ (z : ℕ). word_at T (z * 16 + 20)) (half q e) in
+    pub told_outside : length A < y + x / 256 → ToldOf T A link row n r
+    told_outside h q e l i =
+        let a : x / 256 ≡ name_length T q = ap (λ (z : ℕ). z / 256) (ex ∙ ap (λ (z : ℕ). word_at T (z * 16 + 16)) (half q e)) in
+        let b : y ≡ name_start T q = ey ∙ ap (λ (z : ℕ). word_at T (z * 16 + 20)) (half q e) in
         absurd (omega (arith, a, b))
 
     pub told_is : Told n (part A y (x / 256)) r → ToldOf T A link row n r
     told_is h q e l i =
-        let a : x / 256 ≡ nameLength T q = ap (λ (z : ℕ). z / 256) (ex ∙ ap (λ (z : ℕ). word_at T (z * 16 + 16)) (half q e)) in
-        let b : y ≡ nameStart T q = ey ∙ ap (λ (z : ℕ). word_at T (z * 16 + 20)) (half q e) in
-        subst (λ (z : ℕ). Told n (part A z (nameLength T q)) r) b (subst (λ (z : ℕ). Told n (part A y z) r) a h)
+        let a : x / 256 ≡ name_length T q = ap (λ (z : ℕ). z / 256) (ex ∙ ap (λ (z : ℕ). word_at T (z * 16 + 16)) (half q e)) in
+        let b : y ≡ name_start T q = ey ∙ ap (λ (z : ℕ). word_at T (z * 16 + 20)) (half q e) in
+        subst (λ (z : ℕ). Told n (part A z (name_length T q)) r) b (subst (λ (z : ℕ). Told n (part A y z) r) a h)
 
-pub told-ranked : (m n : Bytes) (r : Compared) → Told m n r → Ranked r
-told-ranked m n Same t = tt
-told-ranked m n (Differ c) t = t.small
+pub told_ranked : (m n : Bytes) (r : Compared) → Told m n r → Ranked r
+told_ranked m n Same t = tt
+told_ranked m n (Differ c) t = t.small
 
 -- ---- going down
 
 -- The rank in the entry at a place.
 abbrev pub rank_of : Bytes → ℕ → ℕ
-rank_of T p = rankIn (word_at T p) (word_at T (p + 4))
+rank_of T p = rank_in (word_at T p) (word_at T (p + 4))
 
 -- A walk in a trie, on its way: it stands at a link; ranks are still to rise from `from` on.
 pub record Standing (T n : Bytes) (first : ℕ) (t : Trie) (at from : ℕ) : Type 0 where
@@ -67,8 +67,8 @@ abbrev pub Between : ℕ → ℕ → Trie → Type 0
 Between first row t = (k : ℕ) → Node k t → (first < k) × (k < row)
 
 module _ (T n : Bytes) (first row : ℕ) where
-  stand-first : (t : Trie) (p : ℕ) → p ≡ place first → Holds T first false t → Ordered [] 0 t → Standing T n first t p 0
-  stand-first t p e h o = record {
+  stand_first : (t : Trie) (p : ℕ) → p ≡ place first → Holds T first false t → Ordered [] 0 t → Standing T n first t p 0
+  stand_first t p e h o = record {
     row = first;
     turn = false;
     below = t;
@@ -81,8 +81,8 @@ module _ (T n : Bytes) (first row : ℕ) where
 
   -- The word x stands there, and y is the rank of the node that it would name.
   module _ (t : Trie) (between : Between first row t) (at from x : ℕ) (s : Standing T n first t at from) (ex : x ≡ link_in (word_at T at)) where
-    link-is : link_at T s.row s.turn ≡ x
-    link-is = ap link_in (entry-word T s.row (side s.turn) (side-small s.turn (side s.turn) refl) ∙ ap (word_at T) (sym s.is)) ∙ sym ex
+    link_is : link_at T s.row s.turn ≡ x
+    link_is = ap link_in (entry_word T s.row (side s.turn) (side_small s.turn (side s.turn) refl) ∙ ap (word_at T) (sym s.is)) ∙ sym ex
 
     reached : (c : ℕ) → from ≤ c → Ends c s.below → Reached T n c first t at
     reached c l e = record {
@@ -95,40 +95,40 @@ module _ (T n : Bytes) (first row : ℕ) where
       holds = s.holds;
     }
 
-    ends-none : (c : ℕ) → NoNode x first row → Ends c s.below
-    ends-none c h = go s.below s.holds (walk-node (s.walk from (omega arith)))
+    ends_none : (c : ℕ) → NoNode x first row → Ends c s.below
+    ends_none c h = go s.below s.holds (walk_node (s.walk from (omega arith)))
       where
         go : (u : Trie) → Holds T s.row s.turn u → ((i : ℕ) → Node i u → Node i t) → Ends c u
         go (leaf r m) g f = tt
         go (node m k u) g f =
             let b = between m (f m (inl refl)) in
-            let e : x / 2 ≡ m = omega (arith, link-is, g.0) in
-            absurd (omega (arith, link-is, g.0, h (omega (arith, b.0)) (omega (arith, b.1))))
+            let e : x / 2 ≡ m = omega (arith, link_is, g.0) in
+            absurd (omega (arith, link_is, g.0, h (omega (arith, b.0)) (omega (arith, b.1))))
 
     module _ (y p : ℕ) (ep : p ≡ place (x / 2)) (ey : y ≡ rank_of T p) where
       rank_is : (m k : ℕ) (u : Bool → Trie) → Holds T s.row s.turn (node m k u) → y ≡ k
       rank_is m k u g =
-          let e : x / 2 ≡ m = omega (arith, link-is, g.0) in
+          let e : x / 2 ≡ m = omega (arith, link_is, g.0) in
           let q : p ≡ place m = ep ∙ ap place e in
-          let z : word_at T p ≡ word_at (entry T m) 0 = ap (word_at T) (q ∙ sym (add-zero (place m))) ∙ sym (entry-word T m 0 (omega arith)) in
-          let w : word_at T (p + 4) ≡ word_at (entry T m) 4 = ap (λ (i : ℕ). word_at T (i + 4)) q ∙ sym (entry-word T m 4 (omega arith)) in
-          ey ∙ ap₂ rankIn z w ∙ g.1
+          let z : word_at T p ≡ word_at (entry T m) 0 = ap (word_at T) (q ∙ sym (add-zero (place m))) ∙ sym (entry_word T m 0 (omega arith)) in
+          let w : word_at T (p + 4) ≡ word_at (entry T m) 4 = ap (λ (i : ℕ). word_at T (i + 4)) q ∙ sym (entry_word T m 4 (omega arith)) in
+          ey ∙ ap₂ rank_in z w ∙ g.1
 
-      ends-rank : (c : ℕ) → (from ≤ y → c ≤ y) → Ends c s.below
-      ends-rank c h = go s.below s.holds s.ordered
+      ends_rank : (c : ℕ) → (from ≤ y → c ≤ y) → Ends c s.below
+      ends_rank c h = go s.below s.holds s.ordered
         where
           go : (u : Trie) → Holds T s.row s.turn u → Ordered s.pattern from u → Ends c u
           go (leaf r m) g o = tt
           go (node m k u) g o = let e = rank_is m k u g in omega (arith, h (omega (arith, o.0)))
 
-      stand-next : (x % 2 ≡ 0 → ⊥) → from ≤ y → (z : ℕ) → z ≡ side (bit_at n y) → Standing T n first t (p + z) (y + 1)
-      stand-next odd l z ez = go s.below s.holds s.walk s.ordered
+      stand_next : (x % 2 ≡ 0 → ⊥) → from ≤ y → (z : ℕ) → z ≡ side (bit_at n y) → Standing T n first t (p + z) (y + 1)
+      stand_next odd l z ez = go s.below s.holds s.walk s.ordered
         where
           go : (u : Trie) → Holds T s.row s.turn u → ((c : ℕ) → from ≤ c → Walk n c s.row s.turn u first false t)
               → Ordered s.pattern from u → Standing T n first t (p + z) (y + 1)
-          go (leaf r m) g w o = absurd (odd (omega (arith, link-is, g)))
+          go (leaf r m) g w o = absurd (odd (omega (arith, link_is, g)))
           go (node m k u) g w o =
-              let e : x / 2 ≡ m = omega (arith, link-is, g.0) in
+              let e : x / 2 ≡ m = omega (arith, link_is, g.0) in
               let q = rank_is m k u g in
               let β = bit_at n k in
               record {
@@ -151,15 +151,15 @@ pub record Going (T n : Bytes) (first row stop at from link : ℕ) : Type 0 wher
   pub is : link ≡ link_in (word_at T at)
   pub run : (t : Trie) → Holds T first false t → Ordered [] 0 t → Between first row t → Standing T n first t at from
 
-pub going-first : (T n : Bytes) (first row stop p x : ℕ) → first < row → p ≡ place first → x ≡ link_in (word_at T p) → Going T n first row stop p 0 x
-unfolding place rowBytes entryBytes
-going-first T n first row stop p x h e ex = record {
+pub going_first : (T n : Bytes) (first row stop p x : ℕ) → first < row → p ≡ place first → x ≡ link_in (word_at T p) → Going T n first row stop p 0 x
+unfolding place row_bytes entry_bytes
+going_first T n first row stop p x h e ex = record {
   low = omega arith;
   high = omega arith;
   least = omega arith;
   small = omega arith;
   is = ex;
-  run = λ t g o b. stand-first T n first row t p e g o;
+  run = λ t g o b. stand_first T n first row t p e g o;
 }
 
 module _ (T n : Bytes) (first row stop at from x : ℕ) (g : Going T n first row stop at from x) where
@@ -176,39 +176,39 @@ module _ (T n : Bytes) (first row stop at from x : ℕ) (g : Going T n first row
   }
 
   pub done_none : NoNode x first row → Stopped T n first row stop (record { at = at; from = from; link = x })
-  done_none h = done (λ c l i t b s. ends-none T n first row t b at from x s g.is c h)
+  done_none h = done (λ c l i t b s. ends_none T n first row t b at from x s g.is c h)
 
-  pub done-rank : (k p : ℕ) → k ≡ x / 2 → p ≡ place k → (from ≤ rank_of T p → stop ≤ rank_of T p) → Stopped T n first row stop (record { at = at; from = from; link = x })
-  done-rank k p ek ep h =
-      done (λ c l i t b s. ends-rank T n first row t b at from x s g.is (rank_of T p) p (ep ∙ ap place ek) refl c (λ o. omega (arith, l i, h o)))
+  pub done_rank : (k p : ℕ) → k ≡ x / 2 → p ≡ place k → (from ≤ rank_of T p → stop ≤ rank_of T p) → Stopped T n first row stop (record { at = at; from = from; link = x })
+  done_rank k p ek ep h =
+      done (λ c l i t b s. ends_rank T n first row t b at from x s g.is (rank_of T p) p (ep ∙ ap place ek) refl c (λ o. omega (arith, l i, h o)))
 
   module _ (y p : ℕ) (ep : p ≡ place (x / 2)) (ey : y ≡ rank_of T p) where
     going_next : (x % 2 ≡ 0 → ⊥) → first < x / 2 → x / 2 < row → y < 1073741824 → from ≤ y → y < stop → (z x' : ℕ) → z ≡ side (bit_at n y)
         → x' ≡ link_in (word_at T (p + z)) → Going T n first row stop (p + z) (y + 1) x'
-    unfolding place rowBytes entryBytes
+    unfolding place row_bytes entry_bytes
     going_next odd lo hi small l less z x' ez ex = record {
       low = omega arith;
-      high = omega (arith, side-small (bit_at n y) z ez);
+      high = omega (arith, side_small (bit_at n y) z ez);
       least = omega arith;
       small = omega arith;
       is = ex;
-      run = λ t h o b. stand-next T n first row t b at from x (g.run t h o b) g.is y p ep ey odd l z ez;
+      run = λ t h o b. stand_next T n first row t b at from x (g.run t h o b) g.is y p ep ey odd l z ez;
     }
 
   -- A step to the side o, from the row k of a node at p, of the rank y.
-  pub going-side : (k : ℕ) → IsNode x first row k → (p : ℕ) → p ≡ place k
+  pub going_side : (k : ℕ) → IsNode x first row k → (p : ℕ) → p ≡ place k
       → (y : ℕ) → (y ≡ rank_of T p) × (from ≤ y) × (y < 1073741824) → y < stop
       → (z o x' : ℕ) → z ≡ side (bit_at n y) → z ≡ o → x' ≡ link_in (word_at T (p + o)) → Going T n first row stop (p + o) (y + 1) x'
-  going-side k a p ep y b less z o x' ez eo ex =
+  going_side k a p ep y b less z o x' ez eo ex =
       going_next y p (ep ∙ ap place a.0) b.0 a.1 (omega (arith, a.0, a.2)) (omega (arith, a.0, a.3)) b.2 b.1 less o x' (sym eo ∙ ez) ex
 
-  pub going-left : (k : ℕ) → IsNode x first row k → (p : ℕ) → p ≡ place k
+  pub going_left : (k : ℕ) → IsNode x first row k → (p : ℕ) → p ≡ place k
       → (y : ℕ) → (y ≡ rank_of T p) × (from ≤ y) × (y < 1073741824) → y < stop
       → (z x' : ℕ) → z ≡ side (bit_at n y) → z ≡ 0 → x' ≡ link_in (word_at T p) → Going T n first row stop p (y + 1) x'
-  going-left k a p ep y b less z x' ez eo ex =
+  going_left k a p ep y b less z x' ez eo ex =
       subst (λ (i : ℕ). Going T n first row stop i (y + 1) x') (add-zero p)
-      (going-side k a p ep y b less z 0 x' ez eo (ex ∙ ap (λ (i : ℕ). link_in (word_at T i)) (sym (add-zero p))))
+      (going_side k a p ep y b less z 0 x' ez eo (ex ∙ ap (λ (i : ℕ). link_in (word_at T i)) (sym (add-zero p))))
 
-pub turn-right : (b : Bool) (z : ℕ) → z ≡ side b → (z ≡ 0 → ⊥) → z ≡ 4
-turn-right false z e h = absurd (h e)
-turn-right true z e h = e
+pub turn_right : (b : Bool) (z : ℕ) → z ≡ side b → (z ≡ 0 → ⊥) → z ≡ 4
+turn_right false z e h = absurd (h e)
+turn_right true z e h = e

@@ -1,10 +1,10 @@
 -- Contract: what `enter` asks and promises, and what `find` promises, by the rows of members. That the index is a trie (specs/Trie.antt, specs/Slots.antt) is no concern of its callers.
 use Rattle.std.specs.Prelude.{◌≡◌, Bool, false, cond, List, [], ◌∷◌, ◌++◌, ◌⊎◌, ℕ, ◌+◌, ◌*◌, ◌-◌, ◌/◌, ◌≤◌, ◌<◌, length, take, drop}
 use Rattle.area.specs.Words.{word_at}
-use Rattle.model.specs.Bytes.{Bytes, sameBytes}
-use Rattle.model.specs.Limits.{maxValues, maxTextBytes}
+use Rattle.model.specs.Bytes.{Bytes, same_bytes}
+use Rattle.model.specs.Limits.{max_values, max_text_bytes}
 use Rattle.model.specs.Lists.{any}
-use Rattle.syntax.specs.Layout.{tableBytes}
+use Rattle.syntax.specs.Layout.{table_bytes}
 use Rattle.name_index.specs.declared.find.Found.{Found}
 use Rattle.name_index.specs.declared.find.Found.TheVariants.{Nowhere, At}
 use Rattle.name_index.specs.Slots as Slots
@@ -56,30 +56,30 @@ pub record Indexed (T : Bytes) (first : ℕ) (es : List Entry) : Type 0 where
 pub record EnterRoom (T A : Bytes) (first row start len : ℕ) : Type 0 where
   pub member : 1 ≤ first
   pub order : first ≤ row
-  pub rows : row ≤ maxValues
-  pub table : tableBytes ≤ length T
+  pub rows : row ≤ max_values
+  pub table : table_bytes ≤ length T
   pub strings : start + len ≤ length A
-  pub short : start + len ≤ maxTextBytes
+  pub short : start + len ≤ max_text_bytes
 
 -- What `enter(table, strings, first, row, start, len) -> bool` promises. The entries of all rows stay but for those of the members and of the new one.
 pub record Entered (T A : Bytes) (first row start len : ℕ) (b : Bool) (T' : Bytes) : Type 0 where
   pub size : length T' ≡ length T
-  pub rows : take (maxValues * 16) T' ≡ take (maxValues * 16) T
+  pub rows : take (max_values * 16) T' ≡ take (max_values * 16) T
   pub kept : (r : ℕ) → 1 ≤ r → r < first → entry T' r ≡ entry T r
   pub others :
       (es : List Entry) → Indexed T first es → Named T A es → Between first row es → (row ≡ first → es ≡ []) → (es ≡ [] → row ≡ first)
       → (r : ℕ) → 1 ≤ r → (HasRow es r → ⊥) → (r ≡ row → ⊥) → entry T' r ≡ entry T r
   pub run :
       (es : List Entry) → Indexed T first es → Named T A es → Between first row es → (row ≡ first → es ≡ []) → (es ≡ [] → row ≡ first)
-      → (b ≡ any (sameBytes (part A start len)) (names_of es)) × (b ≡ false → Indexed T' first (es ++ (record { row = row; name = part A start len } ∷ [])))
+      → (b ≡ any (same_bytes (part A start len)) (names_of es)) × (b ≡ false → Indexed T' first (es ++ (record { row = row; name = part A start len } ∷ [])))
 
 -- Where the first member of a name stands.
-abbrev pub firstNamed : Bytes → List Entry → Found
-firstNamed n [] = Nowhere
-firstNamed n (e ∷ es) = cond (sameBytes n e.name) (At e.row) (firstNamed n es)
+abbrev pub first_named : Bytes → List Entry → Found
+first_named n [] = Nowhere
+first_named n (e ∷ es) = cond (same_bytes n e.name) (At e.row) (first_named n es)
 
 -- What `find(table, strings, first, name) -> Found` promises: that member, of those that the table's entries index.
 pub record Finds (T A : Bytes) (first : ℕ) (n : Bytes) (r : Found) : Type 0 where
   pub is :
-      (es : List Entry) → 1 ≤ first → tableBytes ≤ length T → Indexed T first es → Named T A es → Between first maxValues es → (es ≡ [] → ⊥)
-      → r ≡ firstNamed n es
+      (es : List Entry) → 1 ≤ first → table_bytes ≤ length T → Indexed T first es → Named T A es → Between first max_values es → (es ≡ [] → ⊥)
+      → r ≡ first_named n es

@@ -1,8 +1,8 @@
 -- Inner: what the functions below `enter` promise.
 use Rattle.std.specs.Prelude.{◌≡◌, Bool, true, false, cond, [], ◌++◌, ℕ, ◌+◌, ◌*◌, ◌-◌, ◌/◌, ◌%◌, ◌^◌, ◌<◌, ◌≤◌, length, get_or}
 use Rattle.std.proofs.lemmas.List.Edits.{sets}
-use Rattle.model.specs.Bytes.{Bytes, sameBytes}
-use Rattle.model.specs.Limits.{maxValues}
+use Rattle.model.specs.Bytes.{Bytes, same_bytes}
+use Rattle.model.specs.Limits.{max_values}
 use Rattle.area.specs.Words.{word, word_at}
 use Rattle.name_index.specs.declared.Compared.{Compared}
 use Rattle.name_index.specs.declared.Compared.TheVariants.{Same, Differ}
@@ -11,8 +11,8 @@ use Rattle.name_index.specs.declared.find.Found.{Found}
 use Rattle.name_index.specs.declared.find.Found.TheVariants.{Nowhere, At}
 use Rattle.name_index.specs.Bits.{part, Critical}
 use Rattle.name_index.specs.Trie.{Trie, Node, Ordered, Walk, Ends}
-use Rattle.syntax.specs.Layout.{tableBytes}
-use Rattle.name_index.specs.Slots.{nameStart, nameLength, place, side, link_in, Holds}
+use Rattle.syntax.specs.Layout.{table_bytes}
+use Rattle.name_index.specs.Slots.{name_start, name_length, place, side, link_in, Holds}
 
 -- ---- comparing names
 
@@ -42,16 +42,16 @@ Ranked (Differ c) = c < 1073741824
 -- How a name compares with that of the row of a leaf.
 abbrev pub ToldOf : Bytes → Bytes → ℕ → ℕ → Bytes → Compared → Type 0
 ToldOf T A link row n r =
-    (q : ℕ) → link ≡ q * 2 → q < row → nameStart T q + nameLength T q ≤ length A
-    → Told n (part A (nameStart T q) (nameLength T q)) r
+    (q : ℕ) → link ≡ q * 2 → q < row → name_start T q + name_length T q ≤ length A
+    → Told n (part A (name_start T q) (name_length T q)) r
 
 -- ---- going down
 
 -- A name of `len` bytes at `start` may lead through the entries from `first` up to `row`.
 pub record WalkRoom (T A : Bytes) (first row start len : ℕ) : Type 0 where
-  pub table : tableBytes ≤ length T
+  pub table : table_bytes ≤ length T
   pub order : first < row
-  pub below : row < maxValues
+  pub below : row < max_values
   pub inside : start + len ≤ length A
 
 -- The link at which a walk in a trie ends.
@@ -113,5 +113,5 @@ pub record Forked (T : Bytes) (at row rank turn : ℕ) (T' : Bytes) : Type 0 whe
 -- The row of a slot, if the name in it is this one.
 pub record NamedSlot (T A : Bytes) (slot : ℕ) (n : Bytes) (r : Found) : Type 0 where
   pub is :
-      slot + 1 < maxValues → nameStart T slot + nameLength T slot ≤ length A
-      → r ≡ cond (sameBytes n (part A (nameStart T slot) (nameLength T slot))) (At (slot + 1)) Nowhere
+      slot + 1 < max_values → name_start T slot + name_length T slot ≤ length A
+      → r ≡ cond (same_bytes n (part A (name_start T slot) (name_length T slot))) (At (slot + 1)) Nowhere

@@ -1,11 +1,11 @@
 -- Slots: where the trie of an object's names lies in a table, and what entering a name promises.
 -- The slot of a member is the number of its row, less one: row 0 is no member.
 use Rattle.std.specs.Prelude.{◌≡◌, Bool, true, false, List, [], ◌∷◌, ◌++◌, map, ◌⊎◌, ℕ, ◌+◌, ◌*◌, ◌/◌, ◌%◌, ◌<◌, ◌≤◌, length, take, drop}
-use Rattle.model.specs.Bytes.{Bytes, sameBytes}
-use Rattle.model.specs.Limits.{maxValues, maxTextBytes}
+use Rattle.model.specs.Bytes.{Bytes, same_bytes}
+use Rattle.model.specs.Limits.{max_values, max_text_bytes}
 use Rattle.model.specs.Lists.{any}
 use Rattle.area.specs.Words.{word_at}
-use Rattle.syntax.specs.Layout.{rowBytes, entryBytes, tableBytes}
+use Rattle.syntax.specs.Layout.{row_bytes, entry_bytes, table_bytes}
 use Rattle.name_index.specs.Bits.{part}
 use Rattle.name_index.specs.Trie.{Trie, leaf, node, Leaf, Node, Apart, Ordered}
 
@@ -20,21 +20,21 @@ names ms = map (λ m. m.1) ms
 
 -- A name's bytes are those of one in the list.
 abbrev pub among : Bytes → List Bytes → Bool
-among n seen = any (sameBytes n) seen
+among n seen = any (same_bytes n) seen
 
 -- ---- rows: sixteen bytes each. The first word holds the kind and 256 times the length of the name, the second where
 -- the name begins in the strings.
 
-abbrev pub nameLength : Bytes → ℕ → ℕ
-nameLength T r = word_at T (r * 16 + 16) / 256
+abbrev pub name_length : Bytes → ℕ → ℕ
+name_length T r = word_at T (r * 16 + 16) / 256
 
-abbrev pub nameStart : Bytes → ℕ → ℕ
-nameStart T r = word_at T (r * 16 + 20)
+abbrev pub name_start : Bytes → ℕ → ℕ
+name_start T r = word_at T (r * 16 + 20)
 
 -- The rows of the members say their names.
 pub record Named (T A : Bytes) (ms : List (ℕ × Bytes)) : Type 0 where
-  pub inside : (r : ℕ) (n : Bytes) → Has ms r n → nameStart T r + nameLength T r ≤ length A
-  pub name : (r : ℕ) (n : Bytes) → Has ms r n → n ≡ part A (nameStart T r) (nameLength T r)
+  pub inside : (r : ℕ) (n : Bytes) → Has ms r n → name_start T r + name_length T r ≤ length A
+  pub name : (r : ℕ) (n : Bytes) → Has ms r n → n ≡ part A (name_start T r) (name_length T r)
 
 -- The members stand in slots from `first` up to `row`, and there are none exactly where the two are the same.
 pub record Within (first row : ℕ) (ms : List (ℕ × Bytes)) : Type 0 where
@@ -46,10 +46,10 @@ pub record Within (first row : ℕ) (ms : List (ℕ × Bytes)) : Type 0 where
 -- root's link is the left one of the entry `first`. A link is twice the row of a leaf, or one more than twice that of a node.
 
 unfoldable pub place : ℕ → ℕ
-place k = maxValues * rowBytes + k * entryBytes
+place k = max_values * row_bytes + k * entry_bytes
 
 unfoldable pub entry : Bytes → ℕ → Bytes
-entry T k = take entryBytes (drop (place k) T)
+entry T k = take entry_bytes (drop (place k) T)
 
 -- Where the word of a side lies in an entry.
 abbrev pub side : Bool → ℕ
@@ -60,11 +60,11 @@ side true = 4
 abbrev pub link_in : ℕ → ℕ
 link_in w = w % 131072
 
-abbrev pub rankIn : ℕ → ℕ → ℕ
-rankIn x y = x / 131072 + y / 131072 * 32768
+abbrev pub rank_in : ℕ → ℕ → ℕ
+rank_in x y = x / 131072 + y / 131072 * 32768
 
 abbrev pub rank_at : Bytes → ℕ → ℕ
-rank_at T k = rankIn (word_at (entry T k) 0) (word_at (entry T k) 4)
+rank_at T k = rank_in (word_at (entry T k) 0) (word_at (entry T k) 4)
 
 abbrev pub link_at : Bytes → ℕ → Bool → ℕ
 link_at T k b = link_in (word_at (entry T k) (side b))
@@ -92,17 +92,17 @@ Indexed T first (m ∷ ms) = Tree T first (m ∷ ms)
 -- ---- entering the name of `len` bytes at `start`, for the member in the slot `row` of the object whose first is in `first`
 
 pub record Room (T A : Bytes) (first row start len : ℕ) : Type 0 where
-  pub table : tableBytes ≤ length T
+  pub table : table_bytes ≤ length T
   pub order : first ≤ row
-  pub below : row < maxValues
+  pub below : row < max_values
   pub inside : start + len ≤ length A
-  pub short : start + len ≤ maxTextBytes
+  pub short : start + len ≤ max_text_bytes
 
 -- Rows stay as they are, and so do the entries before `first`, behind `row`, and of slots that are no member's. The answer tells whether the name is
 -- among those of the members so far; if it is not, the index is then that of these and the new one.
 pub record Entered (T A : Bytes) (first row start len : ℕ) (b : Bool) (T' : Bytes) : Type 0 where
   pub size : length T' ≡ length T
-  pub rows : take (maxValues * 16) T' ≡ take (maxValues * 16) T
+  pub rows : take (max_values * 16) T' ≡ take (max_values * 16) T
   pub kept : (k : ℕ) → k < first → entry T' k ≡ entry T k
   pub later : (k : ℕ) → row < k → entry T' k ≡ entry T k
   pub others : (ms : List (ℕ × Bytes)) → Indexed T first ms → Named T A ms → Within first row ms

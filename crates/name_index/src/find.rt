@@ -1,12 +1,12 @@
 // A name among those of an object's members, by their index.
 ghost use Rattle.std.specs.Prelude.{◌≤◌, length};
-ghost use Rattle.syntax.specs.Layout.{tableBytes};
+ghost use Rattle.syntax.specs.Layout.{table_bytes};
 ghost use Rattle.name_index.specs.Contract.{Finds};
 ghost use Rattle.name_index.specs.Inner.{NamedSlot};
 
 use crate::{NO_STOP, descend};
 use area::get_word;
-use bytes::same;
+use octets::same;
 use model::MAX_VALUES;
 use syntax::TABLE_BYTES;
 
@@ -44,7 +44,7 @@ pub fn find(table: &[u8], strings: &[u8], first: usize, name: &[u8]) -> Found
 
 // The row of a slot, if the member there has this name.
 fn named(table: &[u8], strings: &[u8], slot: usize, name: &[u8]) -> Found
-    requires { tableBytes ≤ length table.now }
+    requires { table_bytes ≤ length table.now }
     ensures { NamedSlot table.now strings.now slot name.now result }
 {
     if MAX_VALUES - 1 <= slot {

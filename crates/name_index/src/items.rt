@@ -1,7 +1,7 @@
 // The index of the items of an array: the entry of an item's row holds the row of the item twice as far from the first.
 ghost use Rattle.std.specs.Prelude.{false, ◌≡◌};
-ghost use Rattle.name_index.specs.Items.{hasEntry, doubleAt, putDouble, linkFrom, isArray, has_index, linkNode, linkRows, linkItems, itemRow};
-ghost use Rattle.table.specs.Node.{nodeAt};
+ghost use Rattle.name_index.specs.Items.{has_entry, double_at, put_double, link_from, is_array, has_index, link_node, link_rows, link_items, item_row};
+ghost use Rattle.table.specs.Node.{node_at};
 
 use crate::entry_at;
 use area::{get_word, put_word};
@@ -14,7 +14,7 @@ const FEW: usize = 24;
 
 // A table has an entry for each row but row 0.
 fn has_entry(table: &[u8], row: usize) -> bool
-    ensures { result ≡ hasEntry table.now row }
+    ensures { result ≡ has_entry table.now row }
 {
     if table.len() < TABLE_BYTES {
         return false;
@@ -27,7 +27,7 @@ fn has_entry(table: &[u8], row: usize) -> bool
 
 // The row of the item twice as far as the one in a row; 0 where there is no entry.
 fn double_at(table: &[u8], row: usize) -> usize
-    ensures { result ≡ doubleAt table.now row }
+    ensures { result ≡ double_at table.now row }
 {
     if !has_entry(table, row) {
         return 0;
@@ -36,7 +36,7 @@ fn double_at(table: &[u8], row: usize) -> usize
 }
 
 fn put_double(table: &mut [u8], row: usize, far: usize)
-    ensures { table.new ≡ putDouble table.old row far }
+    ensures { table.new ≡ put_double table.old row far }
 {
     if has_entry(table, row) {
         put_word(table, entry_at(row - 1), far);
@@ -45,7 +45,7 @@ fn put_double(table: &mut [u8], row: usize, far: usize)
 
 // Enters the items of an array.
 fn link(table: &mut [u8], q: Rows)
-    ensures { table.new ≡ linkFrom table.old q.first q.first q.count }
+    ensures { table.new ≡ link_from table.old q.first q.first q.count }
 {
     let mut row = q.first;
     let mut far = q.first;
@@ -78,7 +78,7 @@ pub fn has_index(table: &[u8], row: usize, q: Rows) -> bool
 
 // Whether an array stands in a row.
 fn is_array(table: &[u8], row: usize) -> bool
-    ensures { result ≡ false → isArray (nodeAt table.now row) ≡ 0 }
+    ensures { result ≡ false → is_array (node_at table.now row) ≡ 0 }
 {
     if row >= table.len() / ROW_BYTES {
         return false;
@@ -88,7 +88,7 @@ fn is_array(table: &[u8], row: usize) -> bool
 
 // Enters the items of an array in a row, if it is to have an index.
 fn link_row(table: &mut [u8], row: usize)
-    ensures { table.new ≡ linkNode table.old row (nodeAt table.old row) }
+    ensures { table.new ≡ link_node table.old row (node_at table.old row) }
 {
     if !is_array(table, row) {
         return;
@@ -105,7 +105,7 @@ fn link_row(table: &mut [u8], row: usize)
 
 // Enters the items of the arrays in the first `rows` rows that are to have an index.
 fn link_rows(table: &mut [u8], rows: usize)
-    ensures { table.new ≡ linkRows table.old 0 rows }
+    ensures { table.new ≡ link_rows table.old 0 rows }
 {
     let mut row = 0;
     while row < rows {
@@ -116,7 +116,7 @@ fn link_rows(table: &mut [u8], rows: usize)
 
 // The same for a whole text of so many values. In the rows of few values there is no array that is to have one.
 pub fn link_items(table: &mut [u8], rows: usize)
-    ensures { table.new ≡ linkItems table.old rows }
+    ensures { table.new ≡ link_items table.old rows }
 {
     if rows <= FEW + 2 {
         return;
@@ -126,7 +126,7 @@ pub fn link_items(table: &mut [u8], rows: usize)
 
 // The row of the item so many after the first, in an array that has an index.
 pub fn item_row(table: &[u8], first: usize, at: usize) -> usize
-    ensures { result ≡ itemRow table.now first at }
+    ensures { result ≡ item_row table.now first at }
 {
     let mut row = first;
     let mut rest = at;

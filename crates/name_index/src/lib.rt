@@ -1,11 +1,11 @@
 // An index of the names of one object's members: a crit-bit trie in the entries behind the table's rows.
 ghost use Rattle.std.specs.Prelude.{◌≡◌, ◌+◌, ◌*◌, ◌≤◌, ◌<◌, length};
-ghost use Rattle.model.specs.Limits.{maxValues, maxTextBytes};
+ghost use Rattle.model.specs.Limits.{max_values, max_text_bytes};
 ghost use Rattle.name_index.specs.Bits.{part, symbol_at, bit_at};
 ghost use Rattle.name_index.specs.Contract.{EnterRoom};
 ghost use Rattle.name_index.specs.Contract as index;
-ghost use Rattle.syntax.specs.Layout.{tableBytes};
-ghost use Rattle.name_index.specs.Slots.{place, side, link_in, rankIn, Room, Entered};
+ghost use Rattle.syntax.specs.Layout.{table_bytes};
+ghost use Rattle.name_index.specs.Slots.{place, side, link_in, rank_in, Room, Entered};
 ghost use Rattle.name_index.specs.Inner.{Common, Highest, Told, Ranked, ToldOf, WalkRoom, Descended, Stopped, NoNode, IsNode, RankOf, noded, Forked};
 ghost use Rattle.area.specs.Words.{word_at};
 
@@ -87,7 +87,7 @@ fn enter_slot(
 
 // Where the entry of a slot begins.
 fn entry_at(row: usize) -> usize
-    requires { row < maxValues }
+    requires { row < max_values }
     ensures { result ≡ place row }
 {
     MAX_VALUES * ROW_BYTES + row * ENTRY_BYTES
@@ -183,7 +183,7 @@ fn link_at(table: &[u8], at: usize) -> usize
 // The rank in an entry; `stop` if it is below `from`.
 fn rank_of(table: &[u8], entry: usize, from: usize, stop: usize) -> usize
     requires { entry + 8 ≤ length table.now }
-    ensures { RankOf (rankIn (word_at table.now entry) (word_at table.now (entry + 4))) from stop result }
+    ensures { RankOf (rank_in (word_at table.now entry) (word_at table.now (entry + 4))) from stop result }
 {
     let low = get_word(table, entry) / LINKS;
     let high = get_word(table, entry + 4) / LINKS;
@@ -223,7 +223,7 @@ fn compare(
     start: usize,
     len: usize,
 ) -> Compared
-    requires { (tableBytes ≤ length table.now) × (row < maxValues) × (start + len ≤ length strings.now) × (start + len ≤ maxTextBytes) }
+    requires { (table_bytes ≤ length table.now) × (row < max_values) × (start + len ≤ length strings.now) × (start + len ≤ max_text_bytes) }
     ensures { ToldOf table.now strings.now link row (part strings.now start len) result × Ranked result }
 {
     let other = link / 2;
@@ -240,7 +240,7 @@ fn compare(
 
 // Compares the m bytes at a with the n bytes at b.
 fn critical(strings: &[u8], a: usize, m: usize, b: usize, n: usize) -> Compared
-    requires { (a + m ≤ length strings.now) × (b + n ≤ length strings.now) × (m ≤ maxTextBytes) }
+    requires { (a + m ≤ length strings.now) × (b + n ≤ length strings.now) × (m ≤ max_text_bytes) }
     ensures { Told (part strings.now a m) (part strings.now b n) result }
 {
     let p = common(strings, a, m, b, n);
@@ -280,7 +280,7 @@ fn high(x: usize, y: usize) -> usize
 
 // Puts the node of `row` at a link: the new leaf on its side, what hung there on the other.
 fn fork(table: &mut [u8], at: usize, row: usize, rank: usize, side: usize)
-    requires { (tableBytes ≤ length table.old) × (row < maxValues) × (at + 4 ≤ length table.old) × (rank < 1073741824) }
+    requires { (table_bytes ≤ length table.old) × (row < max_values) × (at + 4 ≤ length table.old) × (rank < 1073741824) }
     ensures { Forked table.old at row rank side table.new }
 {
     let word = get_word(table, at);
@@ -295,7 +295,7 @@ fn fork(table: &mut [u8], at: usize, row: usize, rank: usize, side: usize)
 
 // The entry of a node: its links and its rank.
 fn put_node(table: &mut [u8], row: usize, rank: usize, left: usize, right: usize)
-    requires { (tableBytes ≤ length table.old) × (row < maxValues) × (rank < 1073741824) × (left < 131072) × (right < 131072) }
+    requires { (table_bytes ≤ length table.old) × (row < max_values) × (rank < 1073741824) × (left < 131072) × (right < 131072) }
     ensures { table.new ≡ noded table.old row rank left right }
 {
     let entry = entry_at(row);

@@ -9,37 +9,37 @@ use lib.IntN.{ℤ, pos, negsuc, ◌-ℤ◌}
 use mir.Facts.{to_z-of_z, to_z_pos}
 use mir.Syntax.{w64}
 use mir.Val.{SFits, of_z, to_z}
-use Rattle.model.specs.Limits.{maxInteger}
-use Rattle.model.specs.Value.{withinLimits}
+use Rattle.model.specs.Limits.{max_integer}
+use Rattle.model.specs.Value.{within_limits}
 use Rattle.model.specs.Laws.Logic.{and_l}
 use Rattle.syntax.specs.Layout.{biased}
-use Rattle.calendar.specs.Laws.Instant.{minus, minus-below}
+use Rattle.calendar.specs.Laws.Instant.{minus, minus_below}
 use Rattle.op_dates.specs.Inner.{Unbiased}
 
 -- A number below 2^54, as the machine reads it.
 read : (n : ℕ) → to_z w64 (n % 18014398509481984) ≡ pos (n % 18014398509481984)
 read n = to_z_pos w64 (omega arith)
 
-difference-fits : (m : ℕ) → m < 18014398509481984 → SFits w64 (pos m -ℤ pos 9007199254740992)
-difference-fits m h = go (dec_lt m 9007199254740992)
+difference_fits : (m : ℕ) → m < 18014398509481984 → SFits w64 (pos m -ℤ pos 9007199254740992)
+difference_fits m h = go (dec_lt m 9007199254740992)
   where
     go : Dec (m < 9007199254740992) → SFits w64 (pos m -ℤ pos 9007199254740992)
-    go (yes p) = rw (minus-below m 9007199254740992 p) (record { sfits = omega arith })
+    go (yes p) = rw (minus_below m 9007199254740992 p) (record { sfits = omega arith })
     go (no p) = rw (minus m 9007199254740992 (omega arith)) (record { sfits = omega arith })
 
-difference-is : (n : ℕ) (k : ℤ) → T (withinLimits k) → n ≡ biased k → pos (n % 18014398509481984) -ℤ pos 9007199254740992 ≡ k
-unfolding biased maxInteger
-difference-is n (pos j) w e =
+difference_is : (n : ℕ) (k : ℤ) → T (within_limits k) → n ≡ biased k → pos (n % 18014398509481984) -ℤ pos 9007199254740992 ≡ k
+unfolding biased max_integer
+difference_is n (pos j) w e =
     let l = leb→le j 9007199254740991 w in
     let r : n % 18014398509481984 - 9007199254740992 ≡ j = omega arith in
     minus (n % 18014398509481984) 9007199254740992 (omega arith) ∙ ap pos r
-difference-is n (negsuc j) w e =
+difference_is n (negsuc j) w e =
     let l = leb→le j 9007199254740990 (and_l (leb j 9007199254740990) true w) in
     let r : 9007199254740992 - suc (n % 18014398509481984) ≡ j = omega arith in
-    minus-below (n % 18014398509481984) 9007199254740992 (omega arith) ∙ ap negsuc r
+    minus_below (n % 18014398509481984) 9007199254740992 (omega arith) ∙ ap negsuc r
 
-pub amount-fits : (n : ℕ) → SFits w64 (to_z w64 (n % 18014398509481984) -ℤ pos 9007199254740992)
-amount-fits n = rw (read n) (difference-fits (n % 18014398509481984) (omega arith))
+pub amount_fits : (n : ℕ) → SFits w64 (to_z w64 (n % 18014398509481984) -ℤ pos 9007199254740992)
+amount_fits n = rw (read n) (difference_fits (n % 18014398509481984) (omega arith))
 
-pub amount-is : (n : ℕ) → Unbiased n (to_z w64 (of_z w64 (to_z w64 (n % 18014398509481984) -ℤ pos 9007199254740992)))
-amount-is n = record { is = λ k w e. to_z-of_z (amount-fits n) ∙ (ap (λ (z : ℤ). z -ℤ pos 9007199254740992) (read n) ∙ difference-is n k w e) }
+pub amount_is : (n : ℕ) → Unbiased n (to_z w64 (of_z w64 (to_z w64 (n % 18014398509481984) -ℤ pos 9007199254740992)))
+amount_is n = record { is = λ k w e. to_z-of_z (amount_fits n) ∙ (ap (λ (z : ℤ). z -ℤ pos 9007199254740992) (read n) ∙ difference_is n k w e) }

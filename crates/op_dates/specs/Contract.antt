@@ -1,8 +1,8 @@
 -- Contract: what the two functions promise.
 use Rattle.std.specs.Prelude.{◌≡◌, ℕ, T, ℤ}
 use Rattle.model.specs.Bytes.{Bytes}
-use Rattle.model.specs.Operations.{plusTime, dateOfBirth}
-use Rattle.model.specs.Value.{Value, withinLimits}
+use Rattle.model.specs.Operations.{plus_time, date_of_birth}
+use Rattle.model.specs.Value.{Value, within_limits}
 use Rattle.model.specs.declared.TimeUnit.{TimeUnit}
 use Rattle.syntax.specs.Layout.{biased}
 use Rattle.heap.specs.declared.handle.Handle.{Handle}
@@ -15,10 +15,10 @@ use Rattle.op_result.specs.Contract.{Gives}
 pub record Shifts (A B : Bytes) (amount : ℕ) (unit : TimeUnit) (h : Handle) (r : Operated) : Type 0 where
   pub gives :
       (R C : Bytes) (top : ℕ) (k : ℤ) (v : Value)
-      → T (withinLimits k)
+      → T (within_limits k)
       → amount ≡ biased k
       → Means (areas A B R C) top v h
-      → Gives (areas A B R C) top (plusTime k unit v) r
+      → Gives (areas A B R C) top (plus_time k unit v) r
 
 pub record Born (A B : Bytes) (h : Handle) (r : Operated) : Type 0 where
-  pub gives : (R C : Bytes) (top : ℕ) (v : Value) → Means (areas A B R C) top v h → Gives (areas A B R C) top (dateOfBirth v) r
+  pub gives : (R C : Bytes) (top : ℕ) (v : Value) → Means (areas A B R C) top v h → Gives (areas A B R C) top (date_of_birth v) r

@@ -2,18 +2,18 @@
 use Rattle.std.proofs.Math.Option.{some}
 use Rattle.std.specs.Prelude.{◌≡◌, ℕ, ◌≤◌}
 use Rattle.model.specs.Bytes.{Bytes}
-use Rattle.model.specs.Limits.{heapCells}
-use Rattle.model.specs.Path.{Path, pathOf, value_at}
+use Rattle.model.specs.Limits.{heap_cells}
+use Rattle.model.specs.Path.{Path, path_of, value_at}
 use Rattle.model.specs.Value.{Value}
 use Rattle.heap.specs.declared.handle.Handle.{Handle}
 use Rattle.heap.specs.Means.{Means}
 use Rattle.heap.specs.Unfold.{areas}
 
--- 01, `var`. The path's text s is one of `var` (pathOf); c is the value of the context's handle. The rule's strings A play no part.
+-- 01, `var`. The path's text s is one of `var` (path_of); c is the value of the context's handle. The rule's strings A play no part.
 pub record Leads (s B T C : Bytes) (context r : Handle) : Type 0 where
   pub leads :
       (A : Bytes) (top : ℕ) (q : Path) (c : Value)
-      → pathOf s ≡ some q
-      → top ≤ heapCells
+      → path_of s ≡ some q
+      → top ≤ heap_cells
       → Means (areas A B T C) top c context
       → Means (areas A B T C) top (value_at q c) r

@@ -1,8 +1,8 @@
 -- Inner: what the private functions do.
 use Rattle.std.specs.Prelude.{cond, ◌≡◌, ℕ, ◌+◌, ◌≤◌}
-use Rattle.model.specs.Bytes.{Bytes, sameBytes}
+use Rattle.model.specs.Bytes.{Bytes, same_bytes}
 use Rattle.model.specs.Eval.{current, accumulator}
-use Rattle.model.specs.Limits.{heapCells}
+use Rattle.model.specs.Limits.{heap_cells}
 use Rattle.model.specs.Option.{◌>>=◌}
 use Rattle.model.specs.Path.{index_of, item_at, part}
 use Rattle.model.specs.Value.{Value, array, Values}
@@ -15,7 +15,7 @@ use Rattle.heap.specs.declared.handle.Form.TheVariants.{Items, Members, List, Co
 use Rattle.heap.specs.declared.handle.Handle.{Handle}
 use Rattle.heap.specs.declared.handle.Handle.TheVariants.{Null, False, True, Integer, Instant, String, Compound}
 use Rattle.heap.specs.declared.handle.Parts.{Parts}
-use Rattle.heap.specs.Cells.{cellHandle}
+use Rattle.heap.specs.Cells.{cell_handle}
 use Rattle.heap.specs.Means.{Means}
 use Rattle.heap.specs.Unfold.{areas}
 use Rattle.op_lookup.specs.declared.Place.{Place}
@@ -23,11 +23,11 @@ use Rattle.op_lookup.specs.declared.Place.TheVariants.{Record, Cells}
 
 -- ---- where a value lies
 -- By what its parts are.
-abbrev pub placeBy : Form → Rows → Place
-placeBy Items q = Record (nodes.Array q)
-placeBy Members q = Record (nodes.Object q)
-placeBy List q = Cells
-placeBy Context q = Cells
+abbrev pub place_by : Form → Rows → Place
+place_by Items q = Record (nodes.Array q)
+place_by Members q = Record (nodes.Object q)
+place_by List q = Cells
+place_by Context q = Cells
 
 abbrev pub place_of : Handle → Place
 place_of Null = Cells
@@ -36,21 +36,21 @@ place_of True = Cells
 place_of (Integer n) = Cells
 place_of (Instant n) = Cells
 place_of (String s) = Cells
-place_of (Compound p) = placeBy p.form (rows p.first p.count)
+place_of (Compound p) = place_by p.form (rows p.first p.count)
 
 -- ---- cells
 -- The member of a context, of the name f: 01, Evaluation: "an object with `current` and `accumulator` in that order".
-abbrev pub memberOf : Bytes → Bytes → ℕ → Handle
-memberOf f C cell =
-    cond (sameBytes f current) (cellHandle C cell)
-    (cond (sameBytes f accumulator) (cellHandle C (cell + 1))
+abbrev pub member_of : Bytes → Bytes → ℕ → Handle
+member_of f C cell =
+    cond (same_bytes f current) (cell_handle C cell)
+    (cond (same_bytes f accumulator) (cell_handle C (cell + 1))
     Null)
 
 -- The item of a computed list, null where there is none.
 pub record ItemNamed (f C : Bytes) (p : Parts) (r : Handle) : Type 0 where
   pub means :
       (A B T : Bytes) (top : ℕ) (vs : Values)
-      → top ≤ heapCells
+      → top ≤ heap_cells
       → p.form ≡ List
       → Means (areas A B T C) top (array vs) (Compound p)
       → Means (areas A B T C) top (or_null (index_of f >>= item_at vs)) r
@@ -60,7 +60,7 @@ pub record ItemNamed (f C : Bytes) (p : Parts) (r : Handle) : Type 0 where
 pub record PartNamed (f C : Bytes) (h r : Handle) : Type 0 where
   pub means :
       (A B T : Bytes) (top : ℕ) (v : Value)
-      → top ≤ heapCells
+      → top ≤ heap_cells
       → place_of h ≡ Cells
       → Means (areas A B T C) top v h
       → Means (areas A B T C) top (or_null (part f v)) r

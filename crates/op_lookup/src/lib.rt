@@ -1,12 +1,12 @@
 // `var`: the value at a path, by handles: through cells here, through the record's rows by crate paths.
 ghost use Rattle.std.specs.Prelude.{◌≡◌, ◌+◌};
-ghost use Rattle.heap.specs.Cells.{cellHandle};
+ghost use Rattle.heap.specs.Cells.{cell_handle};
 ghost use Rattle.name_index.specs.Table.{IndexedTable};
 ghost use Rattle.op_lookup.specs.Contract.{Leads};
-ghost use Rattle.op_lookup.specs.Inner.{place_of, memberOf, ItemNamed, PartNamed};
+ghost use Rattle.op_lookup.specs.Inner.{place_of, member_of, ItemNamed, PartNamed};
 
-use bytes::path::fragment_end;
-use bytes::same;
+use octets::path::fragment_end;
+use octets::same;
 use heap::cell::{CELL_BYTES, get};
 use heap::handle::{Form, Handle, Parts, of_node};
 use paths::find;
@@ -40,7 +40,7 @@ fn place_of(h: Handle) -> Place
 
 // The handle so many cells after a cell; null where there is no such cell.
 fn cell_after(cells: &[u8], cell: usize, at: usize) -> Handle
-    ensures { result ≡ cellHandle cells.now (cell + at) }
+    ensures { result ≡ cell_handle cells.now (cell + at) }
 {
     let count = cells.len() / CELL_BYTES;
     if cell >= count {
@@ -54,7 +54,7 @@ fn cell_after(cells: &[u8], cell: usize, at: usize) -> Handle
 
 // The member of a context, which has `current` in a cell and `accumulator` in the next.
 fn member(fragment: &[u8], cells: &[u8], cell: usize) -> Handle
-    ensures { result ≡ memberOf fragment.now cells.now cell }
+    ensures { result ≡ member_of fragment.now cells.now cell }
 {
     if same(fragment, b"current") {
         return get(cells, cell);

@@ -2,10 +2,10 @@
 use Rattle.std.specs.Prelude.{◌≡◌, Bool, true, false, ◌||◌, ℕ, zero, suc, ◌+◌, leb, ltb, ℤ, pos, negsuc}
 use Rattle.std.proofs.Math.Option.{Option, none, some}
 use Rattle.model.specs.Bytes.{Bytes}
-use Rattle.model.specs.Instant.{msBefore1970}
+use Rattle.model.specs.Instant.{ms_before1970}
 use Rattle.model.specs.Operations.{as_number}
 use Rattle.model.specs.Option.{holds}
-use Rattle.model.specs.Value.{Value, Scalar, null, boolean, integer, string, sameScalar}
+use Rattle.model.specs.Value.{Value, Scalar, null, boolean, integer, string, same_scalar}
 use Rattle.model.specs.declared.Comparison.{Comparison}
 use Rattle.model.specs.declared.Comparison.TheVariants.{Greater, Less, GreaterOrEqual, LessOrEqual}
 use Rattle.model.specs.declared.Domain.{Domain}
@@ -17,8 +17,8 @@ use Rattle.heap.specs.declared.handle.Handle.{Handle}
 use Rattle.heap.specs.declared.handle.Handle.TheVariants.{Null, False, True, Integer, Instant, String, Compound}
 use Rattle.heap.specs.declared.handle.Parts.{Parts}
 use Rattle.heap.specs.Means.{Means}
-use Rattle.heap.specs.Parts.{head_of, tailOf}
-use Rattle.heap.specs.Strings.{spanBytes}
+use Rattle.heap.specs.Parts.{head_of, tail_of}
+use Rattle.heap.specs.Strings.{span_bytes}
 use Rattle.heap.specs.Unfold.{Areas}
 use Rattle.op_scalars.specs.declared.compare.Number.{Number}
 use Rattle.op_scalars.specs.declared.compare.Number.TheVariants.{Is, NotOne}
@@ -26,24 +26,24 @@ use Rattle.op_scalars.specs.declared.truth.Truth.{Truth}
 use Rattle.op_scalars.specs.declared.truth.Truth.TheVariants.{Truthy, Falsy}
 
 -- ---- booleans
-abbrev pub booleanHandle : Bool → Handle
-booleanHandle false = False
-booleanHandle true = True
+abbrev pub boolean_handle : Bool → Handle
+boolean_handle false = False
+boolean_handle true = True
 
-abbrev pub truthyUnless : Bool → Truth
-truthyUnless false = Truthy
-truthyUnless true = Falsy
+abbrev pub truthy_unless : Bool → Truth
+truthy_unless false = Truthy
+truthy_unless true = Falsy
 
 -- ---- scalars
 -- The scalar of a handle, with strings in A and B; none of an instant, an array or an object.
-abbrev pub scalarOf : Bytes → Bytes → Handle → Option Scalar
-scalarOf A B Null = some null
-scalarOf A B False = some (boolean false)
-scalarOf A B True = some (boolean true)
-scalarOf A B (Integer n) = some (integer (unbiased n))
-scalarOf A B (Instant n) = none
-scalarOf A B (String s) = some (string (spanBytes A B s))
-scalarOf A B (Compound p) = none
+abbrev pub scalar_of : Bytes → Bytes → Handle → Option Scalar
+scalar_of A B Null = some null
+scalar_of A B False = some (boolean false)
+scalar_of A B True = some (boolean true)
+scalar_of A B (Integer n) = some (integer (unbiased n))
+scalar_of A B (Instant n) = none
+scalar_of A B (String s) = some (string (span_bytes A B s))
+scalar_of A B (Compound p) = none
 
 abbrev pub is_scalar : Handle → Bool
 is_scalar Null = true
@@ -55,34 +55,34 @@ is_scalar (String s) = true
 is_scalar (Compound p) = false
 
 -- It is a handle of this scalar.
-abbrev pub isThe : Bytes → Bytes → Scalar → Handle → Bool
-isThe A B x h = holds (sameScalar x) (scalarOf A B h)
+abbrev pub is_the : Bytes → Bytes → Scalar → Handle → Bool
+is_the A B x h = holds (same_scalar x) (scalar_of A B h)
 
 -- Both are handles of one scalar.
-abbrev pub sameHandles : Bytes → Bytes → Handle → Handle → Bool
-sameHandles A B g h = holds (λ x. isThe A B x h) (scalarOf A B g)
+abbrev pub same_handles : Bytes → Bytes → Handle → Handle → Bool
+same_handles A B g h = holds (λ x. is_the A B x h) (scalar_of A B g)
 
 -- One of so many parts is of the same scalar; T is the table, C the heap.
-unfoldable pub amongParts : Bytes → Bytes → Bytes → Bytes → Handle → ℕ → Parts → Bool
-amongParts A B T C x zero p = false
-amongParts A B T C x (suc n) p = sameHandles A B x (head_of T C p) || amongParts A B T C x n (tailOf T C p)
+unfoldable pub among_parts : Bytes → Bytes → Bytes → Bytes → Handle → ℕ → Parts → Bool
+among_parts A B T C x zero p = false
+among_parts A B T C x (suc n) p = same_handles A B x (head_of T C p) || among_parts A B T C x n (tail_of T C p)
 
-abbrev pub isArray : Form → Bool
-isArray Items = true
-isArray Members = false
-isArray List = true
-isArray Context = false
+abbrev pub is_array : Form → Bool
+is_array Items = true
+is_array Members = false
+is_array List = true
+is_array Context = false
 
 -- ---- numbers
 -- n is the integer z raised by k.
 pub data Raised (k : ℕ) : ℤ → ℕ → Type 0 where
-  raised-pos : (m n : ℕ) → n ≡ m + k → Raised k (pos m) n
-  raised-negsuc : (m n : ℕ) → n + suc m ≡ k → Raised k (negsuc m) n
+  raised_pos : (m n : ℕ) → n ≡ m + k → Raised k (pos m) n
+  raised_negsuc : (m n : ℕ) → n + suc m ≡ k → Raised k (negsuc m) n
 
 -- The number in the handle of 0, or of the instant 0.
 abbrev pub zero_of : Domain → ℕ
 zero_of OnIntegers = 9007199254740992
-zero_of OnInstants = msBefore1970
+zero_of OnInstants = ms_before1970
 
 -- A number of the domain, or that a value is of another kind.
 pub data NumberIs (d : Domain) : Option ℤ → Number → Type 0 where

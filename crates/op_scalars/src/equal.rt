@@ -3,13 +3,13 @@ ghost use Rattle.std.specs.Prelude.{◌≡◌};
 ghost use Rattle.model.specs.Bytes.{Bytes};
 ghost use Rattle.model.specs.Value as model;
 ghost use Rattle.syntax.specs.Layout.{unbiased};
-ghost use Rattle.heap.specs.Strings.{spanBytes};
+ghost use Rattle.heap.specs.Strings.{span_bytes};
 ghost use Rattle.op_scalars.specs.Contract.{Negated, Equality, Membership};
-ghost use Rattle.op_scalars.specs.Inner.{is_scalar, isThe, sameHandles, amongParts, isArray};
+ghost use Rattle.op_scalars.specs.Inner.{is_scalar, is_the, same_handles, among_parts, is_array};
 
 use crate::boolean::boolean;
 use crate::truth::{Truth, truth_of};
-use bytes::same;
+use octets::same;
 use heap::handle::{Form, Handle, Parts, Span};
 use heap::part::{head, tail};
 use heap::string::bytes;
@@ -31,7 +31,7 @@ fn is_scalar(h: Handle) -> bool
 }
 
 fn is_null(h: Handle) -> bool
-    ensures { (A B : Bytes) → result ≡ isThe A B model.null h }
+    ensures { (A B : Bytes) → result ≡ is_the A B model.null h }
 {
     let Handle::Null = h else {
         return false;
@@ -40,7 +40,7 @@ fn is_null(h: Handle) -> bool
 }
 
 fn is_boolean(b: bool, h: Handle) -> bool
-    ensures { (A B : Bytes) → result ≡ isThe A B (model.boolean b) h }
+    ensures { (A B : Bytes) → result ≡ is_the A B (model.boolean b) h }
 {
     match h {
         Handle::False => !b,
@@ -51,7 +51,7 @@ fn is_boolean(b: bool, h: Handle) -> bool
 
 // The integer to which 2^53 was added.
 fn is_integer(n: u64, h: Handle) -> bool
-    ensures { (A B : Bytes) → result ≡ isThe A B (model.integer (unbiased n)) h }
+    ensures { (A B : Bytes) → result ≡ is_the A B (model.integer (unbiased n)) h }
 {
     let Handle::Integer(m) = h else {
         return false;
@@ -60,7 +60,7 @@ fn is_integer(n: u64, h: Handle) -> bool
 }
 
 fn is_string<'a>(rule_strings: &'a [u8], record_strings: &'a [u8], s: Span, h: Handle) -> bool
-    ensures { result ≡ isThe rule_strings.now record_strings.now (model.string (spanBytes rule_strings.now record_strings.now s)) h }
+    ensures { result ≡ is_the rule_strings.now record_strings.now (model.string (span_bytes rule_strings.now record_strings.now s)) h }
 {
     let Handle::String(t) = h else {
         return false;
@@ -73,7 +73,7 @@ fn is_string<'a>(rule_strings: &'a [u8], record_strings: &'a [u8], s: Span, h: H
 
 // Two scalars of the same kind and content; false where either is no scalar.
 fn same_scalar<'a>(rule_strings: &'a [u8], record_strings: &'a [u8], x: Handle, y: Handle) -> bool
-    ensures { result ≡ sameHandles rule_strings.now record_strings.now x y }
+    ensures { result ≡ same_handles rule_strings.now record_strings.now x y }
 {
     match x {
         Handle::Null => is_null(y),
@@ -122,7 +122,7 @@ fn is_among<'a>(
     x: Handle,
     p: Parts,
 ) -> bool
-    ensures { result ≡ amongParts rule_strings.now record_strings.now record_table.now cells.now x p.count p }
+    ensures { result ≡ among_parts rule_strings.now record_strings.now record_table.now cells.now x p.count p }
 {
     let mut rest = p;
     while rest.count > 0 {
@@ -136,7 +136,7 @@ fn is_among<'a>(
 }
 
 fn is_array(form: Form) -> bool
-    ensures { result ≡ isArray form }
+    ensures { result ≡ is_array form }
 {
     match form {
         Form::Items => true,

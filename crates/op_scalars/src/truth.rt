@@ -1,7 +1,7 @@
 // Whether a value is truthy.
 ghost use Rattle.std.specs.Prelude.{◌≡◌};
 ghost use Rattle.op_scalars.specs.Contract.{TruthIs};
-ghost use Rattle.op_scalars.specs.Inner.{truthyUnless};
+ghost use Rattle.op_scalars.specs.Inner.{truthy_unless};
 
 use heap::handle::Handle;
 use syntax::BIAS;
@@ -15,7 +15,7 @@ pub enum Truth {
 }
 
 fn truthy_unless(falsy: bool) -> Truth
-    ensures { result ≡ truthyUnless falsy }
+    ensures { result ≡ truthy_unless falsy }
 {
     if falsy {
         return Truth::Falsy;

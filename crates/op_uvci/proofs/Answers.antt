@@ -13,8 +13,8 @@ use lib.Seq.{length-take-le, take-take, drop-drop}
 use mir.Syntax.{w64}
 use mir.Val.{Fits}
 use Rattle.model.specs.Bytes.{Bytes}
-use Rattle.model.specs.Operations.{extractFromUVCI, nthString}
-use Rattle.model.specs.Refusal.{wrongKind}
+use Rattle.model.specs.Operations.{extract_from_uvci, nth_string}
+use Rattle.model.specs.Refusal.{wrong_kind}
 use Rattle.model.specs.Result.{ok, refuse}
 use Rattle.model.specs.Value.{Value, scalar, null, string}
 use Rattle.model.specs.Laws.Logic.{clash}
@@ -27,26 +27,26 @@ use Rattle.heap.specs.declared.handle.Handle.TheVariants.{Null, String}
 use Rattle.heap.specs.declared.handle.Span.{Span}
 use Rattle.heap.specs.Handles.{span}
 use Rattle.table.specs.Denotes.{Lies}
-use Rattle.heap.specs.Means.{Means, means-null, means-false, means-true, means-integer, means-instant, means-string, means-items, means-members, means-list, means-context}
+use Rattle.heap.specs.Means.{Means, means_null, means_false, means_true, means_integer, means_instant, means_string, means_items, means_members, means_list, means_context}
 use Rattle.table.specs.Strings.{part}
-use Rattle.heap.specs.Strings.{area_bytes, spanBytes}
+use Rattle.heap.specs.Strings.{area_bytes, span_bytes}
 use Rattle.heap.specs.Unfold.{Areas}
-use Rattle.syntax.specs.Laws.Biased.{unbiased-biased}
+use Rattle.syntax.specs.Laws.Biased.{unbiased_biased}
 use Rattle.op_result.specs.declared.Operated.{Operated}
 use Rattle.op_result.specs.declared.Operated.TheVariants as Operateds
-use Rattle.op_result.specs.Contract.{Gives, gives-value, gives-wrong-kind}
+use Rattle.op_result.specs.Contract.{Gives, gives_value, gives_wrong_kind}
 use Rattle.op_uvci.specs.declared.Fragment.{Fragment}
 use Rattle.op_uvci.specs.declared.Fragment.TheVariants.{Absent, At}
-use Rattle.op_uvci.specs.Inner.{fragmentsFrom, numbered, named, Finds, finds-none, finds-part}
+use Rattle.op_uvci.specs.Inner.{fragments_from, numbered, named, Finds, finds_none, finds_part}
 use Rattle.op_uvci.specs.Contract.{Extracts}
 
 -- ---- the index
 pub below-zero : {s : Bytes} {index : ℕ} → index < 9007199254740992 → Finds s (named s index) Absent
 unfolding unbiased
-below-zero {s} {index} h = rw (unbiased, lt-leb 9007199254740992 index h) (finds-none refl)
+below-zero {s} {index} h = rw (unbiased, lt-leb 9007199254740992 index h) (finds_none refl)
 
-pub from_zero : {s : Bytes} {index : ℕ} {r : Fragment} (from : ℕ) → 9007199254740992 ≤ index → fragmentsFrom s from ≡ numbered s
-    → Finds s (nthString (fragmentsFrom s from) (index - 9007199254740992)) r → Finds s (named s index) r
+pub from_zero : {s : Bytes} {index : ℕ} {r : Fragment} (from : ℕ) → 9007199254740992 ≤ index → fragments_from s from ≡ numbered s
+    → Finds s (nth_string (fragments_from s from) (index - 9007199254740992)) r → Finds s (named s index) r
 unfolding unbiased
 from_zero {s} {index} from h e f = rw (unbiased, le-leb 9007199254740992 index h, ← e) f
 
@@ -73,38 +73,38 @@ fragmentHandle s Absent = Operateds.Value Null
 fragmentHandle s (At start size) = Operateds.Value (String (span s.area (s.start + start) size))
 
 found_inside : {s : Bytes} {v : Value} {r : Fragment} {start size : ℕ} → Finds s v r → r ≡ At start size → start + size ≤ length s
-found_inside (finds-none e) f = clash cc
-found_inside {s} {start = start} {size = size} (finds-part {start = i} {size = n} e h) f =
+found_inside (finds_none e) f = clash cc
+found_inside {s} {start = start} {size = size} (finds_part {start = i} {size = n} e h) f =
     let p : start ≡ i = cc in
     let q : size ≡ n = cc in
     omega arith
 
 -- The place of a fragment in the area.
 pub place-fits : {s : Bytes} {v : Value} {r : Fragment} {start size : ℕ} (A B : Bytes) (x : Span) → Fits w64 (length A) → Fits w64 (length B) → Fits w64 x.start
-    → s ≡ spanBytes A B x → Finds s v r → r ≡ At start size → Fits w64 (x.start + start)
+    → s ≡ span_bytes A B x → Finds s v r → r ≡ At start size → Fits w64 (x.start + start)
 place-fits {start = start} {size = size} A B x a b k e f g = go x.area x.start x.size start size (rw e at (found_inside f g)) k
   where
     go : (area : Area) (i n start size : ℕ) → start + size ≤ length (part (area_bytes A B area) i n) → Fits w64 i → Fits w64 (i + start)
     go Rule i n start size h l = omega (arith, length-take n (drop i A), length-drop i A)
     go Record i n start size h l = omega (arith, length-take n (drop i B), length-drop i B)
 
-string-is : {a : Areas} {top : ℕ} {v : Value} {s : Span} → Means a top v (String s) → v ≡ scalar (string (spanBytes a.rule a.strings s))
-string-is (means-string l) = ap (λ (x : Bytes). scalar (string x)) l.is
+string_is : {a : Areas} {top : ℕ} {v : Value} {s : Span} → Means a top v (String s) → v ≡ scalar (string (span_bytes a.rule a.strings s))
+string_is (means_string l) = ap (λ (x : Bytes). scalar (string x)) l.is
 
-string-lies : {a : Areas} {top : ℕ} {s : Span} → Means a top (scalar (string (spanBytes a.rule a.strings s))) (String s) → Lies (area_bytes a.rule a.strings s.area) s.start s.size (spanBytes a.rule a.strings s)
-string-lies (means-string l) = l
+string-lies : {a : Areas} {top : ℕ} {s : Span} → Means a top (scalar (string (span_bytes a.rule a.strings s))) (String s) → Lies (area_bytes a.rule a.strings s.area) s.start s.size (span_bytes a.rule a.strings s)
+string-lies (means_string l) = l
 
 found : {a : Areas} {top : ℕ} {v : Value} {r : Operated} (s : Span) (q : Fragment)
-    → Lies (area_bytes a.rule a.strings s.area) s.start s.size (spanBytes a.rule a.strings s)
-    → Finds (spanBytes a.rule a.strings s) v q
+    → Lies (area_bytes a.rule a.strings s.area) s.start s.size (span_bytes a.rule a.strings s)
+    → Finds (span_bytes a.rule a.strings s) v q
     → r ≡ fragmentHandle s q
     → Gives a top (ok v) r
-found s q l (finds-none e) f = gives-value (f ∙ ap (fragmentHandle s) e) means-null
-found s q l (finds-part {start = start} {size = n} e h) f = gives-value (f ∙ ap (fragmentHandle s) e) (means-string (lies-part start n l h))
+found s q l (finds_none e) f = gives_value (f ∙ ap (fragmentHandle s) e) means_null
+found s q l (finds_part {start = start} {size = n} e h) f = gives_value (f ∙ ap (fragmentHandle s) e) (means_string (lies-part start n l h))
 
 -- ---- null and other kinds
 null_is : {a : Areas} {top : ℕ} {v : Value} → Means a top v Null → v ≡ scalar null
-null_is means-null = refl
+null_is means_null = refl
 
 -- The tag is neither null's nor a string's.
 abbrev OtherTag : ℕ → Type 0
@@ -113,28 +113,28 @@ OtherTag n = OneOf (1 ∷ 2 ∷ 3 ∷ 4 ∷ 6 ∷ []) n
 other_tag : (n : ℕ) → OtherTag n → ¬ (n ≡ 0) × ¬ (n ≡ 5)
 other_tag n = ⊎_elim (λ x. omega arith) (⊎_elim (λ x. omega arith) (⊎_elim (λ x. omega arith) (⊎_elim (λ x. omega arith) (λ x. omega arith))))
 
-other-is : {a : Areas} {top : ℕ} {v : Value} {h : Handle} (k : ℤ) → Means a top v h → OtherTag (tag_of the_type h) → extractFromUVCI k v ≡ refuse wrongKind
-other-is k means-null o = absurd ((other_tag 0 o).0 refl)
-other-is k means-false o = refl
-other-is k means-true o = refl
-other-is k (means-integer w e) o = refl
-other-is k (means-instant w e) o = refl
-other-is k (means-string l) o = absurd ((other_tag 5 o).1 refl)
-other-is k (means-items e f r) o = refl
-other-is k (means-members e f r) o = refl
-other-is k (means-list e b r) o = refl
-other-is k (means-context b i m n) o = refl
+other-is : {a : Areas} {top : ℕ} {v : Value} {h : Handle} (k : ℤ) → Means a top v h → OtherTag (tag_of the_type h) → extract_from_uvci k v ≡ refuse wrong_kind
+other-is k means_null o = absurd ((other_tag 0 o).0 refl)
+other-is k means_false o = refl
+other-is k means_true o = refl
+other-is k (means_integer w e) o = refl
+other-is k (means_instant w e) o = refl
+other-is k (means_string l) o = absurd ((other_tag 5 o).1 refl)
+other-is k (means_items e f r) o = refl
+other-is k (means_members e f r) o = refl
+other-is k (means_list e b r) o = refl
+other-is k (means_context b i m n) o = refl
 
 -- ---- all of them
 module _ {A B : Bytes} {index : ℕ} where
   -- p is what was found in the text of the string s.
-  pub extracts-part : {text : Bytes} {p q : Fragment} {r : Operated} (s : Span) → text ≡ spanBytes A B s → Finds text (named text index) p → p ≡ q → r ≡ fragmentHandle s q
+  pub extracts-part : {text : Bytes} {p q : Fragment} {r : Operated} (s : Span) → text ≡ span_bytes A B s → Finds text (named text index) p → p ≡ q → r ≡ fragmentHandle s q
       → Extracts A B index (String s) r
   extracts-part {q = q} s e f g h = record {
     gives = λ R C top k v w i m.
-        let n : unbiased index ≡ k = ap unbiased i ∙ unbiased-biased k w in
-        let l = string-lies (rw (string-is m) at m) in
-        rw (string-is m) (found s q l (rw (e, n, g) at f) h);
+        let n : unbiased index ≡ k = ap unbiased i ∙ unbiased_biased k w in
+        let l = string-lies (rw (string_is m) at m) in
+        rw (string_is m) (found s q l (rw (e, n, g) at f) h);
   }
 
   module _ {h : Handle} where
@@ -142,7 +142,7 @@ module _ {A B : Bytes} {index : ℕ} where
     extracts-string e x = rw e x
 
     pub extracts-null : h ≡ Null → Extracts A B index h (Operateds.Value Null)
-    extracts-null e = record { gives = λ R C top k v w i m. rw (null_is (rw e at m)) (gives-value refl means-null) }
+    extracts-null e = record { gives = λ R C top k v w i m. rw (null_is (rw e at m)) (gives_value refl means_null) }
 
     pub extracts-other : OtherTag (tag_of the_type h) → Extracts A B index h Operateds.WrongKind
-    extracts-other o = record { gives = λ R C top k v w i m. rw (other-is k m o) (gives-wrong-kind refl) }
+    extracts-other o = record { gives = λ R C top k v w i m. rw (other-is k m o) (gives_wrong_kind refl) }

@@ -11,95 +11,95 @@ use borrow.Author.Tests.{le-leb, lt-leb}
 use lib.Dec.{eqb}
 use lib.ListN.{length, take, drop, drop_of_length-le}
 use lib.Seq.{drop-cons, drop-drop}
-use Rattle.model.specs.Bytes.{Bytes, ascii, byte, sameBytes, splitOn}
+use Rattle.model.specs.Bytes.{Bytes, ascii, byte, same_bytes, split_on}
 use Rattle.model.specs.Lists.{any}
-use Rattle.model.specs.Operations.{isUvciSeparator, nthString}
+use Rattle.model.specs.Operations.{is_uvci_separator, nth_string}
 use Rattle.model.specs.Value.{Value}
-use Rattle.bytes.specs.Laws.Fragment.{end-inside, others, first-fragment}
+use Rattle.octets.specs.Laws.Fragment.{end_inside, others, first_fragment}
 use Rattle.table.specs.Strings.{part}
 use Rattle.op_uvci.specs.declared.Fragment.{Fragment}
 use Rattle.op_uvci.specs.declared.Fragment.TheVariants.{Absent, At}
-use Rattle.op_uvci.specs.Inner.{fragmentSize, fragmentsFrom, numbered, Ends, Finds, finds-none, finds-part}
+use Rattle.op_uvci.specs.Inner.{fragment_size, fragments_from, numbered, Ends, Finds, finds_none, finds_part}
 
 -- ---- the first fragment, and the others after its separator
 -- 01: "Split on / # :".
-is-separator : (x : ℕ) → any (eqb x) (ascii "/#:") ≡ isUvciSeparator x
-is-separator x = go (eqb x (byte "/")) (eqb x (byte "#")) (eqb x (byte ":"))
+is_separator : (x : ℕ) → any (eqb x) (ascii "/#:") ≡ is_uvci_separator x
+is_separator x = go (eqb x (byte "/")) (eqb x (byte "#")) (eqb x (byte ":"))
   where
     go : (a b c : Bool) → a || (b || (c || false)) ≡ (a || b) || c
     go true b c = refl
     go false true c = refl
     go false false c = or-false c
 
-abbrev afterSeparator : Bytes → List Bytes
-afterSeparator = others isUvciSeparator
+abbrev after_separator : Bytes → List Bytes
+after_separator = others is_uvci_separator
 
-first : (s : Bytes) → splitOn isUvciSeparator s ≡ take (fragmentSize s) s ∷ afterSeparator (drop (fragmentSize s) s)
-first = first-fragment (ascii "/#:") is-separator
+first : (s : Bytes) → split_on is_uvci_separator s ≡ take (fragment_size s) s ∷ after_separator (drop (fragment_size s) s)
+first = first_fragment (ascii "/#:") is_separator
 
-after-end : (s : Bytes) (end : ℕ) → afterSeparator (drop end s) ≡ fragmentsFrom s (end + 1)
-after-end s end = go (dec_lt end (length s))
+after_end : (s : Bytes) (end : ℕ) → after_separator (drop end s) ≡ fragments_from s (end + 1)
+after_end s end = go (dec_lt end (length s))
   where
-    go : Dec (end < length s) → afterSeparator (drop end s) ≡ fragmentsFrom s (end + 1)
+    go : Dec (end < length s) → after_separator (drop end s) ≡ fragments_from s (end + 1)
     go (yes p) = rw (le-leb (end + 1) (length s) (omega arith), drop-cons s end 0 p, add-one)
     go (no p) = rw (lt-leb (end + 1) (length s) (omega arith), drop_of_length-le s {i = end} (omega arith))
 
 module _ (s : Bytes) (at end : ℕ) (inside : at ≤ length s) (e : Ends s at end) where
-  pub ends-inside : end ≤ length s
-  ends-inside = omega (arith, e.is, end-inside (ascii "/#:") s at inside)
+  pub ends_inside : end ≤ length s
+  ends_inside = omega (arith, e.is, end_inside (ascii "/#:") s at inside)
 
   -- From a place of the text on.
-  pub first-from : fragmentsFrom s at ≡ part s at (end - at) ∷ fragmentsFrom s (end + 1)
-  first-from =
-      let n : fragmentSize (drop at s) ≡ end - at = omega (arith, e.is) in
-      let after = ap afterSeparator (drop-drop (fragmentSize (drop at s)) at s ∙ ap (λ (k : ℕ). drop k s) (sym e.is)) ∙ after-end s end in
+  pub first_from : fragments_from s at ≡ part s at (end - at) ∷ fragments_from s (end + 1)
+  first_from =
+      let n : fragment_size (drop at s) ≡ end - at = omega (arith, e.is) in
+      let after = ap after_separator (drop-drop (fragment_size (drop at s)) at s ∙ ap (λ (k : ℕ). drop k s) (sym e.is)) ∙ after_end s end in
       rw (le-leb at (length s) inside) (first (drop at s) ∙ (λ i. take (n i) (drop at s) ∷ after i))
 
-past : (s : Bytes) (at : ℕ) → length s < at → fragmentsFrom s at ≡ []
+past : (s : Bytes) (at : ℕ) → length s < at → fragments_from s at ≡ []
 past s at h = rw (lt-leb at (length s) h)
 
 -- ---- the numbered fragment
 -- The value v is the fragment `left` after the one that begins at `start`.
 pub record Seeking (s : Bytes) (v : Value) (start left : ℕ) : Type 0 where
-  pub is : nthString (fragmentsFrom s start) left ≡ v
+  pub is : nth_string (fragments_from s start) left ≡ v
 
 module _ {s : Bytes} {v : Value} {start left : ℕ} (g : Seeking s v start left) where
-  pub seek-past : {r : Fragment} → length s < start → r ≡ Absent → Finds s v r
-  seek-past h e = rw (← g.is, past s start h) (finds-none e)
+  pub seek_past : {r : Fragment} → length s < start → r ≡ Absent → Finds s v r
+  seek_past h e = rw (← g.is, past s start h) (finds_none e)
 
   module _ {end : ℕ} (inside : start ≤ length s) (e : Ends s start end) where
-    pub seek-here : {r : Fragment} → left ≡ 0 → r ≡ At start (end - start) → Finds s v r
-    seek-here z f = rw (← g.is, first-from s start end inside e, z) (finds-part f (omega (arith, e.is, ends-inside s start end inside e)))
+    pub seek_here : {r : Fragment} → left ≡ 0 → r ≡ At start (end - start) → Finds s v r
+    seek_here z f = rw (← g.is, first_from s start end inside e, z) (finds_part f (omega (arith, e.is, ends_inside s start end inside e)))
 
-    pub seek-on : ¬ (left ≡ 0) → Seeking s v (end + 1) (left - 1)
-    seek-on z =
+    pub seek_on : ¬ (left ≡ 0) → Seeking s v (end + 1) (left - 1)
+    seek_on z =
         let n : left ≡ suc (left - 1) = omega arith in
-        record { is = sym (ap (λ (l : List Bytes). nthString l left) (first-from s start end inside e) ∙ ap (nthString (part s start (end - start) ∷ fragmentsFrom s (end + 1))) n) ∙ g.is }
+        record { is = sym (ap (λ (l : List Bytes). nth_string l left) (first_from s start end inside e) ∙ ap (nth_string (part s start (end - start) ∷ fragments_from s (end + 1))) n) ∙ g.is }
 
 -- ---- the prefix
-from_start : (s : Bytes) → fragmentsFrom s 0 ≡ splitOn isUvciSeparator s
+from_start : (s : Bytes) → fragments_from s 0 ≡ split_on is_uvci_separator s
 from_start s = rw (le-leb 0 (length s) (omega arith))
 
 module _ {s : Bytes} {one : ℕ} (e : Ends s 0 one) where
-  start-split : splitOn isUvciSeparator s ≡ part s 0 one ∷ fragmentsFrom s (one + 1)
-  start-split = sym (from_start s) ∙ (first-from s 0 one (omega arith) e ∙ ap (λ (n : ℕ). part s 0 n ∷ fragmentsFrom s (one + 1)) (sub-zero one))
+  start_split : split_on is_uvci_separator s ≡ part s 0 one ∷ fragments_from s (one + 1)
+  start_split = sym (from_start s) ∙ (first_from s 0 one (omega arith) e ∙ ap (λ (n : ℕ). part s 0 n ∷ fragments_from s (one + 1)) (sub-zero one))
 
   -- One fragment only.
-  pub prefix-alone : one ≡ length s → fragmentsFrom s 0 ≡ numbered s
-  prefix-alone h = from_start s ∙ (rw (start-split, past s (one + 1) (omega arith)))
+  pub prefix_alone : one ≡ length s → fragments_from s 0 ≡ numbered s
+  prefix_alone h = from_start s ∙ (rw (start_split, past s (one + 1) (omega arith)))
 
   module _ {two : ℕ} (more : ¬ (one ≡ length s)) (f : Ends s (one + 1) two) where
-    next-split : splitOn isUvciSeparator s ≡ part s 0 one ∷ part s (one + 1) (two - (one + 1)) ∷ fragmentsFrom s (two + 1)
-    next-split = start-split ∙ ap (λ (l : List Bytes). part s 0 one ∷ l) (first-from s (one + 1) two (omega (arith, ends-inside s 0 one (omega arith) e)) f)
+    next_split : split_on is_uvci_separator s ≡ part s 0 one ∷ part s (one + 1) (two - (one + 1)) ∷ fragments_from s (two + 1)
+    next_split = start_split ∙ ap (λ (l : List Bytes). part s 0 one ∷ l) (first_from s (one + 1) two (omega (arith, ends_inside s 0 one (omega arith) e)) f)
 
     -- The first two fragments p and q are compared.
-    module _ {p : Bytes} (is-first : p ≡ part s 0 one) where
-      pub first-other : sameBytes p (ascii "URN") ≡ false → fragmentsFrom s 0 ≡ numbered s
-      first-other h = from_start s ∙ (rw (next-split, ← is-first, h))
+    module _ {p : Bytes} (is_first : p ≡ part s 0 one) where
+      pub first_other : same_bytes p (ascii "URN") ≡ false → fragments_from s 0 ≡ numbered s
+      first_other h = from_start s ∙ (rw (next_split, ← is_first, h))
 
-      module _ (urn : sameBytes p (ascii "URN") ≡ true) {q : Bytes} (is-second : q ≡ part s (one + 1) (two - (one + 1))) where
-        pub second-other : sameBytes q (ascii "UVCI") ≡ false → fragmentsFrom s 0 ≡ numbered s
-        second-other h = from_start s ∙ (rw (next-split, ← is-first, urn, ← is-second, h))
+      module _ (urn : same_bytes p (ascii "URN") ≡ true) {q : Bytes} (is-second : q ≡ part s (one + 1) (two - (one + 1))) where
+        pub second_other : same_bytes q (ascii "UVCI") ≡ false → fragments_from s 0 ≡ numbered s
+        second_other h = from_start s ∙ (rw (next_split, ← is_first, urn, ← is-second, h))
 
-        pub prefix-dropped : sameBytes q (ascii "UVCI") ≡ true → fragmentsFrom s (two + 1) ≡ numbered s
-        prefix-dropped h = rw (next-split, ← is-first, urn, ← is-second, h)
+        pub prefix_dropped : same_bytes q (ascii "UVCI") ≡ true → fragments_from s (two + 1) ≡ numbered s
+        prefix_dropped h = rw (next_split, ← is_first, urn, ← is-second, h)

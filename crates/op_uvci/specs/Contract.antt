@@ -1,8 +1,8 @@
 -- Contract: what `extract` promises.
 use Rattle.std.specs.Prelude.{◌≡◌, ℕ, T, ℤ}
 use Rattle.model.specs.Bytes.{Bytes}
-use Rattle.model.specs.Operations.{extractFromUVCI}
-use Rattle.model.specs.Value.{Value, withinLimits}
+use Rattle.model.specs.Operations.{extract_from_uvci}
+use Rattle.model.specs.Value.{Value, within_limits}
 use Rattle.syntax.specs.Layout.{biased}
 use Rattle.heap.specs.declared.handle.Handle.{Handle}
 use Rattle.heap.specs.Means.{Means}
@@ -14,7 +14,7 @@ use Rattle.op_result.specs.Contract.{Gives}
 pub record Extracts (A B : Bytes) (index : ℕ) (h : Handle) (r : Operated) : Type 0 where
   pub gives :
       (R C : Bytes) (top : ℕ) (k : ℤ) (v : Value)
-      → T (withinLimits k)
+      → T (within_limits k)
       → index ≡ biased k
       → Means (areas A B R C) top v h
-      → Gives (areas A B R C) top (extractFromUVCI k v) r
+      → Gives (areas A B R C) top (extract_from_uvci k v) r

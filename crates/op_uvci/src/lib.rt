@@ -1,11 +1,11 @@
 // `extractFromUVCI`.
 ghost use Rattle.std.specs.Prelude.{◌≡◌};
-ghost use Rattle.model.specs.Operations.{nthString};
-ghost use Rattle.op_uvci.specs.Inner.{Ends, fragmentsFrom, numbered, named, Finds};
+ghost use Rattle.model.specs.Operations.{nth_string};
+ghost use Rattle.op_uvci.specs.Inner.{Ends, fragments_from, numbered, named, Finds};
 ghost use Rattle.op_uvci.specs.Contract.{Extracts};
 
-use bytes::path::fragment_end;
-use bytes::same;
+use octets::path::fragment_end;
+use octets::same;
 use heap::handle::{Handle, Span, string};
 use heap::string::bytes;
 use op_result::Operated;
@@ -28,7 +28,7 @@ fn end_of(text: &[u8], at: usize) -> usize
 
 // The fragment so many after the one that begins at `at`.
 fn nth(text: &[u8], at: usize, index: u64) -> Fragment
-    ensures { Finds text.now (nthString (fragmentsFrom text.now at) index) result }
+    ensures { Finds text.now (nth_string (fragments_from text.now at) index) result }
 {
     let mut start = at;
     let mut left = index;
@@ -48,7 +48,7 @@ fn nth(text: &[u8], at: usize, index: u64) -> Fragment
 
 // Where the fragments that are numbered begin. 01: "drop the first two fragments if they are URN and UVCI".
 fn numbered_from(text: &[u8]) -> usize
-    ensures { fragmentsFrom text.now result ≡ numbered text.now }
+    ensures { fragments_from text.now result ≡ numbered text.now }
 {
     let first = end_of(text, 0);
     if first == text.len() {

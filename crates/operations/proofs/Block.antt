@@ -6,47 +6,47 @@ use native.Mathlib.Omega.{arith}
 use lib.ListN.{length}
 use Rattle.model.specs.Bytes.{Bytes}
 use Rattle.heap.specs.declared.handle.Handle.{Handle}
-use Rattle.heap.specs.Blocks.{storedFrom}
-use Rattle.heap.specs.Cells.{cellHandle, stored}
-use Rattle.heap.specs.Laws.Made.{length-storedFrom}
-use Rattle.operations.specs.Stack.{stackCell, stackedFrom, stacked}
-use Rattle.operations.specs.Laws.Stack.{stack-cell, stacked-length, stacked-more, storedFrom-after}
+use Rattle.heap.specs.Blocks.{stored_from}
+use Rattle.heap.specs.Cells.{cell_handle, stored}
+use Rattle.heap.specs.Laws.Made.{length_stored_from}
+use Rattle.operations.specs.Stack.{stack_cell, stacked_from, stacked}
+use Rattle.operations.specs.Laws.Stack.{stack_cell_lem, stacked_length, stacked_more, stored_from_after}
 
 -- One handle more.
-stored_more : (C : Bytes) (j : ℕ) (hs : List Handle) (h : Handle) → storedFrom C j (hs ++ (h ∷ [])) ≡ stored (storedFrom C j hs) (j + length hs) h
-unfolding storedFrom
+stored_more : (C : Bytes) (j : ℕ) (hs : List Handle) (h : Handle) → stored_from C j (hs ++ (h ∷ [])) ≡ stored (stored_from C j hs) (j + length hs) h
+unfolding stored_from
 stored_more C j [] h = let e : j ≡ j + 0 = omega arith in ap (λ (k : ℕ). stored C k h) e
 stored_more C j (x ∷ hs) h =
     let e : suc j + length hs ≡ j + suc (length hs) = omega arith in
-    stored_more (stored C j x) (suc j) hs h ∙ ap (λ (k : ℕ). stored (storedFrom (stored C j x) (suc j) hs) k h) e
+    stored_more (stored C j x) (suc j) hs h ∙ ap (λ (k : ℕ). stored (stored_from (stored C j x) (suc j) hs) k h) e
 
 -- ---- the loop
 -- The first i operands are copied.
 abbrev pub Copied : Bytes → ℕ → ℕ → ℕ → Bytes → Type 0
-Copied C bottom top i D = D ≡ storedFrom C top (stacked C bottom i)
+Copied C bottom top i D = D ≡ stored_from C top (stacked C bottom i)
 
-pub copy-begins : (C : Bytes) (bottom top : ℕ) → Copied C bottom top 0 C
-unfolding storedFrom stackedFrom
-copy-begins C bottom top = refl
+pub copy_begins : (C : Bytes) (bottom top : ℕ) → Copied C bottom top 0 C
+unfolding stored_from stacked_from
+copy_begins C bottom top = refl
 
-pub copy-next : (C : Bytes) (bottom count top i : ℕ) {D D' : Bytes} (h : Handle) → top + count + count ≤ bottom → i < count → Copied C bottom top i D → h ≡ stackCell D bottom i → D' ≡ stored D (top + i) h → Copied C bottom top (i + 1) D'
-copy-next C bottom count top i {D} {D'} h room l c e f =
-    let size : length (stacked C bottom i) ≡ i = stacked-length C bottom 0 i in
+pub copy_next : (C : Bytes) (bottom count top i : ℕ) {D D' : Bytes} (h : Handle) → top + count + count ≤ bottom → i < count → Copied C bottom top i D → h ≡ stack_cell D bottom i → D' ≡ stored D (top + i) h → Copied C bottom top (i + 1) D'
+copy_next C bottom count top i {D} {D'} h room l c e f =
+    let size : length (stacked C bottom i) ≡ i = stacked_length C bottom 0 i in
     let next : i + 1 ≡ suc i = omega arith in
     let from-0 : 0 + i ≡ i = omega arith in
-    let same : stackCell D bottom i ≡ stackCell C bottom i =
-    stack-cell D bottom i (omega arith)
-    ∙ ap (λ (X : Bytes). cellHandle X (bottom - i - 1)) c
-    ∙ storedFrom-after C top (stacked C bottom i) (bottom - i - 1) (omega (arith, size))
-    ∙ sym (stack-cell C bottom i (omega arith)) in
+    let same : stack_cell D bottom i ≡ stack_cell C bottom i =
+    stack_cell_lem D bottom i (omega arith)
+    ∙ ap (λ (X : Bytes). cell_handle X (bottom - i - 1)) c
+    ∙ stored_from_after C top (stacked C bottom i) (bottom - i - 1) (omega (arith, size))
+    ∙ sym (stack_cell_lem C bottom i (omega arith)) in
     f
     ∙ (λ k. stored (c k) (top + sym size k) ((e ∙ same) k))
-    ∙ sym (stored_more C top (stacked C bottom i) (stackCell C bottom i))
-    ∙ ap (storedFrom C top) (sym (stacked-more C bottom 0 i ∙ ap (λ (k : ℕ). stacked C bottom i ++ (stackCell C bottom k ∷ [])) from-0))
-    ∙ ap (λ (n : ℕ). storedFrom C top (stacked C bottom n)) (sym next)
+    ∙ sym (stored_more C top (stacked C bottom i) (stack_cell C bottom i))
+    ∙ ap (stored_from C top) (sym (stacked_more C bottom 0 i ∙ ap (λ (k : ℕ). stacked C bottom i ++ (stack_cell C bottom k ∷ [])) from-0))
+    ∙ ap (λ (n : ℕ). stored_from C top (stacked C bottom n)) (sym next)
 
-pub copy-ends : (C : Bytes) (bottom count top i : ℕ) {D : Bytes} → i ≤ count → count ≤ i → Copied C bottom top i D → D ≡ storedFrom C top (stacked C bottom count)
-copy-ends C bottom count top i a b c = let e : i ≡ count = omega arith in c ∙ ap (λ (n : ℕ). storedFrom C top (stacked C bottom n)) e
+pub copy_ends : (C : Bytes) (bottom count top i : ℕ) {D : Bytes} → i ≤ count → count ≤ i → Copied C bottom top i D → D ≡ stored_from C top (stacked C bottom count)
+copy_ends C bottom count top i a b c = let e : i ≡ count = omega arith in c ∙ ap (λ (n : ℕ). stored_from C top (stacked C bottom n)) e
 
-pub copy-length : (C : Bytes) (bottom top i : ℕ) {D : Bytes} → Copied C bottom top i D → length D ≡ length C
-copy-length C bottom top i c = ap length c ∙ length-storedFrom C top (stacked C bottom i)
+pub copy_length : (C : Bytes) (bottom top i : ℕ) {D : Bytes} → Copied C bottom top i D → length D ≡ length C
+copy_length C bottom top i c = ap length c ∙ length_stored_from C top (stacked C bottom i)

@@ -2,13 +2,13 @@
 use Rattle.std.specs.Prelude.{◌≡◌, ℕ, ◌+◌, ◌/◌, ◌≤◌, length}
 use Rattle.model.specs.Bytes.{Bytes}
 use Rattle.model.specs.EvalPlain.{lift}
-use Rattle.model.specs.Limits.{heapCells}
+use Rattle.model.specs.Limits.{heap_cells}
 use Rattle.model.specs.Operations.{operate}
 use Rattle.model.specs.Rule.{Operation}
 use Rattle.model.specs.Value.{Values}
 use Rattle.heap.specs.declared.handle.Handle.{Handle}
 use Rattle.heap.specs.Blocks.{MeansEach}
-use Rattle.heap.specs.Cells.{cellBytes}
+use Rattle.heap.specs.Cells.{cell_bytes}
 use Rattle.heap.specs.Unfold.{areas}
 use Rattle.keywords.specs.declared.Op.{Op}
 use Rattle.keywords.specs.Contract.{Stands}
@@ -23,8 +23,8 @@ use Rattle.operations.specs.Stack.{stacked}
 -- The operands stand below the bottom, and between the heap's top and them is room for as many again.
 pub record StackRoom (C : Bytes) (count : ℕ) (s : State) : Type 0 where
   pub fits : s.top + count + count ≤ s.bottom
-  pub within : s.bottom ≤ heapCells
-  pub enough : heapCells ≤ length C / cellBytes
+  pub within : s.bottom ≤ heap_cells
+  pub enough : heap_cells ≤ length C / cell_bytes
 
 -- It takes no step; the heap grows by no more than a cell for each operand.
 pub record AppliesIn (count : ℕ) (s : State) (r : Ended) : Type 0 where

@@ -1,10 +1,10 @@
 // Operations on operands, whose handles stand on the stack: the first in the cell below `bottom`, each other one below the one before.
 ghost use Rattle.std.specs.Prelude.{◌≡◌};
-ghost use Rattle.heap.specs.Blocks.{storedFrom};
+ghost use Rattle.heap.specs.Blocks.{stored_from};
 ghost use Rattle.operations.specs.Contract.{StackRoom, Applies};
-ghost use Rattle.operations.specs.Ended.{operatedEnd};
+ghost use Rattle.operations.specs.Ended.{operated_end};
 ghost use Rattle.operations.specs.Inner.{Compares, listed};
-ghost use Rattle.operations.specs.Stack.{stackCell, firstCell, stacked};
+ghost use Rattle.operations.specs.Stack.{stack_cell, first_cell, stacked};
 
 use crate::ended::{Ended, Fault, State};
 use heap::cell::{get, put};
@@ -22,7 +22,7 @@ pub mod ended;
 
 // The operand at a position; null where the stack has none.
 fn operand(cells: &[u8], bottom: usize, position: usize) -> Handle
-    ensures { result ≡ stackCell cells.now bottom position }
+    ensures { result ≡ stack_cell cells.now bottom position }
 {
     if bottom <= position {
         return Handle::Null;
@@ -32,7 +32,7 @@ fn operand(cells: &[u8], bottom: usize, position: usize) -> Handle
 
 // The first of so many operands; null where there is none.
 fn first(cells: &[u8], bottom: usize, count: usize) -> Handle
-    ensures { result ≡ firstCell cells.now bottom count }
+    ensures { result ≡ first_cell cells.now bottom count }
 {
     if count == 0 {
         return Handle::Null;
@@ -43,7 +43,7 @@ fn first(cells: &[u8], bottom: usize, count: usize) -> Handle
 // The operands as one block of cells, from the heap's top on.
 fn copy(cells: &mut [u8], count: usize, s: State)
     requires { StackRoom cells.old count s }
-    ensures { cells.new ≡ storedFrom cells.old s.top (stacked cells.old s.bottom count) }
+    ensures { cells.new ≡ stored_from cells.old s.top (stacked cells.old s.bottom count) }
 {
     let mut i: usize = 0;
     while i < count {
@@ -56,7 +56,7 @@ fn copy(cells: &mut [u8], count: usize, s: State)
 // An array's value: the list of its operands.
 fn list(cells: &mut [u8], count: usize, s: State) -> Ended
     requires { StackRoom cells.old count s }
-    ensures { (result ≡ listed count s) × (cells.new ≡ storedFrom cells.old s.top (stacked cells.old s.bottom count)) }
+    ensures { (result ≡ listed count s) × (cells.new ≡ stored_from cells.old s.top (stacked cells.old s.bottom count)) }
 {
     copy(cells, count, s);
     let after = State {
@@ -70,7 +70,7 @@ fn list(cells: &mut [u8], count: usize, s: State) -> Ended
 
 // What an operation gave ends the rule that it stands in.
 fn operated(r: Operated, s: State) -> Ended
-    ensures { result ≡ operatedEnd r s }
+    ensures { result ≡ operated_end r s }
 {
     match r {
         Operated::Value(value) => Ended::Gives(value, s),

@@ -5,73 +5,73 @@ use mathlib.Core.Option.{Option, none, some}
 use mathlib.Core.List.{[], ◌∷◌}
 use Prim.Native.Nat.{ℕ, zero, suc, ◌≤◌}
 use native.Mathlib.Omega.{arith}
-use Rattle.model.specs.Bytes.{Bytes, sameBytes}
-use Rattle.model.specs.Limits.{maxValues}
-use Rattle.model.specs.Laws.Widths.{values-below}
+use Rattle.model.specs.Bytes.{Bytes, same_bytes}
+use Rattle.model.specs.Limits.{max_values}
+use Rattle.model.specs.Laws.Widths.{values_below}
 use Rattle.model.specs.Option.{◌>>=◌}
-use Rattle.model.specs.Path.{Path, index_of, item_at, memberNamed, part, pathOf, value_at}
-use Rattle.model.specs.Value.{Value, Values, no_items, item, Members, no-members, member, memberCount}
-use Rattle.syntax.specs.Layout.{itemCount}
+use Rattle.model.specs.Path.{Path, index_of, item_at, member_named, part, path_of, value_at}
+use Rattle.model.specs.Value.{Value, Values, no_items, item, Members, no_members, member, member_count}
+use Rattle.syntax.specs.Layout.{item_count}
 use Rattle.table.specs.declared.node.Node.{Node}
 use Rattle.table.specs.declared.node.Node.TheVariants.{Null}
 use Rattle.table.specs.declared.node.Rows.{Rows}
-use Rattle.table.specs.Denotes.{Denotes, denotes-null, denotes-false, denotes-true, denotes-integer, denotes-string, denotes-array, denotes-object, RowItems, no-row-items, row-item, RowMembers, no-row-members, row-member}
-use Rattle.table.specs.Node.{nodeAt, name_at, nextRow}
+use Rattle.table.specs.Denotes.{Denotes, denotes_null, denotes_false, denotes_true, denotes_integer, denotes_string, denotes_array, denotes_object, RowItems, no_row_items, row_item, RowMembers, no_row_members, row_member}
+use Rattle.table.specs.Node.{node_at, name_at, next_row}
 use Rattle.table.specs.Strings.{bytes_of}
 use Rattle.paths.specs.declared.index.Index.{Index}
-use Rattle.paths.specs.Contract.{limit, indexIn, memberIn, itemIn, item_of, partIn, nodeAlong, fragments, Leads}
+use Rattle.paths.specs.Contract.{limit, index_in, member_in, item_in, item_of, part_in, node_along, fragments, Leads}
 use Rattle.paths.specs.Inner.{or_null}
 use Rattle.paths.specs.Laws.Index.{IndexIs, inside, outside, index_is}
-use Rattle.paths.specs.Laws.Fragments.{path-fragments, value_on}
+use Rattle.paths.specs.Laws.Fragments.{path_fragments, value_on}
 
 -- No item stands so far.
-item-past : (vs : Values) (k : ℕ) → itemCount vs ≤ k → item_at vs k ≡ none
-unfolding itemCount
-item-past no_items k l = refl
-item-past (item v vs) zero l = absurd (omega arith)
-item-past (item v vs) (suc k) l = item-past vs k (omega arith)
+item_past : (vs : Values) (k : ℕ) → item_count vs ≤ k → item_at vs k ≡ none
+unfolding item_count
+item_past no_items k l = refl
+item_past (item v vs) zero l = absurd (omega arith)
+item_past (item v vs) (suc k) l = item_past vs k (omega arith)
 
 module _ {T B : Bytes} where
-  member-denotes : (f : Bytes) {ms : Members} {row : ℕ} (n : ℕ) → n ≡ memberCount ms → RowMembers T B row ms → Denotes T B (or_null (memberNamed f ms)) (memberIn T B f row n)
-  member-denotes f zero e (no-row-members b) = denotes-null
-  member-denotes f (suc n) e (no-row-members b) = absurd (omega arith)
-  member-denotes f zero e (row-member b t g d r) = absurd (omega arith)
-  member-denotes f (suc n) e (row-member {row = row} {n = name} {v = v} {ms = ms} b t g d r) = rw (← g) (go (sameBytes f name) (member-denotes f n (omega arith) r))
+  member_denotes : (f : Bytes) {ms : Members} {row : ℕ} (n : ℕ) → n ≡ member_count ms → RowMembers T B row ms → Denotes T B (or_null (member_named f ms)) (member_in T B f row n)
+  member_denotes f zero e (no_row_members b) = denotes_null
+  member_denotes f (suc n) e (no_row_members b) = absurd (omega arith)
+  member_denotes f zero e (row_member b t g d r) = absurd (omega arith)
+  member_denotes f (suc n) e (row_member {row = row} {n = name} {v = v} {ms = ms} b t g d r) = rw (← g) (go (same_bytes f name) (member_denotes f n (omega arith) r))
     where
-      go : (x : Bool) → Denotes T B (or_null (memberNamed f ms)) (memberIn T B f (nextRow T row) n)
-          → Denotes T B (or_null (cond x (some v) (memberNamed f ms))) (cond x (nodeAt T row) (memberIn T B f (nextRow T row) n))
+      go : (x : Bool) → Denotes T B (or_null (member_named f ms)) (member_in T B f (next_row T row) n)
+          → Denotes T B (or_null (cond x (some v) (member_named f ms))) (cond x (node_at T row) (member_in T B f (next_row T row) n))
       go true later = d
       go false later = later
 
-  item-denotes : {vs : Values} {row : ℕ} (n k : ℕ) → n ≡ itemCount vs → RowItems T B row vs → Denotes T B (or_null (item_at vs k)) (itemIn T row n k)
-  unfolding itemCount
-  item-denotes zero k e (no-row-items b) = denotes-null
-  item-denotes (suc n) k e (no-row-items b) = absurd (omega arith)
-  item-denotes zero k e (row-item b t d r) = absurd (omega arith)
-  item-denotes (suc n) zero e (row-item b t d r) = d
-  item-denotes (suc n) (suc k) e (row-item b t d r) = item-denotes n k (omega arith) r
+  item_denotes : {vs : Values} {row : ℕ} (n k : ℕ) → n ≡ item_count vs → RowItems T B row vs → Denotes T B (or_null (item_at vs k)) (item_in T row n k)
+  unfolding item_count
+  item_denotes zero k e (no_row_items b) = denotes_null
+  item_denotes (suc n) k e (no_row_items b) = absurd (omega arith)
+  item_denotes zero k e (row_item b t d r) = absurd (omega arith)
+  item_denotes (suc n) zero e (row_item b t d r) = d
+  item_denotes (suc n) (suc k) e (row_item b t d r) = item_denotes n k (omega arith) r
 
-  named-denotes : (f : Bytes) {vs : Values} {q : Rows} {i : Index} → IndexIs f i → q.count ≡ itemCount vs → q.count ≤ maxValues → RowItems T B q.first vs
+  named_denotes : (f : Bytes) {vs : Values} {q : Rows} {i : Index} → IndexIs f i → q.count ≡ item_count vs → q.count ≤ max_values → RowItems T B q.first vs
       → Denotes T B (or_null (index_of f >>= item_at vs)) (item_of T q i)
-  named-denotes f (inside g) e m r = rw g (item-denotes _ _ e r)
-  named-denotes f {vs} {q} (outside far) e m r = go (index_of f) far
+  named_denotes f (inside g) e m r = rw g (item_denotes _ _ e r)
+  named_denotes f {vs} {q} (outside far) e m r = go (index_of f) far
     where
       go : (o : Option ℕ) → ((k : ℕ) → o ≡ some k → limit ≤ k) → Denotes T B (or_null (o >>= item_at vs)) Null
-      go none l = denotes-null
-      go (some k) l = rw (item-past vs k (omega (arith, values-below, l k refl))) denotes-null
+      go none l = denotes_null
+      go (some k) l = rw (item_past vs k (omega (arith, values_below, l k refl))) denotes_null
 
-  part-denotes : (f : Bytes) {v : Value} {n : Node} → Denotes T B v n → Denotes T B (or_null (part f v)) (partIn T B f n)
-  part-denotes f denotes-null = denotes-null
-  part-denotes f denotes-false = denotes-null
-  part-denotes f denotes-true = denotes-null
-  part-denotes f (denotes-integer w e) = denotes-null
-  part-denotes f (denotes-string l) = denotes-null
-  part-denotes f (denotes-array c m r) = named-denotes f (index_is f refl) c m r
-  part-denotes f (denotes-object c m r) = member-denotes f _ c r
+  part_denotes : (f : Bytes) {v : Value} {n : Node} → Denotes T B v n → Denotes T B (or_null (part f v)) (part_in T B f n)
+  part_denotes f denotes_null = denotes_null
+  part_denotes f denotes_false = denotes_null
+  part_denotes f denotes_true = denotes_null
+  part_denotes f (denotes_integer w e) = denotes_null
+  part_denotes f (denotes_string l) = denotes_null
+  part_denotes f (denotes_array c m r) = named_denotes f (index_is f refl) c m r
+  part_denotes f (denotes_object c m r) = member_denotes f _ c r
 
-  along-denotes : (q : Path) {v : Value} {n : Node} → Denotes T B v n → Denotes T B (value_at q v) (nodeAlong T B q n)
-  along-denotes [] d = d
-  along-denotes (f ∷ q) {v} d = rw (value_on f q v) (along-denotes q (part-denotes f d))
+  along_denotes : (q : Path) {v : Value} {n : Node} → Denotes T B v n → Denotes T B (value_at q v) (node_along T B q n)
+  along_denotes [] d = d
+  along_denotes (f ∷ q) {v} d = rw (value_on f q v) (along_denotes q (part_denotes f d))
 
-  pub leads-along : {s : Bytes} {from r : Node} → r ≡ nodeAlong T B (fragments s) from → Leads s T B from r
-  leads-along {s} e = record { is = e; leads = λ q c p d. rw (e, path-fragments q s p) (along-denotes q d) }
+  pub leads_along : {s : Bytes} {from r : Node} → r ≡ node_along T B (fragments s) from → Leads s T B from r
+  leads_along {s} e = record { is = e; leads = λ q c p d. rw (e, path_fragments q s p) (along_denotes q d) }

@@ -1,6 +1,6 @@
 // The index that a fragment of a path is on an array.
 ghost use Rattle.std.specs.Prelude.{◌≡◌};
-ghost use Rattle.paths.specs.Contract.{indexIn};
+ghost use Rattle.paths.specs.Contract.{index_in};
 ghost use Rattle.paths.specs.Inner.{plain};
 
 // Where an item stands, or that no array has such an item.
@@ -29,7 +29,7 @@ fn is_plain(fragment: &[u8]) -> bool
 
 // "0 or digits without a leading zero are an index"
 pub fn read_index(fragment: &[u8]) -> Index
-    ensures { result ≡ indexIn fragment.now }
+    ensures { result ≡ index_in fragment.now }
 {
     if !is_plain(fragment) {
         return Index::Outside;

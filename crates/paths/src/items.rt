@@ -3,7 +3,7 @@ ghost use Rattle.std.specs.Prelude.{true, ◌≡◌, ◌<◌};
 ghost use Rattle.name_index.specs.Table.{IndexedItems};
 ghost use Rattle.table.specs.Placed.{Placed};
 ghost use Rattle.table.specs.declared.node.Node.TheVariants.{Array};
-ghost use Rattle.paths.specs.Contract.{itemIn};
+ghost use Rattle.paths.specs.Contract.{item_in};
 ghost use Rattle.paths.specs.Inner.{AllOf, Flat};
 
 use crate::owner::are_items;
@@ -15,7 +15,7 @@ const FEW: usize = 4;
 
 // The item so many after the first, row by row.
 fn item_among(at: usize, table: &[u8], q: Rows) -> Node
-    ensures { result ≡ itemIn table.now q.first q.count at }
+    ensures { result ≡ item_in table.now q.first q.count at }
 {
     let mut rest = q;
     let mut left = at;
@@ -42,7 +42,7 @@ fn are_flat(table: &[u8], q: Rows) -> bool
 // The item of an array so many after the first, of which there are more.
 fn item_of(at: usize, table: &[u8], q: Rows) -> Node
     requires { IndexedItems table.now × AllOf table.now q (Array q) × (at < q.count) }
-    ensures { result ≡ itemIn table.now q.first q.count at }
+    ensures { result ≡ item_in table.now q.first q.count at }
 {
     if are_flat(table, q) {
         return node_at(table, q.first + at);
@@ -56,7 +56,7 @@ fn item_of(at: usize, table: &[u8], q: Rows) -> Node
 // The item so many after the first.
 pub fn item(at: usize, table: &[u8], q: Rows) -> Node
     requires { IndexedItems table.now }
-    ensures { result ≡ itemIn table.now q.first q.count at }
+    ensures { result ≡ item_in table.now q.first q.count at }
 {
     if at < FEW {
         return item_among(at, table, q);

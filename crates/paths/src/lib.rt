@@ -6,19 +6,19 @@ mod owner;
 
 ghost use Rattle.std.specs.Prelude.{◌≡◌};
 ghost use Rattle.name_index.specs.Table.{IndexedItems, IndexedTable};
-ghost use Rattle.paths.specs.Contract.{indexIn, memberIn, item_of, partIn, Leads};
+ghost use Rattle.paths.specs.Contract.{index_in, member_in, item_of, part_in, Leads};
 
 use crate::index::{Index, read_index};
 use crate::items::item;
 use crate::members::row_named;
-use bytes::path::fragment_end;
+use octets::path::fragment_end;
 use name_index::find::Found;
 use table::node::{Node, Rows, node_at};
 
 // "on an object a fragment names a member"
 fn member(fragment: &[u8], table: &[u8], strings: &[u8], q: Rows) -> Node
     requires { IndexedTable table.now strings.now }
-    ensures { result ≡ memberIn table.now strings.now fragment.now q.first q.count }
+    ensures { result ≡ member_in table.now strings.now fragment.now q.first q.count }
 {
     let found = row_named(fragment, table, strings, q);
     match found {
@@ -30,7 +30,7 @@ fn member(fragment: &[u8], table: &[u8], strings: &[u8], q: Rows) -> Node
 // The item that a fragment names.
 fn item_named(fragment: &[u8], table: &[u8], q: Rows) -> Node
     requires { IndexedItems table.now }
-    ensures { result ≡ item_of table.now q (indexIn fragment.now) }
+    ensures { result ≡ item_of table.now q (index_in fragment.now) }
 {
     let index = read_index(fragment);
     match index {
@@ -42,7 +42,7 @@ fn item_named(fragment: &[u8], table: &[u8], q: Rows) -> Node
 // What a fragment names in a value; null where it names nothing.
 fn part(fragment: &[u8], table: &[u8], strings: &[u8], n: Node) -> Node
     requires { IndexedTable table.now strings.now }
-    ensures { result ≡ partIn table.now strings.now fragment.now n }
+    ensures { result ≡ part_in table.now strings.now fragment.now n }
 {
     match n {
         Node::Array(q) => item_named(fragment, table, q),

@@ -1,11 +1,11 @@
 // The member that a name has in an object.
 ghost use Rattle.std.specs.Prelude.{true, ◌≡◌};
 ghost use Rattle.name_index.specs.Table.{IndexedTable};
-ghost use Rattle.paths.specs.Contract.{rowNamed};
+ghost use Rattle.paths.specs.Contract.{row_named};
 ghost use Rattle.paths.specs.Inner.{Indexable};
 
 use crate::owner::are_members;
-use bytes::same;
+use octets::same;
 use name_index::find::{Found, find};
 use table::node::{Rows, name_at, tail};
 use table::string::bytes_of;
@@ -17,7 +17,7 @@ const SHORT: usize = 32;
 
 // The first of some rows with this name, row by row.
 fn row_among(name: &[u8], table: &[u8], strings: &[u8], q: Rows) -> Found
-    ensures { result ≡ rowNamed table.now strings.now name.now q.first q.count }
+    ensures { result ≡ row_named table.now strings.now name.now q.first q.count }
 {
     let mut rest = q;
     while rest.count > 0 {
@@ -48,7 +48,7 @@ fn goes_by_index(name: &[u8], table: &[u8], q: Rows) -> bool
 // The first of some rows with this name.
 pub fn row_named(name: &[u8], table: &[u8], strings: &[u8], q: Rows) -> Found
     requires { IndexedTable table.now strings.now }
-    ensures { result ≡ rowNamed table.now strings.now name.now q.first q.count }
+    ensures { result ≡ row_named table.now strings.now name.now q.first q.count }
 {
     if goes_by_index(name, table, q) {
         return find(table, strings, q.first, name);

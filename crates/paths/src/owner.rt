@@ -1,6 +1,6 @@
 // The array or object whose parts some rows are.
 ghost use Rattle.std.specs.Prelude.{true, ◌≡◌};
-ghost use Rattle.paths.specs.Inner.{ownerOf, AllOf};
+ghost use Rattle.paths.specs.Inner.{owner_of, AllOf};
 ghost use Rattle.table.specs.declared.node.Node.TheVariants.{Array, Object};
 
 use model::MAX_VALUES;
@@ -8,7 +8,7 @@ use table::node::{Node, Rows, node_at};
 
 // The value in the row before some rows; null where no text has that row.
 fn owner(table: &[u8], q: Rows) -> Node
-    ensures { result ≡ ownerOf table.now q }
+    ensures { result ≡ owner_of table.now q }
 {
     let first = q.first;
     if first == 0 {

@@ -1,11 +1,11 @@
 -- Areas: the two work areas that are lent for a text, before and after.
 use Rattle.std.specs.Prelude.{Bool, ◌*◌, length, replicate}
-use Rattle.area.specs.Words.{zeroFrom}
+use Rattle.area.specs.Words.{zero_from}
 use Rattle.model.specs.Bytes.{Bytes}
-use Rattle.model.specs.Limits.{maxValues}
+use Rattle.model.specs.Limits.{max_values}
 use Rattle.model.specs.Value.{Value}
-use Rattle.syntax.specs.Entry.{tooShort, ReadAnswer, readInto}
-use Rattle.syntax.specs.Layout.{rowBytes, table_of, stringsAreaOf}
+use Rattle.syntax.specs.Entry.{too_short, ReadAnswer, read_into}
+use Rattle.syntax.specs.Layout.{row_bytes, table_of, strings_area_of}
 use Rattle.syntax.specs.Read.{read}
 use Rattle.table.specs.WasRead.{WasRead}
 use Rattle.name_index.specs.Table.{IndexedTable}
@@ -16,32 +16,32 @@ pub record TextAreas : Type 0 where
   pub table : Bytes
   pub strings : Bytes
 
-abbrev pub textAreas : Bytes → Bytes → TextAreas
-textAreas T A = record { table = T; strings = A }
+abbrev pub text_areas : Bytes → Bytes → TextAreas
+text_areas T A = record { table = T; strings = A }
 
 -- Refusal 1: "a work area below its stated size".
-abbrev pub isShort : TextAreas → Bool
-isShort a = tooShort a.table a.strings
+abbrev pub is_short : TextAreas → Bool
+is_short a = too_short a.table a.strings
 
 -- "Every other refusal leaves all work areas .. zero."
 abbrev pub zeroed : TextAreas → TextAreas
-zeroed a = textAreas (replicate (length a.table) 0) (replicate (length a.strings) 0)
+zeroed a = text_areas (replicate (length a.table) 0) (replicate (length a.strings) 0)
 
 -- "After success the areas hold the read form described in docs/ .. and every unused byte is zero."
 abbrev pub holding : Value → TextAreas → TextAreas
-holding v a = textAreas (table_of v (length a.table)) (stringsAreaOf v (length a.strings))
+holding v a = text_areas (table_of v (length a.table)) (strings_area_of v (length a.strings))
 
 -- The areas as reading a text leaves them: holding its value, or zero.
-abbrev pub readAreasOf : ReadAnswer → TextAreas
-readAreasOf r = textAreas r.table r.strings
+abbrev pub read_areas_of : ReadAnswer → TextAreas
+read_areas_of r = text_areas r.table r.strings
 
-abbrev pub leftBy : Bytes → TextAreas → TextAreas
-leftBy s a = readAreasOf (readInto (read s) (length a.table) (length a.strings))
+abbrev pub left_by : Bytes → TextAreas → TextAreas
+left_by s a = read_areas_of (read_into (read s) (length a.table) (length a.strings))
 
 -- ---- until the call ends
 -- The areas once the work room behind the table's rows is cleared.
 abbrev pub tidied : TextAreas → TextAreas
-tidied a = textAreas (zeroFrom (maxValues * rowBytes) a.table) a.strings
+tidied a = text_areas (zero_from (max_values * row_bytes) a.table) a.strings
 
 -- Until then the areas of a sheet or a record hold its value, and the index of its names;
 pub record HoldsIndexed (v : Value) (a : TextAreas) : Type 0 where

@@ -1,83 +1,83 @@
 -- Contract: what the functions promise of texts and of the areas lent for them. Laws.LongAreas: what that comes to with areas that are long enough.
 use Rattle.std.specs.Prelude.{Bool, false, cond, ◌≡◌, ℕ}
 use Rattle.model.specs.Bytes.{Bytes}
-use Rattle.model.specs.Refusal.{number, invalidArgument}
+use Rattle.model.specs.Refusal.{number, invalid_argument}
 use Rattle.model.specs.Rule.{Rule}
 use Rattle.model.specs.Sheet.{Sheet, fits}
-use Rattle.model.specs.Types.{typeBits}
+use Rattle.model.specs.Types.{type_bits}
 use Rattle.model.specs.Value.{Value}
 use Rattle.pipeline.specs.declared.text.Stop.{Stop}
 use Rattle.pipeline.specs.declared.check.Checked.{Checked}
 use Rattle.pipeline.specs.declared.fit.Fitted.{Fitted}
-use Rattle.pipeline.specs.Areas.{TextAreas, isShort, leftBy, tidied, HoldsIndexed, HoldsMarked}
-use Rattle.pipeline.specs.Stage.{Stage, passed, refused, ◌>>=◌, ruleText, sheetText, recordText, readAs}
-use Rattle.pipeline.specs.Texts.{TextRead, ruleStage, sheetStage, TextsChecked, checkStage, TextsFitted, fitsStage}
+use Rattle.pipeline.specs.Areas.{TextAreas, is_short, left_by, tidied, HoldsIndexed, HoldsMarked}
+use Rattle.pipeline.specs.Stage.{Stage, passed, refused, ◌>>=◌, rule_text, sheet_text, record_text, read_as}
+use Rattle.pipeline.specs.Texts.{TextRead, rule_stage, sheet_stage, TextsChecked, check_stage, TextsFitted, fits_stage}
 
 -- A refusal's number, the text and the place; three zeros where the stage is passed.
-abbrev pub stopOf : {A : Type 0} → Stage A → Stop
-stopOf (passed a) = record { refusal = 0; which = 0; place = 0 }
-stopOf (refused e which place) = record { refusal = number e; which = which; place = place }
+abbrev pub stop_of : {A : Type 0} → Stage A → Stop
+stop_of (passed a) = record { refusal = 0; which = 0; place = 0 }
+stop_of (refused e which place) = record { refusal = number e; which = which; place = place }
 
 -- A stage of a text with the areas lent for it: refusal 1 where they are below their stated sizes.
 abbrev pub lent : {A : Type 0} → TextAreas → ℕ → Stage A → Stage A
-lent a which x = cond (isShort a) (refused invalidArgument which 0) x
+lent a which x = cond (is_short a) (refused invalid_argument which 0) x
 
 -- "Refusal 1 touches nothing": areas below their stated sizes stay; others are as reading leaves them, whatever comes after it.
-abbrev pub leftIn : Bytes → TextAreas → TextAreas
-leftIn s a = cond (isShort a) a (leftBy s a)
+abbrev pub left_in : Bytes → TextAreas → TextAreas
+left_in s a = cond (is_short a) a (left_by s a)
 
 -- Areas a' that were a before reading, once their work room is cleared; there is none in areas below their stated sizes.
-abbrev pub tidiedIn : TextAreas → TextAreas → TextAreas
-tidiedIn a a' = cond (isShort a) a' (tidied a')
+abbrev pub tidied_in : TextAreas → TextAreas → TextAreas
+tidied_in a a' = cond (is_short a) a' (tidied a')
 
 -- `areas`: the final bytes, but for the work room; `holds`: what the areas hold once the stage is passed.
 pub record Reads (which : ℕ) (s : Bytes) (a : TextAreas) (r : Stop) (a' : TextAreas) : Type 0 where
-  pub stop : r ≡ stopOf (lent a which (readAs which s))
-  pub areas : tidiedIn a a' ≡ leftIn s a
-  pub holds : (v : Value) → lent a which (readAs which s) ≡ passed v → HoldsIndexed v a'
+  pub stop : r ≡ stop_of (lent a which (read_as which s))
+  pub areas : tidied_in a a' ≡ left_in s a
+  pub holds : (v : Value) → lent a which (read_as which s) ≡ passed v → HoldsIndexed v a'
 
 pub record ReadsRule (s : Bytes) (a : TextAreas) (r : Stop) (a' : TextAreas) : Type 0 where
-  pub stop : r ≡ stopOf (lent a ruleText (ruleStage s))
-  pub areas : tidiedIn a a' ≡ leftIn s a
-  pub holds : (x : TextRead Rule) → lent a ruleText (ruleStage s) ≡ passed x → HoldsMarked x.value a'
+  pub stop : r ≡ stop_of (lent a rule_text (rule_stage s))
+  pub areas : tidied_in a a' ≡ left_in s a
+  pub holds : (x : TextRead Rule) → lent a rule_text (rule_stage s) ≡ passed x → HoldsMarked x.value a'
 
 pub record ReadsSheet (s : Bytes) (a : TextAreas) (r : Stop) (a' : TextAreas) : Type 0 where
-  pub stop : r ≡ stopOf (lent a sheetText (sheetStage s))
-  pub areas : tidiedIn a a' ≡ leftIn s a
-  pub holds : (x : TextRead Sheet) → lent a sheetText (sheetStage s) ≡ passed x → HoldsIndexed x.value a'
+  pub stop : r ≡ stop_of (lent a sheet_text (sheet_stage s))
+  pub areas : tidied_in a a' ≡ left_in s a
+  pub holds : (x : TextRead Sheet) → lent a sheet_text (sheet_stage s) ≡ passed x → HoldsIndexed x.value a'
 
 -- Areas that are b' after a stage; b where it is not passed.
-abbrev pub leftAfter : {A : Type 0} → Stage A → TextAreas → TextAreas → TextAreas
-leftAfter (passed x) b b' = b'
-leftAfter (refused e which place) b b' = b
+abbrev pub left_after : {A : Type 0} → Stage A → TextAreas → TextAreas → TextAreas
+left_after (passed x) b b' = b'
+left_after (refused e which place) b b' = b
 
 -- The types found, as bits; 0 before they are.
 abbrev pub words_of : Stage TextsChecked → ℕ
-words_of (passed c) = typeBits c.types
+words_of (passed c) = type_bits c.types
 words_of (refused e which place) = 0
 
 -- The areas of the sheet's text are looked at once the rule's stage is passed.
-abbrev pub checkIn : TextAreas → TextAreas → Bytes → Bytes → Stage TextsChecked
-checkIn a b rule sheet = lent a ruleText (ruleStage rule) >>= λ x. lent b sheetText (checkStage rule sheet)
+abbrev pub check_in : TextAreas → TextAreas → Bytes → Bytes → Stage TextsChecked
+check_in a b rule sheet = lent a rule_text (rule_stage rule) >>= λ x. lent b sheet_text (check_stage rule sheet)
 
 pub record ChecksTexts (rule sheet : Bytes) (a b : TextAreas) (r : Checked) (a' b' : TextAreas) : Type 0 where
-  pub stop : r.stop ≡ stopOf (checkIn a b rule sheet)
-  pub words : r.words ≡ words_of (checkIn a b rule sheet)
-  pub rule-areas : tidiedIn a a' ≡ leftIn rule a
-  pub sheet-areas : leftAfter (lent a ruleText (ruleStage rule)) b' (tidiedIn b b') ≡ leftAfter (lent a ruleText (ruleStage rule)) b (leftIn sheet b)
-  pub rule-holds : (t : TextsChecked) → checkIn a b rule sheet ≡ passed t → HoldsMarked t.rule.value a'
-  pub sheet-holds : (t : TextsChecked) → checkIn a b rule sheet ≡ passed t → HoldsIndexed t.sheet.value b'
+  pub stop : r.stop ≡ stop_of (check_in a b rule sheet)
+  pub words : r.words ≡ words_of (check_in a b rule sheet)
+  pub rule_areas : tidied_in a a' ≡ left_in rule a
+  pub sheet_areas : left_after (lent a rule_text (rule_stage rule)) b' (tidied_in b b') ≡ left_after (lent a rule_text (rule_stage rule)) b (left_in sheet b)
+  pub rule_holds : (t : TextsChecked) → check_in a b rule sheet ≡ passed t → HoldsMarked t.rule.value a'
+  pub sheet_holds : (t : TextsChecked) → check_in a b rule sheet ≡ passed t → HoldsIndexed t.sheet.value b'
 
 -- Whether the record fits; no before that is known.
-abbrev pub fitOf : Stage TextsFitted → Bool
-fitOf (passed t) = fits t.sheet.content t.«record»
-fitOf (refused e which place) = false
+abbrev pub fit_of : Stage TextsFitted → Bool
+fit_of (passed t) = fits t.sheet.content t.«record»
+fit_of (refused e which place) = false
 
-abbrev pub fitsIn : TextAreas → TextAreas → Bytes → Bytes → Stage TextsFitted
-fitsIn a b sheet record' = lent a sheetText (sheetStage sheet) >>= λ x. lent b recordText (fitsStage sheet record')
+abbrev pub fits_in : TextAreas → TextAreas → Bytes → Bytes → Stage TextsFitted
+fits_in a b sheet record' = lent a sheet_text (sheet_stage sheet) >>= λ x. lent b record_text (fits_stage sheet record')
 
 pub record FitsTexts (sheet record' : Bytes) (a b : TextAreas) (r : Fitted) (a' b' : TextAreas) : Type 0 where
-  pub stop : r.stop ≡ stopOf (fitsIn a b sheet record')
-  pub fit : r.fits ≡ fitOf (fitsIn a b sheet record')
-  pub sheet-areas : tidiedIn a a' ≡ leftIn sheet a
-  pub record-areas : leftAfter (lent a sheetText (sheetStage sheet)) b' (tidiedIn b b') ≡ leftAfter (lent a sheetText (sheetStage sheet)) b (leftIn record' b)
+  pub stop : r.stop ≡ stop_of (fits_in a b sheet record')
+  pub fit : r.fits ≡ fit_of (fits_in a b sheet record')
+  pub sheet_areas : tidied_in a a' ≡ left_in sheet a
+  pub record_areas : left_after (lent a sheet_text (sheet_stage sheet)) b' (tidied_in b b') ≡ left_after (lent a sheet_text (sheet_stage sheet)) b (left_in record' b)

@@ -18,23 +18,23 @@ passed a >>= f = f a
 refused e which place >>= f = refused e which place
 
 -- "Refusals 2 to 5 also say which text and the place." The texts have the numbers 1 (rule), 2 (sheet) and 3 (record).
-abbrev pub ruleText : ℕ
-ruleText = 1
+abbrev pub rule_text : ℕ
+rule_text = 1
 
-abbrev pub sheetText : ℕ
-sheetText = 2
+abbrev pub sheet_text : ℕ
+sheet_text = 2
 
-abbrev pub recordText : ℕ
-recordText = 3
+abbrev pub record_text : ℕ
+record_text = 3
 
-abbrev pub asRead : ℕ → Read → Stage Value
-asRead which (readings.done v) = passed v
-asRead which (readings.refuse k p) = refused (reading k) which p
+abbrev pub as_read : ℕ → Read → Stage Value
+as_read which (readings.done v) = passed v
+as_read which (readings.refuse k p) = refused (reading k) which p
 
-abbrev pub readAs : ℕ → Bytes → Stage Value
-readAs which s = asRead which (read s)
+abbrev pub read_as : ℕ → Bytes → Stage Value
+read_as which s = as_read which (read s)
 
 -- Any other refusal says 0 for both.
-abbrev pub asJudged : {A : Type 0} → Judged A → Stage A
-asJudged (done a) = passed a
-asJudged (refuses e) = refused e 0 0
+abbrev pub as_judged : {A : Type 0} → Judged A → Stage A
+as_judged (done a) = passed a
+as_judged (refuses e) = refused e 0 0

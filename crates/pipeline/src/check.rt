@@ -1,8 +1,8 @@
 // A rule's text and a sheet's: rule read; 6; sheet read; 14; 13.
 ghost use Rattle.std.specs.Prelude.{◌≡◌};
-ghost use Rattle.pipeline.specs.Areas.{textAreas};
+ghost use Rattle.pipeline.specs.Areas.{text_areas};
 ghost use Rattle.pipeline.specs.Contract.{ChecksTexts};
-ghost use Rattle.pipeline.specs.Inner.{foundAs};
+ghost use Rattle.pipeline.specs.Inner.{found_as};
 
 use crate::number::numbered;
 use crate::sheet_text::read_sheet;
@@ -20,7 +20,7 @@ pub struct Checked {
 
 // What the kind check comes to.
 fn found(f: Found) -> Checked
-    ensures { result ≡ foundAs f }
+    ensures { result ≡ found_as f }
 {
     match f {
         Found::NotAccepted => Checked {
@@ -42,7 +42,7 @@ pub fn check_texts(
     sheet_table: &mut [u8],
     sheet_strings: &mut [u8],
 ) -> Checked
-    ensures { ChecksTexts rule.now sheet.now (textAreas rule_table.old rule_strings.old) (textAreas sheet_table.old sheet_strings.old) result (textAreas rule_table.new rule_strings.new) (textAreas sheet_table.new sheet_strings.new) }
+    ensures { ChecksTexts rule.now sheet.now (text_areas rule_table.old rule_strings.old) (text_areas sheet_table.old sheet_strings.old) result (text_areas rule_table.new rule_strings.new) (text_areas sheet_table.new sheet_strings.new) }
 {
     let a = read_rule(rule, rule_table, rule_strings);
     if a.refusal != 0 {

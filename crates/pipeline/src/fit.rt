@@ -1,5 +1,5 @@
 // A sheet's text and a record's: sheet read; 14; record read; whether the record fits.
-ghost use Rattle.pipeline.specs.Areas.{textAreas};
+ghost use Rattle.pipeline.specs.Areas.{text_areas};
 ghost use Rattle.pipeline.specs.Contract.{FitsTexts};
 
 use crate::sheet_text::read_sheet;
@@ -21,7 +21,7 @@ pub fn fit_texts(
     record_table: &mut [u8],
     record_strings: &mut [u8],
 ) -> Fitted
-    ensures { FitsTexts sheet.now «record».now (textAreas sheet_table.old sheet_strings.old) (textAreas record_table.old record_strings.old) result (textAreas sheet_table.new sheet_strings.new) (textAreas record_table.new record_strings.new) }
+    ensures { FitsTexts sheet.now «record».now (text_areas sheet_table.old sheet_strings.old) (text_areas record_table.old record_strings.old) result (text_areas sheet_table.new sheet_strings.new) (text_areas record_table.new record_strings.new) }
 {
     let a = read_sheet(sheet, sheet_table, sheet_strings);
     if a.refusal != 0 {

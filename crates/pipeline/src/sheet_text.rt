@@ -1,5 +1,5 @@
 // A sheet's text, read into its two areas.
-ghost use Rattle.pipeline.specs.Areas.{textAreas};
+ghost use Rattle.pipeline.specs.Areas.{text_areas};
 ghost use Rattle.pipeline.specs.Contract.{ReadsSheet};
 
 use crate::number::numbered;
@@ -8,7 +8,7 @@ use sheet::check::is_sheet;
 
 // A sheet's text; 14 where it is not one.
 pub fn read_sheet(text: &[u8], table: &mut [u8], strings: &mut [u8]) -> Stop
-    ensures { ReadsSheet text.now (textAreas table.old strings.old) result (textAreas table.new strings.new) }
+    ensures { ReadsSheet text.now (text_areas table.old strings.old) result (text_areas table.new strings.new) }
 {
     let a = read_text(2, text, table, strings);
     if a.refusal != 0 {

@@ -1,12 +1,12 @@
 // One text, read into its two areas.
 ghost use Rattle.std.specs.Prelude.{◌≡◌};
-ghost use Rattle.syntax.specs.Entry.{tooShort};
-ghost use Rattle.pipeline.specs.Areas.{textAreas};
+ghost use Rattle.syntax.specs.Entry.{too_short};
+ghost use Rattle.pipeline.specs.Areas.{text_areas};
 ghost use Rattle.pipeline.specs.Contract.{Reads, ReadsRule};
-ghost use Rattle.pipeline.specs.Inner.{toldOf};
+ghost use Rattle.pipeline.specs.Inner.{told_of};
 
 use crate::number::numbered;
-use json::{Answer as Reading, read_indexed, read_rows};
+use json_reader::{Answer as Reading, read_indexed, read_rows};
 use shape::is_rule;
 use syntax::{STRINGS_BYTES, TABLE_BYTES};
 
@@ -20,7 +20,7 @@ pub struct Stop {
 
 // Whether a text's areas are below their stated sizes.
 pub fn is_short(table: &[u8], strings: &[u8]) -> bool
-    ensures { result ≡ tooShort table.now strings.now }
+    ensures { result ≡ too_short table.now strings.now }
 {
     if table.len() < TABLE_BYTES {
         return true;
@@ -30,7 +30,7 @@ pub fn is_short(table: &[u8], strings: &[u8]) -> bool
 
 // What reading comes to: with a refusal, this text.
 fn told(which: usize, a: Reading) -> Stop
-    ensures { result ≡ toldOf which a }
+    ensures { result ≡ told_of which a }
 {
     if a.refusal == 0 {
         return numbered(0);
@@ -44,14 +44,14 @@ fn told(which: usize, a: Reading) -> Stop
 
 // A text.
 pub fn read_text(which: usize, text: &[u8], table: &mut [u8], strings: &mut [u8]) -> Stop
-    ensures { Reads which text.now (textAreas table.old strings.old) result (textAreas table.new strings.new) }
+    ensures { Reads which text.now (text_areas table.old strings.old) result (text_areas table.new strings.new) }
 {
     told(which, read_indexed(text, table, strings))
 }
 
 // A rule's text; 6 where it is not one.
 pub fn read_rule(text: &[u8], table: &mut [u8], strings: &mut [u8]) -> Stop
-    ensures { ReadsRule text.now (textAreas table.old strings.old) result (textAreas table.new strings.new) }
+    ensures { ReadsRule text.now (text_areas table.old strings.old) result (text_areas table.new strings.new) }
 {
     let a = told(1, read_rows(text, table, strings));
     if a.refusal != 0 {

@@ -1,7 +1,7 @@
 -- Inner: what the private functions do.
 use Rattle.std.specs.Prelude.{◌≡◌, Bool, true, false, ◌&&◌, not, cond, ℕ, ◌-◌, ◌≤◌, ◌<◌, ltb, eqb, length, get_or, take, drop}
 use Rattle.model.specs.Bytes.{Bytes}
-use Rattle.model.specs.Writing.{decimal, escapedAll}
+use Rattle.model.specs.Writing.{decimal, escaped_all}
 use Rattle.print.specs.declared.decimal.Digits.{Digits}
 use Rattle.print.specs.declared.string.Move.{Move}
 use Rattle.print.specs.Contract.{Put}
@@ -17,8 +17,8 @@ abbrev pub plain : ℕ → Bool
 plain b = not (ltb b 0x20) && (not (eqb b 0x22) && not (eqb b 0x5c))
 
 -- The letter of a short escape; 0 for a byte that has none.
-abbrev pub letterOf : ℕ → ℕ
-letterOf b =
+abbrev pub letter_of : ℕ → ℕ
+letter_of b =
     cond (eqb b 8) 98
     (cond (eqb b 9) 116
     (cond (eqb b 10) 110
@@ -55,4 +55,4 @@ pub record StringAt (s : Bytes) (here : Move) : Type 0 where
 pub record Moved (s : Bytes) (here : Move) (d : Bytes) (r : Move) (d' : Bytes) : Type 0 where
   pub on : here.from < r.from
   pub inside : r.from ≤ length s
-  pub put : Put (escapedAll (take (r.from - here.from) (drop here.from s))) here.at d r.at d'
+  pub put : Put (escaped_all (take (r.from - here.from) (drop here.from s))) here.at d r.at d'

@@ -1,6 +1,6 @@
 // An instant's text, copied from its fixed record of 24 bytes, as a string.
-ghost use Rattle.model.specs.InstantText.{instantText};
-ghost use Rattle.model.specs.Writing.{stringText};
+ghost use Rattle.model.specs.InstantText.{instant_text};
+ghost use Rattle.model.specs.Writing.{string_text};
 ghost use Rattle.print.specs.Contract.{Near, Put};
 
 use crate::put::{put_byte, put_bytes};
@@ -9,7 +9,7 @@ use instants::text::InstantText;
 
 pub fn put_instant(output: &mut [u8], at: usize, t: Instant) -> usize
     requires { Near at }
-    ensures { Put (stringText (instantText t.ms)) at output.old result output.new }
+    ensures { Put (string_text (instant_text t.ms)) at output.old result output.new }
 {
     let text = InstantText::new(t);
     let bytes = text.bytes;

@@ -1,16 +1,16 @@
 // Strings: in quotes, with the escapes of RFC 8785, section 3.2.2.2.
 ghost use Rattle.std.specs.Prelude.{◌≡◌, true, false, ◌+◌, ◌≤◌, ◌<◌, length};
-ghost use Rattle.model.specs.Limits.{maxTextBytes};
-ghost use Rattle.model.specs.Writing.{hexDigit, escaped, stringText};
+ghost use Rattle.model.specs.Limits.{max_text_bytes};
+ghost use Rattle.model.specs.Writing.{hex_digit, escaped, string_text};
 ghost use Rattle.print.specs.Contract.{Near, Put, StringPut};
-ghost use Rattle.print.specs.Inner.{plain, letterOf, Passed, Run, farthest, StringAt, Moved};
+ghost use Rattle.print.specs.Inner.{plain, letter_of, Passed, Run, farthest, StringAt, Moved};
 
 use crate::put::{put_byte, put_bytes};
 use model::MAX_TEXT_BYTES;
 
 // What stands after the backslash of a byte's escape of two characters; 0 for a byte that has none.
 fn letter(b: u8) -> u8
-    ensures { result ≡ letterOf b }
+    ensures { result ≡ letter_of b }
 {
     match b {
         b'\x08' => b'b',
@@ -82,7 +82,7 @@ fn plain_end(s: &[u8], from: usize) -> usize
 // A hexadecimal digit, in lower case.
 fn hex(n: u8) -> u8
     requires { n < 16 }
-    ensures { result ≡ hexDigit n }
+    ensures { result ≡ hex_digit n }
 {
     if n < 10 {
         return b'0' + n;
@@ -138,8 +138,8 @@ fn put_some(output: &mut [u8], s: &[u8], here: Move) -> Move
 
 // A string of few enough bytes, its quotes too.
 fn put_quoted(output: &mut [u8], at: usize, s: &[u8]) -> usize
-    requires { (Near at) × (length s.now ≤ maxTextBytes) }
-    ensures { Put (stringText s.now) at output.old result output.new }
+    requires { (Near at) × (length s.now ≤ max_text_bytes) }
+    ensures { Put (string_text s.now) at output.old result output.new }
 {
     put_byte(output, at, b'"');
     let mut here = Move {

@@ -2,22 +2,22 @@
 -- kind check, value and steps are those of the definitions is said by the contracts. Statements only; the proofs are in Laws.Written.
 use Rattle.std.specs.Prelude.{◌≡◌, ℕ}
 use Rattle.model.specs.Bytes.{Bytes}
-use Rattle.jehvrukam.specs.Evaluate.{Areas, Numbers, evaluateEntry}
-use Rattle.jehvrukam.specs.EvaluateChecked.{CheckedAreas, CheckedNumbers, evaluateCheckedEntry}
-use Rattle.promises.specs.Calls.{written_by, writtenByChecked, Answers}
+use Rattle.jehvrukam.specs.Evaluate.{Areas, Numbers, evaluate_entry}
+use Rattle.jehvrukam.specs.EvaluateChecked.{CheckedAreas, CheckedNumbers, evaluate_checked_entry}
+use Rattle.promises.specs.Calls.{written_by, written_by_checked, Answers}
 use Rattle.promises.specs.Laws.Written as WrittenLaws
 
 -- If `jehvrukam_evaluate` gives 0, the first `length` bytes of the output are the text of the value that evaluation gave, after the steps that are told. They
 -- read back as that value where it holds no date-time.
-pub evaluate-reads-back :
+pub evaluate_reads_back :
     (rule record' : Bytes) (limit : ℕ) (a : Areas) (n : Numbers)
-    → (evaluateEntry rule record' limit a n).refusal ≡ 0
-    → Answers rule record' limit (evaluateEntry rule record' limit a n).numbers.steps (evaluateEntry rule record' limit a n).numbers.size (written_by (evaluateEntry rule record' limit a n))
-evaluate-reads-back = WrittenLaws.evaluate-reads-back
+    → (evaluate_entry rule record' limit a n).refusal ≡ 0
+    → Answers rule record' limit (evaluate_entry rule record' limit a n).numbers.steps (evaluate_entry rule record' limit a n).numbers.size (written_by (evaluate_entry rule record' limit a n))
+evaluate_reads_back = WrittenLaws.evaluate_reads_back
 
 -- So it is with `jehvrukam_evaluate_checked`.
-pub checked-reads-back :
+pub checked_reads_back :
     (rule sheet record' : Bytes) (limit : ℕ) (a : CheckedAreas) (n : CheckedNumbers)
-    → (evaluateCheckedEntry rule sheet record' limit a n).refusal ≡ 0
-    → Answers rule record' limit (evaluateCheckedEntry rule sheet record' limit a n).numbers.steps (evaluateCheckedEntry rule sheet record' limit a n).numbers.size (writtenByChecked (evaluateCheckedEntry rule sheet record' limit a n))
-checked-reads-back = WrittenLaws.checked-reads-back
+    → (evaluate_checked_entry rule sheet record' limit a n).refusal ≡ 0
+    → Answers rule record' limit (evaluate_checked_entry rule sheet record' limit a n).numbers.steps (evaluate_checked_entry rule sheet record' limit a n).numbers.size (written_by_checked (evaluate_checked_entry rule sheet record' limit a n))
+checked_reads_back = WrittenLaws.checked_reads_back

@@ -17,5 +17,5 @@ none_of : (n i : ℕ) → NoneOf n i → n ≤ i
 none_of zero i h = omega arith
 none_of (suc n) i h = omega (arith, none_of n i h.0, h.1)
 
-pub no-view : (l : List View) (i : ℕ) → NoneOf (length l) i → unmarked ≡ get_or l i unmarked
-no-view l i h = sym (get_or-eq_default l unmarked (none_of (length l) i h))
+pub no_view : (l : List View) (i : ℕ) → NoneOf (length l) i → unmarked ≡ get_or l i unmarked
+no_view l i h = sym (get_or-eq_default l unmarked (none_of (length l) i h))

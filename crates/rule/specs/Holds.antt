@@ -2,21 +2,21 @@
 use Rattle.std.proofs.Math.Option.{some}
 use Rattle.std.specs.Prelude.{◌≡◌, ℕ, suc, ◌≤◌, ◌<◌}
 use Rattle.model.specs.Bytes.{Bytes}
-use Rattle.model.specs.Limits.{maxValues}
-use Rattle.model.specs.Rule.{Rule, Rules, no-rules, rule}
-use Rattle.model.specs.Shape.{shape, rulesOf, operandsOf}
-use Rattle.model.specs.Size.{nesting, itemsNesting}
+use Rattle.model.specs.Limits.{max_values}
+use Rattle.model.specs.Rule.{Rule, Rules, no_rules, rule}
+use Rattle.model.specs.Shape.{shape, rules_of, operands_of}
+use Rattle.model.specs.Size.{nesting, items_nesting}
 use Rattle.model.specs.Value.{Value, array, Values}
 use Rattle.table.specs.declared.node.Node.TheVariants.{Array}
 use Rattle.table.specs.declared.node.Rows.{Rows}
 use Rattle.table.specs.Denotes.{Denotes}
-use Rattle.table.specs.Node.{nodeAt}
+use Rattle.table.specs.Node.{node_at}
 
 -- The rule r, nested no deeper than `deep`.
 pub record Holds (T B : Bytes) (deep row : ℕ) (r : Rule) : Type 0 where
-  pub within : row < maxValues
+  pub within : row < max_values
   pub value : Value
-  pub denotes : Denotes T B value (nodeAt T row)
+  pub denotes : Denotes T B value (node_at T row)
   pub shaped : shape value ≡ some r
   pub nests : nesting value ≤ deep
 
@@ -24,10 +24,10 @@ pub record Holds (T B : Bytes) (deep row : ℕ) (r : Rule) : Type 0 where
 pub record HoldsAll (T B : Bytes) (deep : ℕ) (q : Rows) (rs : Rules) : Type 0 where
   pub values : Values
   pub denotes : Denotes T B (array values) (Array q)
-  pub shaped : rulesOf (operandsOf values) ≡ some rs
-  pub nests : itemsNesting values ≤ deep
+  pub shaped : rules_of (operands_of values) ≡ some rs
+  pub nests : items_nesting values ≤ deep
 
 -- How many rules there are.
-abbrev pub ruleCount : Rules → ℕ
-ruleCount no-rules = 0
-ruleCount (rule r rs) = suc (ruleCount rs)
+abbrev pub rule_count : Rules → ℕ
+rule_count no_rules = 0
+rule_count (rule r rs) = suc (rule_count rs)

@@ -1,7 +1,7 @@
 // Marks: what the shape check found each object of a rule's table to be, a byte for each row. They lie behind the rows.
 ghost use Rattle.std.specs.Prelude.{◌≡◌, ◌<◌};
-ghost use Rattle.syntax.specs.Layout.{rowsPart};
-ghost use Rattle.rule.specs.Mark.{markAt, withMark, comparisonMark, compareMark, unitMark, opMark, viewMark};
+ghost use Rattle.syntax.specs.Layout.{rows_part};
+ghost use Rattle.rule.specs.Mark.{mark_at, with_mark, comparison_mark, compare_mark, unit_mark, op_mark, view_mark};
 
 use crate::view::View;
 use keywords::Op;
@@ -14,14 +14,14 @@ const MARKS: usize = MAX_VALUES * ROW_BYTES;
 
 // The rows of a table, without what lies behind them.
 pub fn rows_of(table: &[u8]) -> &[u8]
-    ensures { result.now ≡ rowsPart table.now }
+    ensures { result.now ≡ rows_part table.now }
 {
     part_of(table, 0, MARKS)
 }
 
 // ---- numbers
 fn comparison_mark(c: Comparison) -> u8
-    ensures { (result ≡ comparisonMark c) × (result < 4) }
+    ensures { (result ≡ comparison_mark c) × (result < 4) }
 {
     match c {
         Comparison::Greater => 0,
@@ -32,7 +32,7 @@ fn comparison_mark(c: Comparison) -> u8
 }
 
 fn compare_mark(domain: Domain, comparison: Comparison) -> u8
-    ensures { result ≡ compareMark domain comparison }
+    ensures { result ≡ compare_mark domain comparison }
 {
     match domain {
         Domain::OnIntegers => 10 + comparison_mark(comparison),
@@ -41,7 +41,7 @@ fn compare_mark(domain: Domain, comparison: Comparison) -> u8
 }
 
 fn unit_mark(unit: TimeUnit) -> u8
-    ensures { result ≡ unitMark unit }
+    ensures { result ≡ unit_mark unit }
 {
     match unit {
         TimeUnit::Year => 18,
@@ -52,7 +52,7 @@ fn unit_mark(unit: TimeUnit) -> u8
 }
 
 fn op_mark(op: Op) -> u8
-    ensures { result ≡ opMark op }
+    ensures { result ≡ op_mark op }
 {
     match op {
         Op::Array => 0,
@@ -69,7 +69,7 @@ fn op_mark(op: Op) -> u8
 
 // The mark of an object with this view.
 pub fn mark_of(view: View) -> u8
-    ensures { result ≡ viewMark view }
+    ensures { result ≡ view_mark view }
 {
     match view {
         View::Literal(_) => 0,
@@ -84,7 +84,7 @@ pub fn mark_of(view: View) -> u8
 // ---- bytes
 // A table with a mark of a row; as it was where it ends before.
 pub fn put_mark(table: &mut [u8], row: usize, mark: u8)
-    ensures { table.new ≡ withMark table.old row mark }
+    ensures { table.new ≡ with_mark table.old row mark }
 {
     let n = table.len();
     if n <= MARKS {
@@ -98,7 +98,7 @@ pub fn put_mark(table: &mut [u8], row: usize, mark: u8)
 
 // The mark of a row; 0 where the table ends before.
 pub fn mark_at(table: &[u8], row: usize) -> u8
-    ensures { result ≡ markAt table.now row }
+    ensures { result ≡ mark_at table.now row }
 {
     let size = table.len();
     if size <= MARKS {

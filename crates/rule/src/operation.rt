@@ -1,7 +1,7 @@
 // What an object has the shape of: the operation that its single member's name and content make, or no rule.
 ghost use Rattle.std.specs.Prelude.{◌≡◌};
 ghost use Rattle.keywords.specs.Contract.{unit_of};
-ghost use Rattle.rule.specs.View.{singleOf, countedOn, andOn, first_of, unit_at, plusTimeOf, plusTimeOn, extractOn, pathOn, operandsOn, contentOn, objectOn};
+ghost use Rattle.rule.specs.View.{single_of, counted_on, and_on, first_of, unit_at, plus_time_of, plus_time_on, extract_on, path_on, operands_on, content_on, object_on};
 
 use crate::view::{Shape, View};
 use keywords::{Keyword, Op, UnitAnswer, keyword_named, unit_named};
@@ -18,7 +18,7 @@ enum Single {
 
 // The single member, if there is no other.
 fn single_member(rule_table: &[u8], q: Rows) -> Single
-    ensures { result ≡ singleOf rule_table.now q }
+    ensures { result ≡ single_of rule_table.now q }
 {
     if q.count != 1 {
         return Single::NotSingle;
@@ -28,7 +28,7 @@ fn single_member(rule_table: &[u8], q: Rows) -> Single
 
 // An operation with from `least` to `most` operands.
 fn counted_operands(least: usize, most: usize, view: View, q: Rows) -> Shape
-    ensures { result ≡ countedOn least most view q }
+    ensures { result ≡ counted_on least most view q }
 {
     if q.count < least {
         return Shape::NotRule;
@@ -41,7 +41,7 @@ fn counted_operands(least: usize, most: usize, view: View, q: Rows) -> Shape
 
 // Two operands or more.
 fn and_operands(q: Rows) -> Shape
-    ensures { result ≡ andOn q }
+    ensures { result ≡ and_on q }
 {
     if q.count < 2 {
         return Shape::NotRule;
@@ -76,7 +76,7 @@ fn unit_at(rule_strings: &[u8], n: Node) -> UnitAnswer
 
 // `plusTime` by this amount of this unit, if it is one.
 fn plus_time_of(amount: u64, unit: UnitAnswer, q: Rows) -> Shape
-    ensures { result ≡ plusTimeOf amount (unit_of unit) q }
+    ensures { result ≡ plus_time_of amount (unit_of unit) q }
 {
     match unit {
         UnitAnswer::NoUnit => Shape::NotRule,
@@ -88,7 +88,7 @@ fn plus_time_of(amount: u64, unit: UnitAnswer, q: Rows) -> Shape
 
 // "a rule, an integer, one of "year" "month" "day" "hour""
 fn plus_time(rule_table: &[u8], rule_strings: &[u8], q: Rows) -> Shape
-    ensures { result ≡ plusTimeOn rule_table.now rule_strings.now q }
+    ensures { result ≡ plus_time_on rule_table.now rule_strings.now q }
 {
     if q.count != 3 {
         return Shape::NotRule;
@@ -112,7 +112,7 @@ fn plus_time(rule_table: &[u8], rule_strings: &[u8], q: Rows) -> Shape
 
 // "a rule, an integer"
 fn extract(rule_table: &[u8], q: Rows) -> Shape
-    ensures { result ≡ extractOn rule_table.now q }
+    ensures { result ≡ extract_on rule_table.now q }
 {
     if q.count != 2 {
         return Shape::NotRule;
@@ -131,7 +131,7 @@ fn extract(rule_table: &[u8], q: Rows) -> Shape
 
 // `var` takes "a string itself, not an array".
 fn path(k: Keyword, s: Span) -> Shape
-    ensures { result ≡ pathOn k s }
+    ensures { result ≡ path_on k s }
 {
     match k {
         Keyword::NoKeyword => Shape::NotRule,
@@ -151,7 +151,7 @@ fn path(k: Keyword, s: Span) -> Shape
 
 // Every other operation takes operands in an array.
 fn operands(rule_table: &[u8], rule_strings: &[u8], k: Keyword, q: Rows) -> Shape
-    ensures { result ≡ operandsOn rule_table.now rule_strings.now k q }
+    ensures { result ≡ operands_on rule_table.now rule_strings.now k q }
 {
     match k {
         Keyword::NoKeyword => Shape::NotRule,
@@ -169,7 +169,7 @@ fn operands(rule_table: &[u8], rule_strings: &[u8], k: Keyword, q: Rows) -> Shap
 
 // An operation with this content.
 fn content_shape(rule_table: &[u8], rule_strings: &[u8], k: Keyword, content: Node) -> Shape
-    ensures { result ≡ contentOn rule_table.now rule_strings.now k content }
+    ensures { result ≡ content_on rule_table.now rule_strings.now k content }
 {
     match content {
         Node::Null => Shape::NotRule,
@@ -184,7 +184,7 @@ fn content_shape(rule_table: &[u8], rule_strings: &[u8], k: Keyword, content: No
 
 // 01, Shape: "An object must yield its single member, or else it is refused with 6."
 pub fn operation(rule_table: &[u8], rule_strings: &[u8], q: Rows) -> Shape
-    ensures { result ≡ objectOn rule_table.now rule_strings.now q }
+    ensures { result ≡ object_on rule_table.now rule_strings.now q }
 {
     let Single::Member(name, content) = single_member(rule_table, q) else {
         return Shape::NotRule;

@@ -1,7 +1,7 @@
 // What stands at a row of a rule's table: the model's six cases, with the rows of the operands. An object is viewed by its mark.
 ghost use Rattle.std.specs.Prelude.{[], ◌∷◌, ◌≡◌, get_or};
 ghost use Rattle.rule.specs.View.{within, view_of};
-ghost use Rattle.rule.specs.Mark.{Marked, unmarked, integerIn, bareInteger, plusTimeView, extractView, operandsViews, markedView, objectView};
+ghost use Rattle.rule.specs.Mark.{Marked, unmarked, integer_in, bare_integer, plus_time_view, extract_view, operands_views, marked_view, object_view};
 ghost use Rattle.rule.specs.Contract.{ViewsAs};
 
 use crate::mark::{mark_at, rows_of};
@@ -38,7 +38,7 @@ pub enum Shape {
 }
 
 fn integer_in(n: Node) -> u64
-    ensures { result ≡ integerIn n }
+    ensures { result ≡ integer_in n }
 {
     match n {
         Node::Null => 0,
@@ -53,13 +53,13 @@ fn integer_in(n: Node) -> u64
 
 // The integer behind the first operand of `plusTime` and `extractFromUVCI`; 0 where none stands there.
 fn bare_integer(rows: &[u8], q: Rows) -> u64
-    ensures { result ≡ bareInteger rows.now q }
+    ensures { result ≡ bare_integer rows.now q }
 {
     integer_in(node_at(rows, next_row(rows, q.first)))
 }
 
 fn plus_time_view(rows: &[u8], unit: TimeUnit, q: Rows) -> View
-    ensures { result ≡ plusTimeView rows.now unit q }
+    ensures { result ≡ plus_time_view rows.now unit q }
 {
     let amount = bare_integer(rows, q);
     let first = q.first;
@@ -67,7 +67,7 @@ fn plus_time_view(rows: &[u8], unit: TimeUnit, q: Rows) -> View
 }
 
 fn extract_view(rows: &[u8], q: Rows) -> View
-    ensures { result ≡ extractView rows.now q }
+    ensures { result ≡ extract_view rows.now q }
 {
     let index = bare_integer(rows, q);
     let first = q.first;
@@ -82,7 +82,7 @@ fn compare_view(domain: Domain, comparison: Comparison, q: Rows) -> View
 
 // The view of operands with this mark.
 fn operands_view(rows: &[u8], mark: u8, q: Rows) -> View
-    ensures { result ≡ get_or (operandsViews rows.now q) mark unmarked }
+    ensures { result ≡ get_or (operands_views rows.now q) mark unmarked }
 {
     match mark {
         0 => View::Literal(Literal::False),
@@ -125,7 +125,7 @@ fn path_view(mark: u8, s: Span) -> View
 
 // The view of an object with this mark and this content.
 fn marked_view(rows: &[u8], mark: u8, content: Node) -> View
-    ensures { result ≡ markedView rows.now mark content }
+    ensures { result ≡ marked_view rows.now mark content }
 {
     match content {
         Node::Null => View::Literal(Literal::False),
@@ -150,7 +150,7 @@ fn array_view(q: Rows, deep: usize) -> View
 
 // An object by the mark of its row, where so many nestings are left.
 fn object_view(rule_table: &[u8], row: usize, q: Rows, deep: usize) -> View
-    ensures { result ≡ objectView rule_table.now row q deep }
+    ensures { result ≡ object_view rule_table.now row q deep }
 {
     if deep == 0 {
         return View::Literal(Literal::False);

@@ -11,43 +11,43 @@ use lib.Dec.{eqb, ltb}
 use lib.ListN.{length, get_or, drop, drop_of_length-le}
 use lib.Seq.{drop-cons}
 use Rattle.model.specs.Bytes.{Bytes, ascii}
-use Rattle.model.specs.Refusal.{notJson}
+use Rattle.model.specs.Refusal.{not_json}
 use Rattle.model.specs.Value.{Value}
 use Rattle.syntax.specs.declared.Word.{Word}
 use Rattle.syntax.specs.declared.Word.TheVariants.{TrueWord, FalseWord, NullWord}
 use Rattle.syntax.specs.Read.{Parsed, ok, bad, fail, if, expect, literal}
-use Rattle.syntax.specs.Tokens.{isWhite}
-use Rattle.scan.specs.Contract.{faultAt, endWhite, Skipped, standsAt, Stands, wordValue, LiteralMeets}
+use Rattle.syntax.specs.Tokens.{is_white}
+use Rattle.scan.specs.Contract.{fault_at, end_white, Skipped, stands_at, Stands, word_value, LiteralMeets}
 use Rattle.scan.specs.Inner.{ExpectMeets, Compared}
 use Rattle.scan.specs.declared.token.WordMatch.{WordMatch}
 use Rattle.scan.specs.declared.token.WordMatch.TheVariants.{Matched, Mismatch}
 
 -- ---- white space
 pub record Skipping (s : Bytes) (at i : ℕ) : Type 0 where
-  pub is : endWhite (drop at s) at ≡ endWhite (drop i s) i
+  pub is : end_white (drop at s) at ≡ end_white (drop i s) i
   pub on : at ≤ i
   pub inside : at ≤ length s → i ≤ length s
 
-pub skip-start : (s : Bytes) (at : ℕ) → Skipping s at at
-skip-start s at = record { is = refl; on = omega arith; inside = λ h. h }
+pub skip_start : (s : Bytes) (at : ℕ) → Skipping s at at
+skip_start s at = record { is = refl; on = omega arith; inside = λ h. h }
 
 module _ {s : Bytes} {at i : ℕ} (k : Skipping s at i) where
-  pub skip-more : i < length s → isWhite (get_or s i 0) ≡ true → Skipping s at (i + 1)
-  unfolding endWhite
-  skip-more l w =
-      let e : endWhite (drop i s) i ≡ endWhite (drop (i + 1) s) (i + 1) = rw (add-one, drop-cons s i 0 l) (simp (endWhite, w)) in
+  pub skip_more : i < length s → is_white (get_or s i 0) ≡ true → Skipping s at (i + 1)
+  unfolding end_white
+  skip_more l w =
+      let e : end_white (drop i s) i ≡ end_white (drop (i + 1) s) (i + 1) = rw (add-one, drop-cons s i 0 l) (simp (end_white, w)) in
       record { is = k.is ∙ e; on = omega (arith, k.on); inside = λ h. omega arith }
 
-  pub skip_stop : i < length s → isWhite (get_or s i 0) ≡ false → Skipped s at i
-  unfolding endWhite
+  pub skip_stop : i < length s → is_white (get_or s i 0) ≡ false → Skipped s at i
+  unfolding end_white
   skip_stop l w =
-      let e : endWhite (drop i s) i ≡ i = rw (drop-cons s i 0 l) (simp (endWhite, w)) in
+      let e : end_white (drop i s) i ≡ i = rw (drop-cons s i 0 l) (simp (end_white, w)) in
       record { is = sym (k.is ∙ e); on = k.on; inside = k.inside }
 
-  pub skip-end : length s ≤ i → Skipped s at i
-  unfolding endWhite
-  skip-end l =
-      let e : endWhite (drop i s) i ≡ i = rw (drop_of_length-le s l) in
+  pub skip_end : length s ≤ i → Skipped s at i
+  unfolding end_white
+  skip_end l =
+      let e : end_white (drop i s) i ≡ i = rw (drop_of_length-le s l) in
       record { is = sym (k.is ∙ e); on = k.on; inside = k.inside }
 
 -- ---- literals
@@ -56,48 +56,48 @@ pub record Comparing (s : Bytes) (at : ℕ) (w : Bytes) (i : ℕ) : Type 0 where
   pub inside : 0 < i → at + i ≤ length s
   pub within : i ≤ length w
 
-pub compare-start : (s : Bytes) (at : ℕ) (w : Bytes) → Comparing s at w 0
-compare-start s at w = record { run = λ a. ap (λ k. expect w a (drop k s) k) (sym (add-zero at)); inside = λ h. absurd (omega arith); within = omega arith }
+pub compare_start : (s : Bytes) (at : ℕ) (w : Bytes) → Comparing s at w 0
+compare_start s at w = record { run = λ a. ap (λ k. expect w a (drop k s) k) (sym (add-zero at)); inside = λ h. absurd (omega arith); within = omega arith }
 
 -- The offset is the first, or one inside the text.
-pub compare-below : (m : ℕ) {s : Bytes} {at : ℕ} {w : Bytes} (i : ℕ) → at ≤ m → length s ≤ m → Comparing s at w i → at + i ≤ m
-compare-below m zero h l k = omega arith
-compare-below m (suc i) h l k = omega (arith, k.inside (omega arith))
+pub compare_below : (m : ℕ) {s : Bytes} {at : ℕ} {w : Bytes} (i : ℕ) → at ≤ m → length s ≤ m → Comparing s at w i → at + i ≤ m
+compare_below m zero h l k = omega arith
+compare_below m (suc i) h l k = omega (arith, k.inside (omega arith))
 
-expect-in : (x : ℕ) (xs : Bytes) (a : Value) (s : Bytes) (p : ℕ)
-    → expect (x ∷ xs) a (drop p s) p ≡ if (standsAt s p x) (λ u q. expect xs a (drop (suc p) s) (suc p)) (fail notJson) (drop p s) p
-unfolding standsAt expect if fail
-expect-in x xs a s p = go (ltb p (length s)) refl
+expect_in : (x : ℕ) (xs : Bytes) (a : Value) (s : Bytes) (p : ℕ)
+    → expect (x ∷ xs) a (drop p s) p ≡ if (stands_at s p x) (λ u q. expect xs a (drop (suc p) s) (suc p)) (fail not_json) (drop p s) p
+unfolding stands_at expect if fail
+expect_in x xs a s p = go (ltb p (length s)) refl
   where
     go : (c : Bool) → ltb p (length s) ≡ c
-        → expect (x ∷ xs) a (drop p s) p ≡ if (elim c [ true ↦ eqb (get_or s p 0) x | false ↦ false ]) (λ u q. expect xs a (drop (suc p) s) (suc p)) (fail notJson) (drop p s) p
+        → expect (x ∷ xs) a (drop p s) p ≡ if (elim c [ true ↦ eqb (get_or s p 0) x | false ↦ false ]) (λ u q. expect xs a (drop (suc p) s) (suc p)) (fail not_json) (drop p s) p
     go true e = rw (drop-cons s p 0 (ltb-true p (length s) e))
     go false e = rw (drop_of_length-le s (ltb-false p (length s) e))
 
 module _ {s : Bytes} {at : ℕ} {w : Bytes} {i : ℕ} (k : Comparing s at w i) where
-  next : (a : Value) (c : Bool) → i < length w → c ≡ standsAt s (at + i) (get_or w i 0)
-      → expect w a (drop at s) at ≡ if c (λ u q. expect (drop (suc i) w) a (drop (suc (at + i)) s) (suc (at + i))) (fail notJson) (drop (at + i) s) (at + i)
+  next : (a : Value) (c : Bool) → i < length w → c ≡ stands_at s (at + i) (get_or w i 0)
+      → expect w a (drop at s) at ≡ if c (λ u q. expect (drop (suc i) w) a (drop (suc (at + i)) s) (suc (at + i))) (fail not_json) (drop (at + i) s) (at + i)
   next a c h e =
-      k.run a ∙ ap (λ z. expect z a (drop (at + i) s) (at + i)) (drop-cons w i 0 h) ∙ expect-in (get_or w i 0) (drop (suc i) w) a s (at + i)
-      ∙ ap (λ z. if z (λ u q. expect (drop (suc i) w) a (drop (suc (at + i)) s) (suc (at + i))) (fail notJson) (drop (at + i) s) (at + i)) (sym e)
+      k.run a ∙ ap (λ z. expect z a (drop (at + i) s) (at + i)) (drop-cons w i 0 h) ∙ expect_in (get_or w i 0) (drop (suc i) w) a s (at + i)
+      ∙ ap (λ z. if z (λ u q. expect (drop (suc i) w) a (drop (suc (at + i)) s) (suc (at + i))) (fail not_json) (drop (at + i) s) (at + i)) (sym e)
 
-  pub compare-more : {r : Bool} → i < length w → Stands s (at + i) (get_or w i 0) r → r ≡ true → Comparing s at w (i + 1)
+  pub compare_more : {r : Bool} → i < length w → Stands s (at + i) (get_or w i 0) r → r ≡ true → Comparing s at w (i + 1)
   unfolding if
-  compare-more h t e =
+  compare_more h t e =
       let l : at + i < length s = t.room e in
       record { run = λ a. rw (add-one, add-suc) (next a true h (sym e ∙ t.is)); inside = λ _. omega arith; within = omega arith }
 
-  pub compare-stop : {r : Bool} → i < length w → Stands s (at + i) (get_or w i 0) r → r ≡ false → Compared s at w (Mismatch (faultAt 2 (at + i)))
+  pub compare_stop : {r : Bool} → i < length w → Stands s (at + i) (get_or w i 0) r → r ≡ false → Compared s at w (Mismatch (fault_at 2 (at + i)))
   unfolding if fail
-  compare-stop h t e =
+  compare_stop h t e =
       record {
-        run = λ a. subst⁻¹ (λ (m : Parsed Value). ExpectMeets s at w a m (Mismatch (faultAt 2 (at + i)))) (next a false h (sym e ∙ t.is))
+        run = λ a. subst⁻¹ (λ (m : Parsed Value). ExpectMeets s at w a m (Mismatch (fault_at 2 (at + i)))) (next a false h (sym e ∙ t.is))
             refl;
       }
 
-  pub compare-end : length w ≤ i → Compared s at w (Matched (at + i))
+  pub compare_end : length w ≤ i → Compared s at w (Matched (at + i))
   unfolding expect
-  compare-end h =
+  compare_end h =
       record {
         run = λ a. subst⁻¹ (λ (m : Parsed Value). ExpectMeets s at w a m (Matched (at + i)))
             (k.run a ∙ ap (λ z. expect z a (drop (at + i) s) (at + i)) (drop_of_length-le w h))
@@ -109,24 +109,24 @@ word_bytes TrueWord = ascii "true"
 word_bytes FalseWord = ascii "false"
 word_bytes NullWord = ascii "null"
 
-literal-expect : (w : Word) (t : Bytes) (p : ℕ) → literal w t p ≡ expect (word_bytes w) (wordValue w) t p
+literal_expect : (w : Word) (t : Bytes) (p : ℕ) → literal w t p ≡ expect (word_bytes w) (word_value w) t p
 unfolding literal
-literal-expect TrueWord t p = refl
-literal-expect FalseWord t p = refl
-literal-expect NullWord t p = refl
+literal_expect TrueWord t p = refl
+literal_expect FalseWord t p = refl
+literal_expect NullWord t p = refl
 
 some_bytes : (w : Word) → 0 < length (word_bytes w)
 some_bytes TrueWord = omega arith
 some_bytes FalseWord = omega arith
 some_bytes NullWord = omega arith
 
-literal-meets : (s : Bytes) (at : ℕ) (w : Word) (m : Parsed Value) (r : WordMatch) → ExpectMeets s at (word_bytes w) (wordValue w) m r → LiteralMeets s at w m r
-literal-meets s at w (ok v u q) r k =
+literal_meets : (s : Bytes) (at : ℕ) (w : Word) (m : Parsed Value) (r : WordMatch) → ExpectMeets s at (word_bytes w) (word_value w) m r → LiteralMeets s at w m r
+literal_meets s at w (ok v u q) r k =
     record { answer = k.answer; is = k.is; left = k.left; on = omega (arith, k.end, some_bytes w); inside = k.inside (some_bytes w) }
-literal-meets s at w (bad f p) r k = k
+literal_meets s at w (bad f p) r k = k
 
-pub literal-by : {s : Bytes} {at : ℕ} {w x : Word} {r : WordMatch} → w ≡ x → Compared s at (word_bytes x) r → LiteralMeets s at w (literal w (drop at s) at) r
-literal-by {s} {at} {w} {x} {r} e k =
+pub literal_by_lem : {s : Bytes} {at : ℕ} {w x : Word} {r : WordMatch} → w ≡ x → Compared s at (word_bytes x) r → LiteralMeets s at w (literal w (drop at s) at) r
+literal_by_lem {s} {at} {w} {x} {r} e k =
     subst⁻¹ (λ (y : Word). LiteralMeets s at y (literal y (drop at s) at) r) e
-    (subst⁻¹ (λ (m : Parsed Value). LiteralMeets s at x m r) (literal-expect x (drop at s) at)
-    (literal-meets s at x (expect (word_bytes x) (wordValue x) (drop at s) at) r (k.run (wordValue x))))
+    (subst⁻¹ (λ (m : Parsed Value). LiteralMeets s at x m r) (literal_expect x (drop at s) at)
+    (literal_meets s at x (expect (word_bytes x) (word_value x) (drop at s) at) r (k.run (word_value x))))

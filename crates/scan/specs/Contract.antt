@@ -1,8 +1,8 @@
 -- What the functions of this crate promise: the tokens of specs/Read.antt of the crate syntax, read from a text s at an offset.
 use Rattle.std.specs.Prelude.{◌≡◌, Bool, true, false, [], ◌∷◌, ℕ, suc, ◌≤◌, ◌<◌, ltb, eqb, ℤ, length, get_or, drop}
 use Rattle.model.specs.Bytes.{Bytes}
-use Rattle.model.specs.Limits.{maxValues, maxNesting}
-use Rattle.model.specs.Refusal.{ReadFault, readNumber}
+use Rattle.model.specs.Limits.{max_values, max_nesting}
+use Rattle.model.specs.Refusal.{ReadFault, read_number}
 use Rattle.model.specs.Value.{Value, scalar, null, boolean, integer}
 use Rattle.syntax.specs.declared.Start.{Start}
 use Rattle.syntax.specs.declared.Start.TheVariants.{NoValue, TooMuch, Literal, Minus, Digit, Quote, Bracket, Brace}
@@ -12,7 +12,7 @@ use Rattle.syntax.specs.declared.Separator.{Separator}
 use Rattle.syntax.specs.declared.Separator.TheVariants.{Comma, Close, Neither}
 use Rattle.syntax.specs.Layout.{biased}
 use Rattle.syntax.specs.Read.{Parsed, ok, bad}
-use Rattle.syntax.specs.Tokens.{isWhite, isDigit, digitValue, start_of, separatorOf}
+use Rattle.syntax.specs.Tokens.{is_white, is_digit, digit_value, start_of, separator_of}
 use Rattle.scan.specs.declared.Fault.{Fault}
 use Rattle.scan.specs.declared.token.Decimal.{Decimal}
 use Rattle.scan.specs.declared.token.Decimal.TheVariants.{DecimalDigit, NoDecimal}
@@ -22,20 +22,20 @@ use Rattle.scan.specs.declared.number.Numeral.{Numeral}
 use Rattle.scan.specs.declared.number.Numeral.TheVariants.{Integer, NoInteger}
 
 -- A fault as the code has it, and that of a parser.
-abbrev pub faultAt : ℕ → ℕ → Fault
-faultAt number at = record { number = number; at = at }
+abbrev pub fault_at : ℕ → ℕ → Fault
+fault_at number at = record { number = number; at = at }
 
-abbrev pub faultOf : ReadFault → ℕ → Fault
-faultOf k p = faultAt (readNumber k) p
+abbrev pub fault_of : ReadFault → ℕ → Fault
+fault_of k p = fault_at (read_number k) p
 
 -- ---- white space
 -- The offset after the white space with which t, at an offset, begins.
-unfoldable pub endWhite : Bytes → ℕ → ℕ
-endWhite [] at = at
-endWhite (b ∷ t) at = elim (isWhite b) [ true ↦ endWhite t (suc at) | false ↦ at ]
+unfoldable pub end_white : Bytes → ℕ → ℕ
+end_white [] at = at
+end_white (b ∷ t) at = elim (is_white b) [ true ↦ end_white t (suc at) | false ↦ at ]
 
 pub record Skipped (s : Bytes) (at r : ℕ) : Type 0 where
-  pub is : r ≡ endWhite (drop at s) at
+  pub is : r ≡ end_white (drop at s) at
   pub on : at ≤ r
   pub inside : at ≤ length s → r ≤ length s
 
@@ -47,23 +47,23 @@ start_at s row depth at = elim (ltb at (length s)) [ true ↦ start_of row depth
 abbrev pub StartRoom : Bytes → ℕ → ℕ → ℕ → Start → Type 0
 StartRoom s row depth at NoValue = Unit {0}
 StartRoom s row depth at TooMuch = Unit {0}
-StartRoom s row depth at (Literal w) = (at < length s) × (row < maxValues)
-StartRoom s row depth at Minus = (at < length s) × (row < maxValues)
-StartRoom s row depth at Digit = (at < length s) × (row < maxValues)
-StartRoom s row depth at Quote = (at < length s) × (row < maxValues)
-StartRoom s row depth at Bracket = (at < length s) × (row < maxValues) × (depth < maxNesting)
-StartRoom s row depth at Brace = (at < length s) × (row < maxValues) × (depth < maxNesting)
+StartRoom s row depth at (Literal w) = (at < length s) × (row < max_values)
+StartRoom s row depth at Minus = (at < length s) × (row < max_values)
+StartRoom s row depth at Digit = (at < length s) × (row < max_values)
+StartRoom s row depth at Quote = (at < length s) × (row < max_values)
+StartRoom s row depth at Bracket = (at < length s) × (row < max_values) × (depth < max_nesting)
+StartRoom s row depth at Brace = (at < length s) × (row < max_values) × (depth < max_nesting)
 
 pub record Started (s : Bytes) (row depth at : ℕ) (r : Start) : Type 0 where
   pub is : r ≡ start_at s row depth at
   pub room : StartRoom s row depth at r
 
 -- A digit's number, if the byte is one.
-unfoldable pub decimalOf : ℕ → Decimal
-decimalOf b = elim (isDigit b) [ true ↦ DecimalDigit (digitValue b) | false ↦ NoDecimal ]
+unfoldable pub decimal_of : ℕ → Decimal
+decimal_of b = elim (is_digit b) [ true ↦ DecimalDigit (digit_value b) | false ↦ NoDecimal ]
 
-unfoldable pub separatorAt : Bytes → ℕ → ℕ → Separator
-separatorAt s close at = elim (ltb at (length s)) [ true ↦ separatorOf close (get_or s at 0) | false ↦ Neither ]
+unfoldable pub separator_at : Bytes → ℕ → ℕ → Separator
+separator_at s close at = elim (ltb at (length s)) [ true ↦ separator_of close (get_or s at 0) | false ↦ Neither ]
 
 abbrev pub SeparatorRoom : Bytes → ℕ → Separator → Type 0
 SeparatorRoom s at Comma = at < length s
@@ -71,26 +71,26 @@ SeparatorRoom s at Close = at < length s
 SeparatorRoom s at Neither = Unit {0}
 
 pub record Separated (s : Bytes) (close at : ℕ) (r : Separator) : Type 0 where
-  pub is : r ≡ separatorAt s close at
+  pub is : r ≡ separator_at s close at
   pub room : SeparatorRoom s at r
 
-unfoldable pub standsAt : Bytes → ℕ → ℕ → Bool
-standsAt s at b = elim (ltb at (length s)) [ true ↦ eqb (get_or s at 0) b | false ↦ false ]
+unfoldable pub stands_at : Bytes → ℕ → ℕ → Bool
+stands_at s at b = elim (ltb at (length s)) [ true ↦ eqb (get_or s at 0) b | false ↦ false ]
 
 pub record Stands (s : Bytes) (at b : ℕ) (r : Bool) : Type 0 where
-  pub is : r ≡ standsAt s at b
+  pub is : r ≡ stands_at s at b
   pub room : r ≡ true → at < length s
 
 -- ---- literals
-abbrev pub wordValue : Word → Value
-wordValue TrueWord = scalar (boolean true)
-wordValue FalseWord = scalar (boolean false)
-wordValue NullWord = scalar null
+abbrev pub word_value : Word → Value
+word_value TrueWord = scalar (boolean true)
+word_value FalseWord = scalar (boolean false)
+word_value NullWord = scalar null
 
 -- A literal that ends at q.
 pub record LiteralRead (s : Bytes) (at : ℕ) (w : Word) (v : Value) (u : Bytes) (q : ℕ) (r : WordMatch) : Type 0 where
   pub answer : r ≡ Matched q
-  pub is : v ≡ wordValue w
+  pub is : v ≡ word_value w
   pub left : u ≡ drop q s
   pub on : at < q
   pub inside : q ≤ length s
@@ -98,7 +98,7 @@ pub record LiteralRead (s : Bytes) (at : ℕ) (w : Word) (v : Value) (u : Bytes)
 -- The answer, by what the parser gives.
 abbrev pub LiteralMeets : Bytes → ℕ → Word → Parsed Value → WordMatch → Type 0
 LiteralMeets s at w (ok v u q) r = LiteralRead s at w v u q r
-LiteralMeets s at w (bad k p) r = r ≡ Mismatch (faultOf k p)
+LiteralMeets s at w (bad k p) r = r ≡ Mismatch (fault_of k p)
 
 -- ---- numbers
 -- The integer z, which ends at q.
@@ -113,4 +113,4 @@ pub record NumberRead (s : Bytes) (at : ℕ) (v : Value) (u : Bytes) (q : ℕ) (
 -- The answer, by what the parser gives.
 abbrev pub NumberMeets : Bytes → ℕ → Parsed Value → Numeral → Type 0
 NumberMeets s at (ok v u q) r = NumberRead s at v u q r
-NumberMeets s at (bad k p) r = r ≡ NoInteger (faultOf k p)
+NumberMeets s at (bad k p) r = r ≡ NoInteger (fault_of k p)

@@ -1,8 +1,8 @@
 // Numbers: integers within the limits.
 ghost use Rattle.std.specs.Prelude.{◌≡◌, ◌≤◌, length, drop};
-ghost use Rattle.model.specs.Limits.{maxInteger};
+ghost use Rattle.model.specs.Limits.{max_integer};
 ghost use Rattle.syntax.specs.Read as reading;
-ghost use Rattle.scan.specs.Contract.{faultAt, NumberMeets};
+ghost use Rattle.scan.specs.Contract.{fault_at, NumberMeets};
 ghost use Rattle.scan.specs.Inner.{Signed, ending, Rest};
 
 use crate::Fault;
@@ -18,13 +18,13 @@ pub enum Numeral {
 }
 
 fn fault(number: usize, at: usize) -> Numeral
-    ensures { result ≡ Numeral.NoInteger (faultAt number at) }
+    ensures { result ≡ Numeral.NoInteger (fault_at number at) }
 {
     Numeral::NoInteger(Fault { number, at })
 }
 
 fn signed(at: usize, negative: bool, n: u64) -> Numeral
-    requires { n ≤ maxInteger }
+    requires { n ≤ max_integer }
     ensures { Signed at negative n result }
 {
     if negative {
@@ -41,7 +41,7 @@ fn signed(at: usize, negative: bool, n: u64) -> Numeral
 
 // A fraction's point, or an exponent's e or E.
 fn is_part(b: u8) -> bool
-    ensures { result ≡ reading.isPart b }
+    ensures { result ≡ reading.is_part b }
 {
     if b == b'.' {
         return true;
@@ -54,7 +54,7 @@ fn is_part(b: u8) -> bool
 
 // The end of the number `n` at `at`, where no digit of it stands.
 fn ended(text: &[u8], at: usize, negative: bool, n: u64) -> Numeral
-    requires { (at ≤ length text.now) × (n ≤ maxInteger) }
+    requires { (at ≤ length text.now) × (n ≤ max_integer) }
     ensures { Rest text.now at (ending negative n (drop at text.now) at) result }
 {
     if text.len() <= at {
@@ -68,7 +68,7 @@ fn ended(text: &[u8], at: usize, negative: bool, n: u64) -> Numeral
 
 // The digits from `at` on, after those that make `first`.
 fn digits(text: &[u8], at: usize, negative: bool, first: u64) -> Numeral
-    requires { (at ≤ length text.now) × (first ≤ maxInteger) }
+    requires { (at ≤ length text.now) × (first ≤ max_integer) }
     ensures { Rest text.now at (reading.digits negative first (drop at text.now) at) result }
 {
     let mut i = at;

@@ -2,8 +2,8 @@
 ghost use Rattle.std.specs.Prelude.{◌≡◌, drop};
 ghost use Rattle.syntax.specs.Read as reading;
 ghost use Rattle.syntax.specs.Tokens as tokens;
-ghost use Rattle.scan.specs.Contract.{Skipped, Started, decimalOf, Separated, Stands, LiteralMeets};
-ghost use Rattle.scan.specs.Inner.{tooMany, Begun, Compared};
+ghost use Rattle.scan.specs.Contract.{Skipped, Started, decimal_of, Separated, Stands, LiteralMeets};
+ghost use Rattle.scan.specs.Inner.{too_many, Begun, Compared};
 
 use crate::Fault;
 use model::{MAX_NESTING, MAX_VALUES};
@@ -24,7 +24,7 @@ pub fn skip_white(text: &[u8], at: usize) -> usize
 }
 
 fn is_white(b: u8) -> bool
-    ensures { result ≡ tokens.isWhite b }
+    ensures { result ≡ tokens.is_white b }
 {
     if b == b' ' {
         return true;
@@ -90,7 +90,7 @@ fn begins(depth: usize, b: u8) -> Start
 
 // The same where no value may begin any more.
 fn too_many(kind: Start) -> Start
-    ensures { result ≡ tooMany kind }
+    ensures { result ≡ too_many kind }
 {
     match kind {
         Start::NoValue => Start::NoValue,
@@ -115,7 +115,7 @@ pub enum Decimal {
 }
 
 pub fn decimal_of(b: u8) -> Decimal
-    ensures { result ≡ decimalOf b }
+    ensures { result ≡ decimal_of b }
 {
     if b < b'0' {
         return Decimal::NoDecimal;

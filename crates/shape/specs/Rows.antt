@@ -2,70 +2,70 @@
 use Rattle.std.specs.Prelude.{Bool, true, false, ◌&&◌, cond, ℕ, zero, suc}
 use Rattle.model.specs.Bytes.{Bytes}
 use Rattle.model.specs.Option.{is_some}
-use Rattle.model.specs.Path.{pathOf}
+use Rattle.model.specs.Path.{path_of}
 use Rattle.table.specs.declared.node.Node.{Node}
 use Rattle.table.specs.declared.node.Node.TheVariants.{Null, False, True, Integer, String, Array, Object}
-use Rattle.table.specs.Node.{nodeAt}
+use Rattle.table.specs.Node.{node_at}
 use Rattle.table.specs.Strings.{bytes_of}
 use Rattle.rule.specs.declared.view.Shape.{Shape}
 use Rattle.rule.specs.declared.view.Shape.TheVariants.{NotRule, Rule}
 use Rattle.rule.specs.declared.view.View.{View}
 use Rattle.rule.specs.declared.view.View.TheVariants.{Literal, Var, If, And, Reduce, Apply}
-use Rattle.rule.specs.Mark.{viewMark, withMark}
-use Rattle.rule.specs.View.{objectOn}
+use Rattle.rule.specs.Mark.{view_mark, with_mark}
+use Rattle.rule.specs.View.{object_on}
 
 -- ---- rows at fault
 -- The content of `var` must be a path.
-abbrev pub viewIsRule : Bytes → View → Bool
-viewIsRule B (Literal l) = true
-viewIsRule B (Var p) = is_some (pathOf (bytes_of B p))
-viewIsRule B (If q) = true
-viewIsRule B (And q) = true
-viewIsRule B (Reduce q) = true
-viewIsRule B (Apply op q) = true
+abbrev pub view_is_rule : Bytes → View → Bool
+view_is_rule B (Literal l) = true
+view_is_rule B (Var p) = is_some (path_of (bytes_of B p))
+view_is_rule B (If q) = true
+view_is_rule B (And q) = true
+view_is_rule B (Reduce q) = true
+view_is_rule B (Apply op q) = true
 
 -- An object must be an operation.
-abbrev pub shapeIsRule : Bytes → Shape → Bool
-shapeIsRule B NotRule = false
-shapeIsRule B (Rule w) = viewIsRule B w
+abbrev pub shape_is_rule : Bytes → Shape → Bool
+shape_is_rule B NotRule = false
+shape_is_rule B (Rule w) = view_is_rule B w
 
 -- "Null is no rule." Any other scalar is a literal or a bare operand; an array holds rules or operands, which are rows of their own.
-abbrev pub nodeIsRule : Bytes → Bytes → Node → Bool
-nodeIsRule R B Null = false
-nodeIsRule R B False = true
-nodeIsRule R B True = true
-nodeIsRule R B (Integer n) = true
-nodeIsRule R B (String s) = true
-nodeIsRule R B (Array q) = true
-nodeIsRule R B (Object q) = shapeIsRule B (objectOn R B q)
+abbrev pub node_is_rule : Bytes → Bytes → Node → Bool
+node_is_rule R B Null = false
+node_is_rule R B False = true
+node_is_rule R B True = true
+node_is_rule R B (Integer n) = true
+node_is_rule R B (String s) = true
+node_is_rule R B (Array q) = true
+node_is_rule R B (Object q) = shape_is_rule B (object_on R B q)
 
-abbrev pub rowIsRule : Bytes → Bytes → ℕ → Bool
-rowIsRule R B row = nodeIsRule R B (nodeAt R row)
+abbrev pub row_is_rule : Bytes → Bytes → ℕ → Bool
+row_is_rule R B row = node_is_rule R B (node_at R row)
 
 -- So many rows from one on: none is at fault.
-abbrev pub rowsAreRules : Bytes → Bytes → ℕ → ℕ → Bool
-rowsAreRules R B row zero = true
-rowsAreRules R B row (suc n) = rowIsRule R B row && rowsAreRules R B (suc row) n
+abbrev pub rows_are_rules : Bytes → Bytes → ℕ → ℕ → Bool
+rows_are_rules R B row zero = true
+rows_are_rules R B row (suc n) = row_is_rule R B row && rows_are_rules R B (suc row) n
 
 -- ---- marks
 -- The table T with the mark of a row, if that is an operation.
-abbrev pub markShape : Bytes → ℕ → Shape → Bytes
-markShape T row NotRule = T
-markShape T row (Rule w) = withMark T row (viewMark w)
+abbrev pub mark_shape : Bytes → ℕ → Shape → Bytes
+mark_shape T row NotRule = T
+mark_shape T row (Rule w) = with_mark T row (view_mark w)
 
-abbrev pub markNode : Bytes → Bytes → Bytes → ℕ → Node → Bytes
-markNode R B T row Null = T
-markNode R B T row False = T
-markNode R B T row True = T
-markNode R B T row (Integer n) = T
-markNode R B T row (String s) = T
-markNode R B T row (Array q) = T
-markNode R B T row (Object q) = markShape T row (objectOn R B q)
+abbrev pub mark_node : Bytes → Bytes → Bytes → ℕ → Node → Bytes
+mark_node R B T row Null = T
+mark_node R B T row False = T
+mark_node R B T row True = T
+mark_node R B T row (Integer n) = T
+mark_node R B T row (String s) = T
+mark_node R B T row (Array q) = T
+mark_node R B T row (Object q) = mark_shape T row (object_on R B q)
 
-abbrev pub markRow : Bytes → Bytes → Bytes → ℕ → Bytes
-markRow R B T row = markNode R B T row (nodeAt R row)
+abbrev pub mark_row : Bytes → Bytes → Bytes → ℕ → Bytes
+mark_row R B T row = mark_node R B T row (node_at R row)
 
 -- And of so many rows, up to the first at fault.
-abbrev pub markRows : Bytes → Bytes → Bytes → ℕ → ℕ → Bytes
-markRows R B T row zero = T
-markRows R B T row (suc n) = cond (rowIsRule R B row) (markRows R B (markRow R B T row) (suc row) n) (markRow R B T row)
+abbrev pub mark_rows : Bytes → Bytes → Bytes → ℕ → ℕ → Bytes
+mark_rows R B T row zero = T
+mark_rows R B T row (suc n) = cond (row_is_rule R B row) (mark_rows R B (mark_row R B T row) (suc row) n) (mark_row R B T row)

@@ -1,10 +1,10 @@
 // The shape check over a read table: row by row, with a mark for each object that is an operation.
 ghost use Rattle.std.specs.Prelude.{◌≡◌};
-ghost use Rattle.shape.specs.Rows.{viewIsRule};
+ghost use Rattle.shape.specs.Rows.{view_is_rule};
 ghost use Rattle.shape.specs.Contract.{Checks};
 ghost use Rattle.shape.specs.Inner.{ObjectChecked, RowChecked};
 
-use bytes::path::is_path;
+use octets::path::is_path;
 use rule::mark::{mark_of, put_mark, rows_of};
 use rule::operation::operation;
 use rule::view::{Shape, View};
@@ -13,7 +13,7 @@ use table::string::bytes_of;
 
 // Whether the path of a `var` is one; any other view is a rule's.
 fn view_is_rule(rule_strings: &[u8], view: View) -> bool
-    ensures { result ≡ viewIsRule rule_strings.now view }
+    ensures { result ≡ view_is_rule rule_strings.now view }
 {
     match view {
         View::Literal(_) => true,

@@ -10,9 +10,9 @@ use Rattle.table.specs.contracts.node.Node.{the_type}
 use Rattle.table.specs.declared.node.Node.{Node}
 use Rattle.table.specs.declared.node.Node.TheVariants.{Null, False, True, Integer, String, Array, Object}
 use Rattle.table.specs.declared.node.Rows.{Rows}
-use Rattle.table.specs.Denotes.{Denotes, denotes-string, denotes-array, denotes-object}
+use Rattle.table.specs.Denotes.{Denotes, denotes_string, denotes_array, denotes_object}
 use Rattle.sheet.specs.declared.content.Content.TheVariants.{NotTypes}
-use Rattle.sheet.specs.ByRows.{ofObject, typeIn, contentIn}
+use Rattle.sheet.specs.ByRows.{of_object, type_in, content_in}
 
 abbrev pub NoString : Node → Type 0
 NoString n = OneOf (0 ∷ 1 ∷ 2 ∷ 3 ∷ 5 ∷ 6 ∷ []) (tag_of the_type n)
@@ -24,35 +24,35 @@ abbrev pub NoObject : Node → Type 0
 NoObject n = OneOf (0 ∷ 1 ∷ 2 ∷ 3 ∷ 4 ∷ 5 ∷ []) (tag_of the_type n)
 
 module _ {X : Type 0} {T B : Bytes} where
-  pub no-string : {n : Node} {s : Bytes} → NoString n → Denotes T B (scalar (string s)) n → X
-  no-string k (denotes-string l) = absurd (miss (0 ∷ 1 ∷ 2 ∷ 3 ∷ 5 ∷ 6 ∷ []) 4 tt k)
+  pub no_string : {n : Node} {s : Bytes} → NoString n → Denotes T B (scalar (string s)) n → X
+  no_string k (denotes_string l) = absurd (miss (0 ∷ 1 ∷ 2 ∷ 3 ∷ 5 ∷ 6 ∷ []) 4 tt k)
 
-  pub no-array : {n : Node} {vs : Values} → NoArray n → Denotes T B (array vs) n → X
-  no-array k (denotes-array c m r) = absurd (miss (0 ∷ 1 ∷ 2 ∷ 3 ∷ 4 ∷ 6 ∷ []) 5 tt k)
+  pub no_array : {n : Node} {vs : Values} → NoArray n → Denotes T B (array vs) n → X
+  no_array k (denotes_array c m r) = absurd (miss (0 ∷ 1 ∷ 2 ∷ 3 ∷ 4 ∷ 6 ∷ []) 5 tt k)
 
-  pub no-object : {n : Node} {ms : Members} → NoObject n → Denotes T B (object ms) n → X
-  no-object k (denotes-object c m r) = absurd (miss (0 ∷ 1 ∷ 2 ∷ 3 ∷ 4 ∷ 5 ∷ []) 6 tt k)
+  pub no_object : {n : Node} {ms : Members} → NoObject n → Denotes T B (object ms) n → X
+  no_object k (denotes_object c m r) = absurd (miss (0 ∷ 1 ∷ 2 ∷ 3 ∷ 4 ∷ 5 ∷ []) 6 tt k)
 
 -- ---- by rows
-pub names-no-type : (Z : Bytes) (n : Node) → NoString n → none ≡ typeIn Z n
-names-no-type Z Null k = refl
-names-no-type Z False k = refl
-names-no-type Z True k = refl
-names-no-type Z (Integer n) k = refl
-names-no-type Z (String s) k = absurd (miss (0 ∷ 1 ∷ 2 ∷ 3 ∷ 5 ∷ 6 ∷ []) 4 tt k)
-names-no-type Z (Array q) k = refl
-names-no-type Z (Object q) k = refl
+pub names_no_type : (Z : Bytes) (n : Node) → NoString n → none ≡ type_in Z n
+names_no_type Z Null k = refl
+names_no_type Z False k = refl
+names_no_type Z True k = refl
+names_no_type Z (Integer n) k = refl
+names_no_type Z (String s) k = absurd (miss (0 ∷ 1 ∷ 2 ∷ 3 ∷ 5 ∷ 6 ∷ []) 4 tt k)
+names_no_type Z (Array q) k = refl
+names_no_type Z (Object q) k = refl
 
-pub lists-no-types : (S Z : Bytes) (n : Node) → NoArray n → NotTypes ≡ contentIn S Z n
-lists-no-types S Z Null k = refl
-lists-no-types S Z False k = refl
-lists-no-types S Z True k = refl
-lists-no-types S Z (Integer n) k = refl
-lists-no-types S Z (String s) k = refl
-lists-no-types S Z (Array q) k = absurd (miss (0 ∷ 1 ∷ 2 ∷ 3 ∷ 4 ∷ 6 ∷ []) 5 tt k)
-lists-no-types S Z (Object q) k = refl
+pub lists_no_types : (S Z : Bytes) (n : Node) → NoArray n → NotTypes ≡ content_in S Z n
+lists_no_types S Z Null k = refl
+lists_no_types S Z False k = refl
+lists_no_types S Z True k = refl
+lists_no_types S Z (Integer n) k = refl
+lists_no_types S Z (String s) k = refl
+lists_no_types S Z (Array q) k = absurd (miss (0 ∷ 1 ∷ 2 ∷ 3 ∷ 4 ∷ 6 ∷ []) 5 tt k)
+lists_no_types S Z (Object q) k = refl
 
-pub of_other : {A : Type 0} (other : A) (f : Rows → A) (n : Node) → NoObject n → other ≡ ofObject other f n
+pub of_other : {A : Type 0} (other : A) (f : Rows → A) (n : Node) → NoObject n → other ≡ of_object other f n
 of_other other f Null k = refl
 of_other other f False k = refl
 of_other other f True k = refl

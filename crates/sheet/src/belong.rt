@@ -1,6 +1,6 @@
 // Whether a value belongs to one of some types.
 ghost use Rattle.std.specs.Prelude.{◌≡◌};
-ghost use Rattle.sheet.specs.ByRows.{kind_of, stringBelongs};
+ghost use Rattle.sheet.specs.ByRows.{kind_of, string_belongs};
 ghost use Rattle.sheet.specs.Contract.{Belongs};
 ghost use Rattle.sheet.specs.Inner.{AllOfKind, ArrayBelongs};
 
@@ -41,7 +41,7 @@ fn all_of_kind(kind: usize, record_table: &[u8], q: Rows) -> bool
 
 // A string. A day is a date.
 fn string_belongs(s: TypeSet, text: &[u8]) -> bool
-    ensures { result ≡ stringBelongs s text.now }
+    ensures { result ≡ string_belongs s text.now }
 {
     if s.string {
         return true;

@@ -1,20 +1,20 @@
 // Whether a read text is a sheet; 14 where it is not.
 ghost use Rattle.std.specs.Prelude.{◌≡◌};
 ghost use Rattle.model.specs.Option.{is_some};
-ghost use Rattle.model.specs.Sheet.{entryPath};
-ghost use Rattle.sheet.specs.ByRows.{isListed};
+ghost use Rattle.model.specs.Sheet.{entry_path};
+ghost use Rattle.sheet.specs.ByRows.{is_listed};
 ghost use Rattle.sheet.specs.Contract.{ChecksSheet};
 ghost use Rattle.sheet.specs.Inner.{ChecksEntry, ChecksEntries, ChecksObject};
 
 use crate::content::{Content, types_in};
-use bytes::path::is_path;
+use octets::path::is_path;
 use model::MAX_SHEET_MEMBERS;
 use table::node::{Node, Rows, name_at, node_at, tail};
 use table::string::bytes_of;
 
-// "Each name is a non-empty `var` path"
+// "Each name is a non_empty_lem `var` path"
 fn is_listed_path(text: &[u8]) -> bool
-    ensures { result ≡ is_some (entryPath text.now) }
+    ensures { result ≡ is_some (entry_path text.now) }
 {
     if text.len() == 0 {
         return false;
@@ -24,7 +24,7 @@ fn is_listed_path(text: &[u8]) -> bool
 
 // Whether a content lists types.
 fn lists_types(c: Content) -> bool
-    ensures { result ≡ isListed c }
+    ensures { result ≡ is_listed c }
 {
     match c {
         Content::NotTypes => false,

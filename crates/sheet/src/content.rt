@@ -1,8 +1,8 @@
 // The types that the content of a sheet's member lists.
 ghost use Rattle.std.specs.Prelude.{[], ◌≡◌};
 ghost use Rattle.text_types.specs.Contract.{type_of};
-ghost use Rattle.type_set.specs.Contract.{setOf};
-ghost use Rattle.sheet.specs.ByRows.{withType};
+ghost use Rattle.type_set.specs.Contract.{set_of};
+ghost use Rattle.sheet.specs.ByRows.{with_type};
 ghost use Rattle.sheet.specs.Contract.{Contains};
 ghost use Rattle.sheet.specs.Inner.{NamesType, Collects, ListsWords};
 
@@ -30,7 +30,7 @@ fn type_at(sheet_strings: &[u8], n: Node) -> TypeAnswer
 
 // "distinct words": a type more, unless it is there.
 fn with(s: TypeSet, a: TypeAnswer) -> Content
-    ensures { result ≡ withType s (type_of a) }
+    ensures { result ≡ with_type s (type_of a) }
 {
     match a {
         TypeAnswer::Unknown => Content::NotTypes,
@@ -45,7 +45,7 @@ fn with(s: TypeSet, a: TypeAnswer) -> Content
 
 // The types of all items, each named once.
 fn collect(sheet_table: &[u8], sheet_strings: &[u8], q: Rows) -> Content
-    ensures { Collects sheet_table.now sheet_strings.now (setOf []) q result }
+    ensures { Collects sheet_table.now sheet_strings.now (set_of []) q result }
 {
     let mut set = none();
     let mut rest = q;
@@ -60,7 +60,7 @@ fn collect(sheet_table: &[u8], sheet_strings: &[u8], q: Rows) -> Content
     Content::Types(set)
 }
 
-// "a non-empty array of distinct words"
+// "a non_empty_lem array of distinct words"
 fn words(sheet_table: &[u8], sheet_strings: &[u8], q: Rows) -> Content
     ensures { ListsWords sheet_table.now sheet_strings.now q result }
 {

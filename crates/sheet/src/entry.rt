@@ -1,6 +1,6 @@
 // An entry of a sheet: the types that a member's content lists.
 ghost use Rattle.std.specs.Prelude.{◌≡◌};
-ghost use Rattle.sheet.specs.ByRows.{typesListed};
+ghost use Rattle.sheet.specs.ByRows.{types_listed};
 ghost use Rattle.sheet.specs.Inner.{ListsTypes};
 
 use crate::content::{Content, types_in};
@@ -9,7 +9,7 @@ use type_set::set::{TypeSet, none};
 
 // The types of a content; none where it lists none.
 fn types_of(c: Content) -> TypeSet
-    ensures { result ≡ typesListed c }
+    ensures { result ≡ types_listed c }
 {
     match c {
         Content::NotTypes => none(),

@@ -2,7 +2,7 @@
 -- string are Grammar's, where `unescaped` is the table of UTF-8 byte by byte (Laws.Utf8 has that it is %x20-21 / %x23-5B / %x5D-10FFFF). Laws.Abnf has that these rules and Grammar's derive the same texts.
 use Rattle.std.specs.Prelude.{Bool, [], ◌∷◌, ℕ}
 use Rattle.model.specs.Bytes.{Bytes}
-use Rattle.syntax.specs.Grammar.{Ws, Int, Frac, Exp, Chars, spellWs, spellInt, spellFrac, spellExp, spellMinus, spellChars}
+use Rattle.syntax.specs.Grammar.{Ws, Int, Frac, Exp, Chars, spell_ws, spell_int, spell_frac, spell_exp, spell_minus, spell_chars}
 
 -- ---- derivations
 -- A structural character of byte b: ws b ws.
@@ -44,13 +44,13 @@ mutual
 
   -- object = begin-object [ member *( value-separator member ) ] end-object
   pub data RObject : Type 0 where
-    no-rmembers : BeginObject → EndObject → RObject
-    some-rmembers : BeginObject → RMembers → EndObject → RObject
+    no_rmembers : BeginObject → EndObject → RObject
+    some_rmembers : BeginObject → RMembers → EndObject → RObject
 
   --   member *( value-separator member )
   pub data RMembers : Type 0 where
-    one-rmember : RMember → RMembers
-    more-rmembers : RMember → ValueSeparator → RMembers → RMembers
+    one_rmember : RMember → RMembers
+    more_rmembers : RMember → ValueSeparator → RMembers → RMembers
 
   -- member = string name-separator value
   pub data RMember : Type 0 where
@@ -58,50 +58,50 @@ mutual
 
   -- array = begin-array [ value *( value-separator value ) ] end-array
   pub data RArray : Type 0 where
-    no-rvalues : BeginArray → EndArray → RArray
-    some-rvalues : BeginArray → RValues → EndArray → RArray
+    no_rvalues : BeginArray → EndArray → RArray
+    some_rvalues : BeginArray → RValues → EndArray → RArray
 
   --   value *( value-separator value )
   pub data RValues : Type 0 where
-    one-rvalue : RValue → RValues
-    more-rvalues : RValue → ValueSeparator → RValues → RValues
+    one_rvalue : RValue → RValues
+    more_rvalues : RValue → ValueSeparator → RValues → RValues
 
 -- JSON-text = ws value ws
 pub data RText : Type 0 where
   rtext : Ws → RValue → Ws → RText
 
 -- ---- the bytes of a derivation, in front of y
-unfoldable pub spellStructural : {b : ℕ} → Structural b → Bytes → Bytes
-spellStructural {b} (structural u w) y = spellWs u (b ∷ spellWs w y)
+unfoldable pub spell_structural : {b : ℕ} → Structural b → Bytes → Bytes
+spell_structural {b} (structural u w) y = spell_ws u (b ∷ spell_ws w y)
 
 unfoldable mutual
-  pub spellRValue : RValue → Bytes → Bytes
-  spellRValue rfalse y = 0x66 ∷ 0x61 ∷ 0x6C ∷ 0x73 ∷ 0x65 ∷ y
-  spellRValue rnull y = 0x6E ∷ 0x75 ∷ 0x6C ∷ 0x6C ∷ y
-  spellRValue rtrue y = 0x74 ∷ 0x72 ∷ 0x75 ∷ 0x65 ∷ y
-  spellRValue (robject o) y = spellRObject o y
-  spellRValue (rarray a) y = spellRArray a y
-  spellRValue (rnumber negative i fr ex) y = spellMinus negative (spellInt i (spellFrac fr (spellExp ex y)))
-  spellRValue (rstring cs) y = 0x22 ∷ spellChars cs (0x22 ∷ y)
+  pub spell_rvalue : RValue → Bytes → Bytes
+  spell_rvalue rfalse y = 0x66 ∷ 0x61 ∷ 0x6C ∷ 0x73 ∷ 0x65 ∷ y
+  spell_rvalue rnull y = 0x6E ∷ 0x75 ∷ 0x6C ∷ 0x6C ∷ y
+  spell_rvalue rtrue y = 0x74 ∷ 0x72 ∷ 0x75 ∷ 0x65 ∷ y
+  spell_rvalue (robject o) y = spell_robject o y
+  spell_rvalue (rarray a) y = spell_rarray a y
+  spell_rvalue (rnumber negative i fr ex) y = spell_minus negative (spell_int i (spell_frac fr (spell_exp ex y)))
+  spell_rvalue (rstring cs) y = 0x22 ∷ spell_chars cs (0x22 ∷ y)
 
-  pub spellRObject : RObject → Bytes → Bytes
-  spellRObject (no-rmembers b e) y = spellStructural b (spellStructural e y)
-  spellRObject (some-rmembers b ms e) y = spellStructural b (spellRMembers ms (spellStructural e y))
+  pub spell_robject : RObject → Bytes → Bytes
+  spell_robject (no_rmembers b e) y = spell_structural b (spell_structural e y)
+  spell_robject (some_rmembers b ms e) y = spell_structural b (spell_rmembers ms (spell_structural e y))
 
-  pub spellRMembers : RMembers → Bytes → Bytes
-  spellRMembers (one-rmember m) y = spellRMember m y
-  spellRMembers (more-rmembers m s ms) y = spellRMember m (spellStructural s (spellRMembers ms y))
+  pub spell_rmembers : RMembers → Bytes → Bytes
+  spell_rmembers (one_rmember m) y = spell_rmember m y
+  spell_rmembers (more_rmembers m s ms) y = spell_rmember m (spell_structural s (spell_rmembers ms y))
 
-  pub spellRMember : RMember → Bytes → Bytes
-  spellRMember (rmember n c v) y = 0x22 ∷ spellChars n (0x22 ∷ spellStructural c (spellRValue v y))
+  pub spell_rmember : RMember → Bytes → Bytes
+  spell_rmember (rmember n c v) y = 0x22 ∷ spell_chars n (0x22 ∷ spell_structural c (spell_rvalue v y))
 
-  pub spellRArray : RArray → Bytes → Bytes
-  spellRArray (no-rvalues b e) y = spellStructural b (spellStructural e y)
-  spellRArray (some-rvalues b vs e) y = spellStructural b (spellRValues vs (spellStructural e y))
+  pub spell_rarray : RArray → Bytes → Bytes
+  spell_rarray (no_rvalues b e) y = spell_structural b (spell_structural e y)
+  spell_rarray (some_rvalues b vs e) y = spell_structural b (spell_rvalues vs (spell_structural e y))
 
-  pub spellRValues : RValues → Bytes → Bytes
-  spellRValues (one-rvalue v) y = spellRValue v y
-  spellRValues (more-rvalues v s vs) y = spellRValue v (spellStructural s (spellRValues vs y))
+  pub spell_rvalues : RValues → Bytes → Bytes
+  spell_rvalues (one_rvalue v) y = spell_rvalue v y
+  spell_rvalues (more_rvalues v s vs) y = spell_rvalue v (spell_structural s (spell_rvalues vs y))
 
-unfoldable pub spellRText : RText → Bytes
-spellRText (rtext w v u) = spellWs w (spellRValue v (spellWs u []))
+unfoldable pub spell_rtext : RText → Bytes
+spell_rtext (rtext w v u) = spell_ws w (spell_rvalue v (spell_ws u []))

@@ -17,24 +17,24 @@ use Rattle.syntax.specs.Laws.WellFormed as WellFormedLaws
 
 -- ---- what is written reads back
 -- Every text that evaluation gives, from a rule text and a record text that read, under any limit and into any output, reads back (ReadsBack.antt).
-pub answer-reads-back :
-    (rule-text record-text : Bytes) (rule record' : Value) (r : Rule) (limit room : ℕ) (t : Bytes)
-    → read rule-text ≡ done rule
+pub answer_reads_back :
+    (rule_text_lem record_text_lem : Bytes) (rule record' : Value) (r : Rule) (limit room : ℕ) (t : Bytes)
+    → read rule_text_lem ≡ done rule
     → shape rule ≡ some r
-    → read record-text ≡ done record'
+    → read record_text_lem ≡ done record'
     → (answer_of r record' limit room).result ≡ Judged.done t
     → ReadsBack r record' limit t
-answer-reads-back rule-text record-text rule record' r limit room t reads-rule is-rule reads-record =
-    AnsweredLaws.answer-reads rule record' r limit room t (WellFormedLaws.read-well-formed rule-text rule reads-rule) (WellFormedLaws.read-well-formed record-text record' reads-record) is-rule
+answer_reads_back rule_text_lem record_text_lem rule record' r limit room t reads-rule is-rule reads-record =
+    AnsweredLaws.answer_reads rule record' r limit room t (WellFormedLaws.read_well_formed rule_text_lem rule reads-rule) (WellFormedLaws.read_well_formed record_text_lem record' reads-record) is-rule
 
 -- ---- answers
 -- What evaluation gives is well formed: strings and names in UTF-8, names distinct, integers within the limits, instants in range.
-pub answer-well-formed :
-    (rule-text record-text : Bytes) (rule record' : Value) (r : Rule) (limit : ℕ) (v : Value)
-    → read rule-text ≡ done rule
+pub answer_well_formed :
+    (rule_text_lem record_text_lem : Bytes) (rule record' : Value) (r : Rule) (limit : ℕ) (v : Value)
+    → read rule_text_lem ≡ done rule
     → shape rule ≡ some r
-    → read record-text ≡ done record'
+    → read record_text_lem ≡ done record'
     → outcome (run r record' limit) ≡ value v
     → WellFormedAnswer v
-answer-well-formed rule-text record-text rule record' r limit v reads-rule is-rule reads-record ends =
-    AnswersLaws.answer-well-formed rule record' r limit v (WellFormedLaws.read-well-formed rule-text rule reads-rule) (WellFormedLaws.read-well-formed record-text record' reads-record) is-rule ends
+answer_well_formed rule_text_lem record_text_lem rule record' r limit v reads-rule is-rule reads-record ends =
+    AnswersLaws.answer_well_formed rule record' r limit v (WellFormedLaws.read_well_formed rule_text_lem rule reads-rule) (WellFormedLaws.read_well_formed record_text_lem record' reads-record) is-rule ends

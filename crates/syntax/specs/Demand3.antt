@@ -6,20 +6,20 @@ use Rattle.std.proofs.Math.Option.{some}
 use Rattle.model.specs.Bytes.{Bytes}
 use Rattle.model.specs.Eval.{run, outcome}
 use Rattle.model.specs.Judgement.{answer_of}
-use Rattle.model.specs.Limits.{maxTextBytes, maxValues, maxNesting, maxSteps}
+use Rattle.model.specs.Limits.{max_text_bytes, max_values, max_nesting, max_steps}
 use Rattle.model.specs.Main as Model
 use Rattle.model.specs.Main.{EndsWell}
-use Rattle.model.specs.Place.{subrule, replace, replaceValue}
-use Rattle.model.specs.Refusal.{ReadFault, tooLarge}
+use Rattle.model.specs.Place.{subrule, replace, replace_value}
+use Rattle.model.specs.Refusal.{ReadFault, too_large}
 use Rattle.model.specs.Rule.{Rule}
 use Rattle.model.specs.Run.{Place, steps, NeverBegins}
 use Rattle.model.specs.Shape.{shape}
-use Rattle.model.specs.Sheet.{Sheet, sheetOf, fits}
-use Rattle.model.specs.Size.{valueCount, nesting}
+use Rattle.model.specs.Sheet.{Sheet, sheet_of, fits}
+use Rattle.model.specs.Size.{value_count, nesting}
 use Rattle.model.specs.TypeCheck.{check}
 use Rattle.model.specs.Types.{Types}
 use Rattle.model.specs.Value.{Value}
-use Rattle.syntax.specs.Locate.{Positions, StandsAt, positionsOf}
+use Rattle.syntax.specs.Locate.{Positions, StandsAt, positions_of}
 use Rattle.syntax.specs.Read.{done, refuse, read}
 use Rattle.syntax.specs.WellFormed.{WellFormedValue}
 use Rattle.syntax.specs.Laws.OnePlace as OnePlaceLaws
@@ -27,135 +27,135 @@ use Rattle.syntax.specs.Laws.Substitution as SubstitutionLaws
 use Rattle.syntax.specs.Laws.WellFormed as WellFormedLaws
 
 -- ---- what reads
-pub read-well-formed : (s : Bytes) (v : Value) → read s ≡ done v → WellFormedValue v
-read-well-formed = WellFormedLaws.read-well-formed
+pub read_well_formed : (s : Bytes) (v : Value) → read s ≡ done v → WellFormedValue v
+read_well_formed = WellFormedLaws.read_well_formed
 
 -- ---- demand 3a
 -- A rule text that the kind check accepts with a sheet text, on a record text that fits it, under any limit up to the largest, ends well:
 -- in a value of a type that the check named, or in refusal 9 or 10.
-pub demand-3a-bytes :
-    (rule-text sheet-text record-text : Bytes) (rule sheet record' : Value) (r : Rule) (s : Sheet) (ts : Types) (limit : ℕ)
-    → read rule-text ≡ done rule
+pub demand_3a_bytes :
+    (rule_text_lem sheet-text record_text_lem : Bytes) (rule sheet record' : Value) (r : Rule) (s : Sheet) (ts : Types) (limit : ℕ)
+    → read rule_text_lem ≡ done rule
     → shape rule ≡ some r
     → read sheet-text ≡ done sheet
-    → sheetOf sheet ≡ some s
+    → sheet_of sheet ≡ some s
     → check r s ≡ some ts
-    → read record-text ≡ done record'
+    → read record_text_lem ≡ done record'
     → T (fits s record')
-    → limit ≤ maxSteps
+    → limit ≤ max_steps
     → EndsWell ts (outcome (run r record' limit))
-demand-3a-bytes rule-text sheet-text record-text rule sheet record' r s ts limit reads is-rule reads₂ is-sheet accepted reads₃ fit within =
-    Model.demand-3a rule sheet record' r s ts limit is-rule is-sheet accepted (WellFormedLaws.read-well-formed record-text record' reads₃).no-instants fit within
+demand_3a_bytes rule_text_lem sheet-text record_text_lem rule sheet record' r s ts limit reads is-rule reads₂ is_sheet_lem accepted reads₃ fit within =
+    Model.demand_3a rule sheet record' r s ts limit is-rule is_sheet_lem accepted (WellFormedLaws.read_well_formed record_text_lem record' reads₃).no_instants fit within
 
 -- ---- demand 3b
 -- For any rule text of right shape, record text and limit: the bytes `old` of an operand rule that the run never begins give way to any text
 -- `new` that reads and is a rule. If the whole reads and has right shape, both runs end alike, in value or refusal and in steps.
-pub demand-3b-bytes :
-    (text text' record-text before old after new : Bytes) (rule rule' record' new-rule : Value) (r r' s t : Rule) (place : Place) (limit : ℕ)
+pub demand_3b_bytes :
+    (text text' record_text_lem before old after new : Bytes) (rule rule' record' new_rule : Value) (r r' s t : Rule) (place : Place) (limit : ℕ)
     → read text ≡ done rule
     → shape rule ≡ some r
-    → read record-text ≡ done record'
+    → read record_text_lem ≡ done record'
     → subrule place r ≡ some t
     → NeverBegins place (run r record' limit)
-    → StandsAt text (positionsOf place rule) before old after
-    → read new ≡ done new-rule
-    → shape new-rule ≡ some s
+    → StandsAt text (positions_of place rule) before old after
+    → read new ≡ done new_rule
+    → shape new_rule ≡ some s
     → text' ≡ before ++ (new ++ after)
     → read text' ≡ done rule'
     → shape rule' ≡ some r'
     → (outcome (run r' record' limit) ≡ outcome (run r record' limit)) × (steps (run r' record' limit) ≡ steps (run r record' limit))
-demand-3b-bytes text text' record-text before old after new rule rule' record' new-rule r r' s t place limit reads is-rule reads-record there unbegun stands reads-new is-new is reads' is-rule' =
-    let same = SubstitutionLaws.replaced-operand place rule r t stands reads is-rule there new new-rule rule' reads-new (sym (ap read is) ∙ reads') in
-    Model.demand-3b rule new-rule record' r s t r' place limit is-rule is-new there unbegun (sym (ap shape same) ∙ is-rule')
+demand_3b_bytes text text' record_text_lem before old after new rule rule' record' new_rule r r' s t place limit reads is-rule reads-record there unbegun stands reads-new is-new is reads' is-rule' =
+    let same = SubstitutionLaws.replaced_operand place rule r t stands reads is-rule there new new_rule rule' reads-new (sym (ap read is) ∙ reads') in
+    Model.demand_3b rule new_rule record' r s t r' place limit is-rule is-new there unbegun (sym (ap shape same) ∙ is-rule')
 
 -- So the whole answer is the same: text or refusal and steps, after the tests of 11 and 12 too.
-pub demand-3b-bytes-answer :
-    (text text' record-text before old after new : Bytes) (rule rule' record' new-rule : Value) (r r' s t : Rule) (place : Place) (limit room : ℕ)
+pub demand_3b_bytes_answer :
+    (text text' record_text_lem before old after new : Bytes) (rule rule' record' new_rule : Value) (r r' s t : Rule) (place : Place) (limit room : ℕ)
     → read text ≡ done rule
     → shape rule ≡ some r
-    → read record-text ≡ done record'
+    → read record_text_lem ≡ done record'
     → subrule place r ≡ some t
     → NeverBegins place (run r record' limit)
-    → StandsAt text (positionsOf place rule) before old after
-    → read new ≡ done new-rule
-    → shape new-rule ≡ some s
+    → StandsAt text (positions_of place rule) before old after
+    → read new ≡ done new_rule
+    → shape new_rule ≡ some s
     → text' ≡ before ++ (new ++ after)
     → read text' ≡ done rule'
     → shape rule' ≡ some r'
     → answer_of r' record' limit room ≡ answer_of r record' limit room
-demand-3b-bytes-answer text text' record-text before old after new rule rule' record' new-rule r r' s t place limit room reads is-rule reads-record there unbegun stands reads-new is-new is reads' is-rule' =
-    let same = SubstitutionLaws.replaced-operand place rule r t stands reads is-rule there new new-rule rule' reads-new (sym (ap read is) ∙ reads') in
-    Model.demand-3b-answer rule new-rule record' r s t r' place limit room is-rule is-new there unbegun (sym (ap shape same) ∙ is-rule')
+demand_3b_bytes_answer text text' record_text_lem before old after new rule rule' record' new_rule r r' s t place limit room reads is-rule reads-record there unbegun stands reads-new is-new is reads' is-rule' =
+    let same = SubstitutionLaws.replaced_operand place rule r t stands reads is-rule there new new_rule rule' reads-new (sym (ap read is) ∙ reads') in
+    Model.demand_3b_answer rule new_rule record' r s t r' place limit room is-rule is-new there unbegun (sym (ap shape same) ∙ is-rule')
 
 -- ---- where an operand stands
 -- Every operand rule of a rule text stands in the text; StandsAt says with which bytes.
-pub operand-stands :
+pub operand_stands :
     (text : Bytes) (rule : Value) (r t : Rule) (place : Place)
     → read text ≡ done rule
     → shape rule ≡ some r
     → subrule place r ≡ some t
-    → (before : Bytes) × (old : Bytes) × (after : Bytes) × StandsAt text (positionsOf place rule) before old after
-operand-stands text rule r t place = SubstitutionLaws.operand-stands text place rule r t
+    → (before : Bytes) × (old : Bytes) × (after : Bytes) × StandsAt text (positions_of place rule) before old after
+operand_stands text rule r t place = SubstitutionLaws.operand_stands text place rule r t
 
 -- By themselves its bytes read, and are that rule.
-pub operand-reads :
+pub operand_reads :
     (text before old after : Bytes) (rule : Value) (r t : Rule) (place : Place)
     → read text ≡ done rule
     → shape rule ≡ some r
     → subrule place r ≡ some t
-    → StandsAt text (positionsOf place rule) before old after
+    → StandsAt text (positions_of place rule) before old after
     → (v : Value) × (read old ≡ done v) × (shape v ≡ some t)
-operand-reads text before old after rule r t place reads is-rule there stands = SubstitutionLaws.operand-reads place rule r t stands reads is-rule there
+operand_reads text before old after rule r t place reads is-rule there stands = SubstitutionLaws.operand_reads place rule r t stands reads is-rule there
 
 -- In a text that reads, a value stands at one place.
-pub stands-once :
+pub stands_once :
     (text before old after before' old' after' : Bytes) (v : Value) (q : Positions)
     → read text ≡ done v
     → StandsAt text q before old after
     → StandsAt text q before' old' after'
     → (before ≡ before') × (old ≡ old') × (after ≡ after')
-stands-once text before old after before' old' after' v q reads stands stands' = OnePlaceLaws.stands-once stands stands' v reads
+stands_once text before old after before' old' after' v q reads stands stands' = OnePlaceLaws.stands_once stands stands' v reads
 
 -- ---- the whole
 -- If the whole reads, it is the rule's value with that one value replaced, and has right shape,
-pub replaced-is-rule :
-    (text text' before old after new : Bytes) (rule rule' new-rule : Value) (r s t : Rule) (place : Place)
+pub replaced_is_rule :
+    (text text' before old after new : Bytes) (rule rule' new_rule : Value) (r s t : Rule) (place : Place)
     → read text ≡ done rule
     → shape rule ≡ some r
     → subrule place r ≡ some t
-    → StandsAt text (positionsOf place rule) before old after
-    → read new ≡ done new-rule
-    → shape new-rule ≡ some s
+    → StandsAt text (positions_of place rule) before old after
+    → read new ≡ done new_rule
+    → shape new_rule ≡ some s
     → text' ≡ before ++ (new ++ after)
     → read text' ≡ done rule'
-    → (rule' ≡ replaceValue place new-rule rule) × (shape rule' ≡ some (replace place s r))
-replaced-is-rule text text' before old after new rule rule' new-rule r s t place reads is-rule there stands reads-new is-new is reads' =
-    let same = SubstitutionLaws.replaced-operand place rule r t stands reads is-rule there new new-rule rule' reads-new (sym (ap read is) ∙ reads') in
-    (same, ap shape same ∙ Model.replaced-is-rule rule new-rule r s t place is-rule is-new there)
+    → (rule' ≡ replace_value place new_rule rule) × (shape rule' ≡ some (replace place s r))
+replaced_is_rule text text' before old after new rule rule' new_rule r s t place reads is-rule there stands reads-new is-new is reads' =
+    let same = SubstitutionLaws.replaced_operand place rule r t stands reads is-rule there new new_rule rule' reads-new (sym (ap read is) ∙ reads') in
+    (same, ap shape same ∙ Model.replaced_is_rule rule new_rule r s t place is-rule is-new there)
 
 -- and it reads if it is within the limits.
-pub replaced-reads :
-    (text text' before old after new : Bytes) (rule new-rule : Value) (r t : Rule) (place : Place)
+pub replaced_reads :
+    (text text' before old after new : Bytes) (rule new_rule : Value) (r t : Rule) (place : Place)
     → read text ≡ done rule
     → shape rule ≡ some r
     → subrule place r ≡ some t
-    → StandsAt text (positionsOf place rule) before old after
-    → read new ≡ done new-rule
+    → StandsAt text (positions_of place rule) before old after
+    → read new ≡ done new_rule
     → text' ≡ before ++ (new ++ after)
-    → length text' ≤ maxTextBytes
-    → valueCount (replaceValue place new-rule rule) ≤ maxValues
-    → nesting (replaceValue place new-rule rule) ≤ maxNesting
-    → read text' ≡ done (replaceValue place new-rule rule)
-replaced-reads text text' before old after new rule new-rule r t place reads is-rule there stands reads-new is short few flat =
-    ap read is ∙ SubstitutionLaws.replaced-operand-reads place rule r t stands reads is-rule there new new-rule reads-new (subst (λ x. length x ≤ maxTextBytes) is short) few flat
+    → length text' ≤ max_text_bytes
+    → value_count (replace_value place new_rule rule) ≤ max_values
+    → nesting (replace_value place new_rule rule) ≤ max_nesting
+    → read text' ≡ done (replace_value place new_rule rule)
+replaced_reads text text' before old after new rule new_rule r t place reads is-rule there stands reads-new is short few flat =
+    ap read is ∙ SubstitutionLaws.replaced_operand_reads place rule r t stands reads is-rule there new new_rule reads-new (subst (λ x. length x ≤ max_text_bytes) is short) few flat
 
 -- Else it is refused with 5, and with nothing else.
-pub replaced-refused :
-    (text text' before old after new : Bytes) (rule new-rule : Value) (place : Place) (k : ReadFault) (p : ℕ)
+pub replaced_refused :
+    (text text' before old after new : Bytes) (rule new_rule : Value) (place : Place) (k : ReadFault) (p : ℕ)
     → read text ≡ done rule
-    → StandsAt text (positionsOf place rule) before old after
-    → read new ≡ done new-rule
+    → StandsAt text (positions_of place rule) before old after
+    → read new ≡ done new_rule
     → text' ≡ before ++ (new ++ after)
     → read text' ≡ refuse k p
-    → k ≡ tooLarge
-replaced-refused text text' before old after new rule new-rule place k p reads stands reads-new is refused = SubstitutionLaws.replaced-refused stands new rule new-rule reads reads-new k p (sym (ap read is) ∙ refused)
+    → k ≡ too_large
+replaced_refused text text' before old after new rule new_rule place k p reads stands reads-new is refused = SubstitutionLaws.replaced_refused stands new rule new_rule reads reads-new k p (sym (ap read is) ∙ refused)

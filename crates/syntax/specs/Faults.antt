@@ -4,12 +4,12 @@ use Rattle.std.specs.Prelude.{◌≡◌, true, false, ℕ, suc, ◌+◌, ◌*◌
 use mathlib.Core.List.{List, [], ◌∷◌, ◌++◌, Memᴰ}
 use Rattle.std.proofs.Math.Option.{Option, none, some}
 use Rattle.model.specs.Bytes.{Bytes}
-use Rattle.model.specs.Limits.{maxTextBytes, maxValues, maxNesting, maxInteger}
-use Rattle.model.specs.Refusal.{ReadFault, notJson, repeatedName, loneSurrogate, badNumber, tooLarge}
+use Rattle.model.specs.Limits.{max_text_bytes, max_values, max_nesting, max_integer}
+use Rattle.model.specs.Refusal.{ReadFault, not_json, repeated_name, lone_surrogate, bad_number, too_large}
 use Rattle.syntax.specs.declared.Unit.TheVariants.{Plain, High, Low}
-use Rattle.syntax.specs.Grammar.{Digits, no-digits, digit, Int, zero-int, int, Frac, no-frac, frac, Exp, no-exp, exp, Hexes, Chars, no-chars, unescaped, escaped, code-unit, JValue, jtrue, jfalse, jnull, jnumber, jstring, jempty-array, jarray, jempty-object, jobject, JElements, last-element, element, JMembers, last-member, jmember, JText, jtext, spellWs, spellInt, spellFrac, spellMinus, spellHexes, spellChars, spellValue, spell, hexNumber, charsMeaning, seenWith, meaning}
+use Rattle.syntax.specs.Grammar.{Digits, no_digits, digit, Int, zero_int, int, Frac, no_frac, frac, Exp, no_exp, exp, Hexes, Chars, no_chars, unescaped, escaped, code_unit_lem, JValue, jtrue, jfalse, jnull, jnumber, jstring, jempty_array, jarray, jempty_object, jobject, JElements, last_element, element, JMembers, last_member, jmember, JText, jtext, spell_ws, spell_int, spell_frac, spell_minus, spell_hexes, spell_chars, spell_value, spell, hex_number, chars_meaning, seen_with, meaning}
 use Rattle.syntax.specs.Read.{among, Read, done, refuse}
-use Rattle.syntax.specs.Tokens.{digitValue}
+use Rattle.syntax.specs.Tokens.{digit_value}
 use Rattle.syntax.specs.Utf8.{unit_of}
 
 pub data Fault : Type 0 where
@@ -17,121 +17,121 @@ pub data Fault : Type 0 where
 
 -- ---- 4: "the dot, the e or E, or the digit that first passes the limit"
 -- Digits after those that make n.
-unfoldable pub faultsDigits : ℕ → Digits → ℕ → List Fault
-faultsDigits n no-digits at = []
-faultsDigits n (digit b h ds) at =
-    elim (leb (n * 10 + digitValue b) maxInteger) [
-      | true ↦ faultsDigits (n * 10 + digitValue b) ds (suc at)
-      | false ↦ fault badNumber at ∷ []
+unfoldable pub faults_digits : ℕ → Digits → ℕ → List Fault
+faults_digits n no_digits at = []
+faults_digits n (digit b h ds) at =
+    elim (leb (n * 10 + digit_value b) max_integer) [
+      | true ↦ faults_digits (n * 10 + digit_value b) ds (suc at)
+      | false ↦ fault bad_number at ∷ []
     ]
 
-unfoldable pub faultsInt : Int → ℕ → List Fault
-faultsInt zero-int at = []
-faultsInt (int b h ds) at = faultsDigits (digitValue b) ds (suc at)
+unfoldable pub faults_int : Int → ℕ → List Fault
+faults_int zero_int at = []
+faults_int (int b h ds) at = faults_digits (digit_value b) ds (suc at)
 
-unfoldable pub faultsFrac : Frac → ℕ → List Fault
-faultsFrac no-frac at = []
-faultsFrac (frac b h ds) at = fault badNumber at ∷ []
+unfoldable pub faults_frac : Frac → ℕ → List Fault
+faults_frac no_frac at = []
+faults_frac (frac b h ds) at = fault bad_number at ∷ []
 
-unfoldable pub faultsExp : Exp → ℕ → List Fault
-faultsExp no-exp at = []
-faultsExp (exp e h s b k ds) at = fault badNumber at ∷ []
+unfoldable pub faults_exp : Exp → ℕ → List Fault
+faults_exp no_exp at = []
+faults_exp (exp e h s b k ds) at = fault bad_number at ∷ []
 
-unfoldable pub faultsNumber : Int → Frac → Exp → ℕ → List Fault
-faultsNumber i fr ex at = faultsInt i at ++ (faultsFrac fr (at + length (spellInt i [])) ++ faultsExp ex (at + length (spellInt i (spellFrac fr []))))
+unfoldable pub faults_number : Int → Frac → Exp → ℕ → List Fault
+faults_number i fr ex at = faults_int i at ++ (faults_frac fr (at + length (spell_int i [])) ++ faults_exp ex (at + length (spell_int i (spell_frac fr []))))
 
 -- ---- 3: "the backslash of a complete surrogate escape that has no partner (a high one followed at once by a complete low one is a pair)"
 -- `before` is the place of the backslash of a high one that stands just before, if one does. It is alone if anything but a low one follows;
-unfoldable pub aloneHigh : Option ℕ → List Fault
-aloneHigh none = []
-aloneHigh (some p) = fault loneSurrogate p ∷ []
+unfoldable pub alone_high : Option ℕ → List Fault
+alone_high none = []
+alone_high (some p) = fault lone_surrogate p ∷ []
 
 -- a low one is alone if none stands before it.
-unfoldable pub aloneLow : Option ℕ → ℕ → List Fault
-aloneLow none at = fault loneSurrogate at ∷ []
-aloneLow (some p) at = []
+unfoldable pub alone_low : Option ℕ → ℕ → List Fault
+alone_low none at = fault lone_surrogate at ∷ []
+alone_low (some p) at = []
 
-unfoldable pub faultsChars : Chars → Option ℕ → ℕ → List Fault
-faultsChars no-chars before at = aloneHigh before
-faultsChars (unescaped b n lo hi h ts cs) before at = aloneHigh before ++ faultsChars cs none (at + suc n)
-faultsChars (escaped b d h cs) before at = aloneHigh before ++ faultsChars cs none (at + 2)
-faultsChars (code-unit hs cs) before at =
-    elim (unit_of (hexNumber 0 hs)) [
-      | Plain ↦ aloneHigh before ++ faultsChars cs none (at + 6)
-      | High ↦ aloneHigh before ++ faultsChars cs (some at) (at + 6)
-      | Low ↦ aloneLow before at ++ faultsChars cs none (at + 6)
+unfoldable pub faults_chars : Chars → Option ℕ → ℕ → List Fault
+faults_chars no_chars before at = alone_high before
+faults_chars (unescaped b n lo hi h ts cs) before at = alone_high before ++ faults_chars cs none (at + suc n)
+faults_chars (escaped b d h cs) before at = alone_high before ++ faults_chars cs none (at + 2)
+faults_chars (code_unit_lem hs cs) before at =
+    elim (unit_of (hex_number 0 hs)) [
+      | Plain ↦ alone_high before ++ faults_chars cs none (at + 6)
+      | High ↦ alone_high before ++ faults_chars cs (some at) (at + 6)
+      | Low ↦ alone_low before at ++ faults_chars cs none (at + 6)
     ]
 
 -- ---- 3: "the closing quote of the second equal name"
 -- A name that is one of those seen, its closing quote at this place. (A name with a lone surrogate is equal to none, and has its fault before.)
-unfoldable pub repeatedAt : List Bytes → Option Bytes → ℕ → List Fault
-repeatedAt seen none at = []
-repeatedAt seen (some n) at = elim (among n seen) [ true ↦ fault repeatedName at ∷ [] | false ↦ [] ]
+unfoldable pub repeated_at : List Bytes → Option Bytes → ℕ → List Fault
+repeated_at seen none at = []
+repeated_at seen (some n) at = elim (among n seen) [ true ↦ fault repeated_name at ∷ [] | false ↦ [] ]
 
-unfoldable pub faultsName : List Bytes → Chars → ℕ → List Fault
-faultsName seen n at = faultsChars n none at ++ repeatedAt seen (charsMeaning n none) (at + length (spellChars n []))
+unfoldable pub faults_name : List Bytes → Chars → ℕ → List Fault
+faults_name seen n at = faults_chars n none at ++ repeated_at seen (chars_meaning n none) (at + length (spell_chars n []))
 
 -- ---- 5: "the opening bracket of the 33rd nesting, or the first byte of the 1,025th value"
 -- Further brackets and values are listed too; they stand after these. `row` values have begun before this one;
-unfoldable pub manyAt : ℕ → ℕ → List Fault
-manyAt row at = elim (leb maxValues row) [ true ↦ fault tooLarge at ∷ [] | false ↦ [] ]
+unfoldable pub many_at : ℕ → ℕ → List Fault
+many_at row at = elim (leb max_values row) [ true ↦ fault too_large at ∷ [] | false ↦ [] ]
 
 -- `depth` arrays and objects are open.
-unfoldable pub deepAt : ℕ → ℕ → List Fault
-deepAt depth at = elim (leb maxNesting depth) [ true ↦ fault tooLarge at ∷ [] | false ↦ [] ]
+unfoldable pub deep_at : ℕ → ℕ → List Fault
+deep_at depth at = elim (leb max_nesting depth) [ true ↦ fault too_large at ∷ [] | false ↦ [] ]
 
 -- How many values a derivation has; "Names are not values."
 unfoldable mutual
-  pub countValue : JValue → ℕ
-  countValue jtrue = 1
-  countValue jfalse = 1
-  countValue jnull = 1
-  countValue (jnumber negative i fr ex) = 1
-  countValue (jstring cs) = 1
-  countValue (jempty-array w) = 1
-  countValue (jarray w es) = suc (countElements es)
-  countValue (jempty-object w) = 1
-  countValue (jobject w ms) = suc (countMembers ms)
+  pub count_value : JValue → ℕ
+  count_value jtrue = 1
+  count_value jfalse = 1
+  count_value jnull = 1
+  count_value (jnumber negative i fr ex) = 1
+  count_value (jstring cs) = 1
+  count_value (jempty_array w) = 1
+  count_value (jarray w es) = suc (count_elements es)
+  count_value (jempty_object w) = 1
+  count_value (jobject w ms) = suc (count_members ms)
 
-  pub countElements : JElements → ℕ
-  countElements (last-element v w) = countValue v
-  countElements (element v w u es) = countValue v + countElements es
+  pub count_elements : JElements → ℕ
+  count_elements (last_element v w) = count_value v
+  count_elements (element v w u es) = count_value v + count_elements es
 
-  pub countMembers : JMembers → ℕ
-  countMembers (last-member n w u v x) = countValue v
-  countMembers (jmember n w u v x z ms) = countValue v + countMembers ms
+  pub count_members : JMembers → ℕ
+  count_members (last_member n w u v x) = count_value v
+  count_members (jmember n w u v x z ms) = count_value v + count_members ms
 
 -- ---- all of them
 unfoldable mutual
-  pub faultsValue : JValue → ℕ → ℕ → ℕ → List Fault
-  faultsValue jtrue row depth at = manyAt row at
-  faultsValue jfalse row depth at = manyAt row at
-  faultsValue jnull row depth at = manyAt row at
-  faultsValue (jnumber negative i fr ex) row depth at = manyAt row at ++ faultsNumber i fr ex (at + length (spellMinus negative []))
-  faultsValue (jstring cs) row depth at = manyAt row at ++ faultsChars cs none (suc at)
-  faultsValue (jempty-array w) row depth at = manyAt row at ++ deepAt depth at
-  faultsValue (jarray w es) row depth at = manyAt row at ++ (deepAt depth at ++ faultsElements es (suc row) (suc depth) (at + length (0x5B ∷ spellWs w [])))
-  faultsValue (jempty-object w) row depth at = manyAt row at ++ deepAt depth at
-  faultsValue (jobject w ms) row depth at = manyAt row at ++ (deepAt depth at ++ faultsMembers ms (suc row) (suc depth) [] (at + length (0x7B ∷ spellWs w [])))
+  pub faults_value : JValue → ℕ → ℕ → ℕ → List Fault
+  faults_value jtrue row depth at = many_at row at
+  faults_value jfalse row depth at = many_at row at
+  faults_value jnull row depth at = many_at row at
+  faults_value (jnumber negative i fr ex) row depth at = many_at row at ++ faults_number i fr ex (at + length (spell_minus negative []))
+  faults_value (jstring cs) row depth at = many_at row at ++ faults_chars cs none (suc at)
+  faults_value (jempty_array w) row depth at = many_at row at ++ deep_at depth at
+  faults_value (jarray w es) row depth at = many_at row at ++ (deep_at depth at ++ faults_elements es (suc row) (suc depth) (at + length (0x5B ∷ spell_ws w [])))
+  faults_value (jempty_object w) row depth at = many_at row at ++ deep_at depth at
+  faults_value (jobject w ms) row depth at = many_at row at ++ (deep_at depth at ++ faults_members ms (suc row) (suc depth) [] (at + length (0x7B ∷ spell_ws w [])))
 
-  pub faultsElements : JElements → ℕ → ℕ → ℕ → List Fault
-  faultsElements (last-element v w) row depth at = faultsValue v row depth at
-  faultsElements (element v w u es) row depth at =
-      faultsValue v row depth at ++
-      faultsElements es (row + countValue v) depth (at + length (spellValue v (spellWs w (0x2C ∷ spellWs u []))))
+  pub faults_elements : JElements → ℕ → ℕ → ℕ → List Fault
+  faults_elements (last_element v w) row depth at = faults_value v row depth at
+  faults_elements (element v w u es) row depth at =
+      faults_value v row depth at ++
+      faults_elements es (row + count_value v) depth (at + length (spell_value v (spell_ws w (0x2C ∷ spell_ws u []))))
 
   -- `seen` are the names before in the object.
-  pub faultsMembers : JMembers → ℕ → ℕ → List Bytes → ℕ → List Fault
-  faultsMembers (last-member n w u v x) row depth seen at =
-      faultsName seen n (suc at) ++ faultsValue v row depth (at + length (0x22 ∷ spellChars n (0x22 ∷ spellWs w (0x3A ∷ spellWs u []))))
-  faultsMembers (jmember n w u v x z ms) row depth seen at =
-      faultsName seen n (suc at) ++
-      (faultsValue v row depth (at + length (0x22 ∷ spellChars n (0x22 ∷ spellWs w (0x3A ∷ spellWs u [])))) ++
-      faultsMembers ms (row + countValue v) depth (seenWith seen (charsMeaning n none))
-      (at + length (0x22 ∷ spellChars n (0x22 ∷ spellWs w (0x3A ∷ spellWs u (spellValue v (spellWs x (0x2C ∷ spellWs z []))))))))
+  pub faults_members : JMembers → ℕ → ℕ → List Bytes → ℕ → List Fault
+  faults_members (last_member n w u v x) row depth seen at =
+      faults_name seen n (suc at) ++ faults_value v row depth (at + length (0x22 ∷ spell_chars n (0x22 ∷ spell_ws w (0x3A ∷ spell_ws u []))))
+  faults_members (jmember n w u v x z ms) row depth seen at =
+      faults_name seen n (suc at) ++
+      (faults_value v row depth (at + length (0x22 ∷ spell_chars n (0x22 ∷ spell_ws w (0x3A ∷ spell_ws u [])))) ++
+      faults_members ms (row + count_value v) depth (seen_with seen (chars_meaning n none))
+      (at + length (0x22 ∷ spell_chars n (0x22 ∷ spell_ws w (0x3A ∷ spell_ws u (spell_value v (spell_ws x (0x2C ∷ spell_ws z []))))))))
 
 unfoldable pub faults : JText → List Fault
-faults (jtext w v u) = faultsValue v 0 0 (length (spellWs w []))
+faults (jtext w v u) = faults_value v 0 0 (length (spell_ws w []))
 
 abbrev pub place_of : Fault → ℕ
 place_of (fault k p) = p
@@ -155,44 +155,44 @@ pub record NotJson (s : Bytes) (p : ℕ) : Type 0 where
 
 -- "Over-long text is refused first, at place 16,384."
 abbrev pub OverLong : Bytes → ReadFault → ℕ → Type 0
-OverLong s k p = (k ≡ tooLarge) × (p ≡ maxTextBytes) × (maxTextBytes < length s)
+OverLong s k p = (k ≡ too_large) × (p ≡ max_text_bytes) × (max_text_bytes < length s)
 
 -- The escape of a code unit: \u and four hexadecimal digits.
-abbrev pub spellUnit : Hexes 4 → Bytes → Bytes
-spellUnit hs y = 0x5C ∷ 0x75 ∷ spellHexes hs y
+abbrev pub spell_unit : Hexes 4 → Bytes → Bytes
+spell_unit hs y = 0x5C ∷ 0x75 ∷ spell_hexes hs y
 
 -- "a high one followed at once by a complete low one is a pair"
 pub record Pair (t : Bytes) : Type 0 where
   pub high : Hexes 4
   pub low : Hexes 4
   pub rest : Bytes
-  pub begins : t ≡ spellUnit high (spellUnit low rest)
-  pub is-high : unit_of (hexNumber 0 high) ≡ High
-  pub is-low : unit_of (hexNumber 0 low) ≡ Low
+  pub begins : t ≡ spell_unit high (spell_unit low rest)
+  pub is_high : unit_of (hex_number 0 high) ≡ High
+  pub is_low : unit_of (hex_number 0 low) ≡ Low
 
 -- "a complete surrogate escape that has no partner": one begins here, and no pair does.
 pub record Lone (t : Bytes) : Type 0 where
   pub escape : Hexes 4
   pub rest : Bytes
-  pub begins : t ≡ spellUnit escape rest
-  pub surrogate : unit_of (hexNumber 0 escape) ≡ Plain → ⊥
-  pub no-pair : Pair t → ⊥
+  pub begins : t ≡ spell_unit escape rest
+  pub surrogate : unit_of (hex_number 0 escape) ≡ Plain → ⊥
+  pub no_pair : Pair t → ⊥
 
 -- The bytes through a fault: those before the place of 2; those through the place; of a lone surrogate those through the whole escape,
 abbrev pub reach : ReadFault → ℕ → ℕ
-reach notJson p = p
-reach repeatedName p = suc p
-reach loneSurrogate p = p + 6
-reach badNumber p = suc p
-reach tooLarge p = suc p
+reach not_json p = p
+reach repeated_name p = suc p
+reach lone_surrogate p = p + 6
+reach bad_number p = suc p
+reach too_large p = suc p
 
 -- which begins no pair.
 abbrev pub Unpaired : ReadFault → Bytes → Type 0
-Unpaired notJson t = Unit {0}
-Unpaired repeatedName t = Unit {0}
-Unpaired loneSurrogate t = Pair t → ⊥
-Unpaired badNumber t = Unit {0}
-Unpaired tooLarge t = Unit {0}
+Unpaired not_json t = Unit {0}
+Unpaired repeated_name t = Unit {0}
+Unpaired lone_surrogate t = Pair t → ⊥
+Unpaired bad_number t = Unit {0}
+Unpaired too_large t = Unit {0}
 
 -- "Faults 3 to 5 count only if the bytes through their place still begin an RFC 8259 text":
 -- some text of RFC 8259 begins with the bytes of s through the fault, and this is its first fault.

@@ -3,43 +3,43 @@
 use Rattle.std.specs.Prelude.{true, false, [], ◌∷◌, ◌++◌, ℕ, suc, ◌+◌, ◌*◌, ◌-◌, ◌/◌, ◌%◌, leb, ℤ, pos, negsuc, length, replicate, take}
 use Rattle.area.specs.Words.{word}
 use Rattle.model.specs.Bytes.{Bytes}
-use Rattle.model.specs.Limits.{maxTextBytes, maxValues}
-use Rattle.model.specs.Size.{valueCount, itemsCount, membersCount}
-use Rattle.model.specs.Value.{Value, scalar, instant, array, object, Scalar, null, boolean, integer, string, Values, no_items, item, Members, no-members, member, memberCount}
+use Rattle.model.specs.Limits.{max_text_bytes, max_values}
+use Rattle.model.specs.Size.{value_count, items_count, members_count}
+use Rattle.model.specs.Value.{Value, scalar, instant, array, object, Scalar, null, boolean, integer, string, Values, no_items, item, Members, no_members, member, member_count}
 
 -- ---- sizes
 -- A row of the table, and an entry of the index of names behind the rows: work room of reading, zero afterwards.
-unfoldable pub rowBytes : ℕ
-rowBytes = 16
+unfoldable pub row_bytes : ℕ
+row_bytes = 16
 
-unfoldable pub entryBytes : ℕ
-entryBytes = 8
+unfoldable pub entry_bytes : ℕ
+entry_bytes = 8
 
-abbrev pub tableBytes : ℕ
-tableBytes = maxValues * (rowBytes + entryBytes)
+abbrev pub table_bytes : ℕ
+table_bytes = max_values * (row_bytes + entry_bytes)
 
-abbrev pub stringsBytes : ℕ
-stringsBytes = maxTextBytes
+abbrev pub strings_bytes : ℕ
+strings_bytes = max_text_bytes
 
 -- ---- strings
 -- The decoded bytes of all names and strings in the order of the text, a member's name before its content.
 unfoldable mutual
-  pub stringsOf : Value → Bytes
-  stringsOf (scalar null) = []
-  stringsOf (scalar (boolean b)) = []
-  stringsOf (scalar (integer z)) = []
-  stringsOf (scalar (string s)) = s
-  stringsOf (instant t) = []
-  stringsOf (array vs) = itemStrings vs
-  stringsOf (object ms) = memberStrings ms
+  pub strings_of : Value → Bytes
+  strings_of (scalar null) = []
+  strings_of (scalar (boolean b)) = []
+  strings_of (scalar (integer z)) = []
+  strings_of (scalar (string s)) = s
+  strings_of (instant t) = []
+  strings_of (array vs) = item_strings vs
+  strings_of (object ms) = member_strings ms
 
-  pub itemStrings : Values → Bytes
-  itemStrings no_items = []
-  itemStrings (item v vs) = stringsOf v ++ itemStrings vs
+  pub item_strings : Values → Bytes
+  item_strings no_items = []
+  item_strings (item v vs) = strings_of v ++ item_strings vs
 
-  pub memberStrings : Members → Bytes
-  memberStrings no-members = []
-  memberStrings (member n v ms) = n ++ (stringsOf v ++ memberStrings ms)
+  pub member_strings : Members → Bytes
+  member_strings no_members = []
+  member_strings (member n v ms) = n ++ (strings_of v ++ member_strings ms)
 
 -- ---- rows
 -- Where a member's name lies in the strings area; 0 and 0 for a value that is no member.
@@ -63,36 +63,36 @@ biased (negsuc n) = 9007199254740992 - suc n
 unfoldable pub unbiased : ℕ → ℤ
 unbiased n = elim (leb 9007199254740992 n) [ true ↦ pos (n - 9007199254740992) | false ↦ negsuc (9007199254740991 - n) ]
 
-unfoldable pub itemCount : Values → ℕ
-itemCount no_items = 0
-itemCount (item v vs) = suc (itemCount vs)
+unfoldable pub item_count : Values → ℕ
+item_count no_items = 0
+item_count (item v vs) = suc (item_count vs)
 
 -- Kinds: 1 null, 2 false, 3 true, 4 an integer, 5 a string, 6 an array, 7 an object. (An instant is in no text; its number is free.)
 -- The second two numbers: of an integer its low and high half; of a string its start and length; of an array or object how many items or
 -- members it has, and the row after its last. `at` is the value's row, `used` the strings' bytes before it.
-unfoldable pub scalarRow : Scalar → ℕ → Label → Bytes
-scalarRow null used name = row 1 name 0 0
-scalarRow (boolean false) used name = row 2 name 0 0
-scalarRow (boolean true) used name = row 3 name 0 0
-scalarRow (integer z) used name = row 4 name (biased z % 4294967296) (biased z / 4294967296)
-scalarRow (string s) used name = row 5 name used (length s)
+unfoldable pub scalar_row : Scalar → ℕ → Label → Bytes
+scalar_row null used name = row 1 name 0 0
+scalar_row (boolean false) used name = row 2 name 0 0
+scalar_row (boolean true) used name = row 3 name 0 0
+scalar_row (integer z) used name = row 4 name (biased z % 4294967296) (biased z / 4294967296)
+scalar_row (string s) used name = row 5 name used (length s)
 
 unfoldable mutual
   pub rows_of : Value → ℕ → ℕ → Label → Bytes
-  rows_of (scalar x) at used name = scalarRow x used name
+  rows_of (scalar x) at used name = scalar_row x used name
   rows_of (instant t) at used name = row 0 name 0 0
-  rows_of (array vs) at used name = row 6 name (itemCount vs) (at + 1 + itemsCount vs) ++ itemRows vs (at + 1) used
-  rows_of (object ms) at used name = row 7 name (memberCount ms) (at + 1 + membersCount ms) ++ memberRows ms (at + 1) used
+  rows_of (array vs) at used name = row 6 name (item_count vs) (at + 1 + items_count vs) ++ item_rows vs (at + 1) used
+  rows_of (object ms) at used name = row 7 name (member_count ms) (at + 1 + members_count ms) ++ member_rows ms (at + 1) used
 
-  pub itemRows : Values → ℕ → ℕ → Bytes
-  itemRows no_items at used = []
-  itemRows (item v vs) at used = rows_of v at used unnamed ++ itemRows vs (at + valueCount v) (used + length (stringsOf v))
+  pub item_rows : Values → ℕ → ℕ → Bytes
+  item_rows no_items at used = []
+  item_rows (item v vs) at used = rows_of v at used unnamed ++ item_rows vs (at + value_count v) (used + length (strings_of v))
 
-  pub memberRows : Members → ℕ → ℕ → Bytes
-  memberRows no-members at used = []
-  memberRows (member n v ms) at used =
+  pub member_rows : Members → ℕ → ℕ → Bytes
+  member_rows no_members at used = []
+  member_rows (member n v ms) at used =
       rows_of v at (used + length n) (record { start = used; size = length n }) ++
-      memberRows ms (at + valueCount v) (used + length n + length (stringsOf v))
+      member_rows ms (at + value_count v) (used + length n + length (strings_of v))
 
 -- ---- areas
 -- Bytes at the start of an area of n bytes, and zeros after them.
@@ -100,11 +100,11 @@ unfoldable pub padded : ℕ → Bytes → Bytes
 padded n bs = bs ++ replicate (n - length bs) 0
 
 -- The rows of a table, without what lies behind them: work room during a call, zero afterwards.
-unfoldable pub rowsPart : Bytes → Bytes
-rowsPart T = take (maxValues * rowBytes) T
+unfoldable pub rows_part : Bytes → Bytes
+rows_part T = take (max_values * row_bytes) T
 
 abbrev pub table_of : Value → ℕ → Bytes
 table_of v n = padded n (rows_of v 0 0 unnamed)
 
-abbrev pub stringsAreaOf : Value → ℕ → Bytes
-stringsAreaOf v n = padded n (stringsOf v)
+abbrev pub strings_area_of : Value → ℕ → Bytes
+strings_area_of v n = padded n (strings_of v)

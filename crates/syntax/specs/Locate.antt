@@ -5,51 +5,51 @@ use Rattle.std.proofs.Math.Option.{Option, none, some}
 use Rattle.model.specs.Bytes.{Bytes}
 use Rattle.model.specs.Option.{◌>>=◌, or_else}
 use Rattle.model.specs.Path.{item_at}
-use Rattle.model.specs.Place.{operandValuesIn, mapItem}
+use Rattle.model.specs.Place.{operand_values_in, map_item}
 use Rattle.model.specs.Run.{Place}
-use Rattle.model.specs.Value.{Value, scalar, instant, array, object, Members, no-members, member}
-use Rattle.syntax.specs.Grammar.{Ws, Chars, JValue, jtrue, jfalse, jnull, jnumber, jstring, jempty-array, jarray, jempty-object, jobject, JElements, last-element, element, JMembers, last-member, jmember, JText, jtext, spellWs, spellChars, spellValue, spellElements, spellMembers, spell}
+use Rattle.model.specs.Value.{Value, scalar, instant, array, object, Members, no_members, member}
+use Rattle.syntax.specs.Grammar.{Ws, Chars, JValue, jtrue, jfalse, jnull, jnumber, jstring, jempty_array, jarray, jempty_object, jobject, JElements, last_element, element, JMembers, last_member, jmember, JText, jtext, spell_ws, spell_chars, spell_value, spell_elements, spell_members, spell}
 
 -- Outermost first.
 abbrev pub Positions : Type 0
 Positions = List ℕ
 
 -- ---- in a value
-abbrev pub contentAt : Members → ℕ → Option Value
-contentAt no-members k = none
-contentAt (member name v ms) zero = some v
-contentAt (member name v ms) (suc k) = contentAt ms k
+abbrev pub content_at : Members → ℕ → Option Value
+content_at no_members k = none
+content_at (member name v ms) zero = some v
+content_at (member name v ms) (suc k) = content_at ms k
 
 -- An array's item, or the content of an object's member.
-abbrev pub childAt : Value → ℕ → Option Value
-childAt (scalar x) k = none
-childAt (instant t) k = none
-childAt (array vs) k = item_at vs k
-childAt (object ms) k = contentAt ms k
+abbrev pub child_at : Value → ℕ → Option Value
+child_at (scalar x) k = none
+child_at (instant t) k = none
+child_at (array vs) k = item_at vs k
+child_at (object ms) k = content_at ms k
 
 -- The value at some positions, if one stands there.
 abbrev pub part_at : Positions → Value → Option Value
 part_at [] v = some v
-part_at (k ∷ q) v = childAt v k >>= part_at q
+part_at (k ∷ q) v = child_at v k >>= part_at q
 
-abbrev pub mapContent : Members → ℕ → (Value → Value) → Members
-mapContent no-members k f = no-members
-mapContent (member name v ms) zero f = member name (f v) ms
-mapContent (member name v ms) (suc k) f = member name v (mapContent ms k f)
+abbrev pub map_content : Members → ℕ → (Value → Value) → Members
+map_content no_members k f = no_members
+map_content (member name v ms) zero f = member name (f v) ms
+map_content (member name v ms) (suc k) f = member name v (map_content ms k f)
 
-abbrev pub mapChild : Value → ℕ → (Value → Value) → Value
-mapChild (scalar x) k f = scalar x
-mapChild (instant t) k f = instant t
-mapChild (array vs) k f = array (mapItem vs k f)
-mapChild (object ms) k f = object (mapContent ms k f)
+abbrev pub map_child : Value → ℕ → (Value → Value) → Value
+map_child (scalar x) k f = scalar x
+map_child (instant t) k f = instant t
+map_child (array vs) k f = array (map_item vs k f)
+map_child (object ms) k f = object (map_content ms k f)
 
-abbrev pub mapPart : Positions → (Value → Value) → Value → Value
-mapPart [] f v = f v
-mapPart (k ∷ q) f v = mapChild v k (mapPart q f)
+abbrev pub map_part : Positions → (Value → Value) → Value → Value
+map_part [] f v = f v
+map_part (k ∷ q) f v = map_child v k (map_part q f)
 
 -- Another value in the place of the one there.
-abbrev pub replacePart : Positions → Value → Value → Value
-replacePart q new v = mapPart q (λ old. new) v
+abbrev pub replace_part : Positions → Value → Value → Value
+replace_part q new v = map_part q (λ old. new) v
 
 -- ---- in a derivation
 -- The bytes before a value, its derivation, and the bytes after it.
@@ -65,52 +65,52 @@ behind a s = record { before = a ++ s.before; value = s.value; after = s.after }
 abbrev pub inside : Site → Site → Site
 inside s t = record { before = s.before ++ t.before; value = t.value; after = t.after ++ s.after }
 
-unfoldable pub elementAt : JElements → ℕ → Option Site
-elementAt (last-element v w) zero = some (record { before = []; value = v; after = spellWs w (0x5D ∷ []) })
-elementAt (last-element v w) (suc k) = none
-elementAt (element v w u es) zero = some (record { before = []; value = v; after = spellWs w (0x2C ∷ spellWs u (spellElements es [])) })
-elementAt (element v w u es) (suc k) = do
-  s ← elementAt es k
-  some (behind (spellValue v (spellWs w (0x2C ∷ spellWs u []))) s)
+unfoldable pub element_at : JElements → ℕ → Option Site
+element_at (last_element v w) zero = some (record { before = []; value = v; after = spell_ws w (0x5D ∷ []) })
+element_at (last_element v w) (suc k) = none
+element_at (element v w u es) zero = some (record { before = []; value = v; after = spell_ws w (0x2C ∷ spell_ws u (spell_elements es [])) })
+element_at (element v w u es) (suc k) = do
+  s ← element_at es k
+  some (behind (spell_value v (spell_ws w (0x2C ∷ spell_ws u []))) s)
 
 -- A member's name, its colon and the white space around that.
-abbrev pub spellName : Chars → Ws → Ws → Bytes → Bytes
-spellName n w u y = 0x22 ∷ spellChars n (0x22 ∷ spellWs w (0x3A ∷ spellWs u y))
+abbrev pub spell_name : Chars → Ws → Ws → Bytes → Bytes
+spell_name n w u y = 0x22 ∷ spell_chars n (0x22 ∷ spell_ws w (0x3A ∷ spell_ws u y))
 
-unfoldable pub memberAt : JMembers → ℕ → Option Site
-memberAt (last-member n w u v x) zero = some (record { before = spellName n w u []; value = v; after = spellWs x (0x7D ∷ []) })
-memberAt (last-member n w u v x) (suc k) = none
-memberAt (jmember n w u v x z ms) zero = some (record { before = spellName n w u []; value = v; after = spellWs x (0x2C ∷ spellWs z (spellMembers ms [])) })
-memberAt (jmember n w u v x z ms) (suc k) = do
-  s ← memberAt ms k
-  some (behind (spellName n w u (spellValue v (spellWs x (0x2C ∷ spellWs z [])))) s)
+unfoldable pub member_at : JMembers → ℕ → Option Site
+member_at (last_member n w u v x) zero = some (record { before = spell_name n w u []; value = v; after = spell_ws x (0x7D ∷ []) })
+member_at (last_member n w u v x) (suc k) = none
+member_at (jmember n w u v x z ms) zero = some (record { before = spell_name n w u []; value = v; after = spell_ws x (0x2C ∷ spell_ws z (spell_members ms [])) })
+member_at (jmember n w u v x z ms) (suc k) = do
+  s ← member_at ms k
+  some (behind (spell_name n w u (spell_value v (spell_ws x (0x2C ∷ spell_ws z [])))) s)
 
-unfoldable pub childSite : JValue → ℕ → Option Site
-childSite jtrue k = none
-childSite jfalse k = none
-childSite jnull k = none
-childSite (jnumber negative i fr ex) k = none
-childSite (jstring cs) k = none
-childSite (jempty-array w) k = none
-childSite (jarray w es) k = do
-  s ← elementAt es k
-  some (behind (0x5B ∷ spellWs w []) s)
-childSite (jempty-object w) k = none
-childSite (jobject w ms) k = do
-  s ← memberAt ms k
-  some (behind (0x7B ∷ spellWs w []) s)
+unfoldable pub child_site : JValue → ℕ → Option Site
+child_site jtrue k = none
+child_site jfalse k = none
+child_site jnull k = none
+child_site (jnumber negative i fr ex) k = none
+child_site (jstring cs) k = none
+child_site (jempty_array w) k = none
+child_site (jarray w es) k = do
+  s ← element_at es k
+  some (behind (0x5B ∷ spell_ws w []) s)
+child_site (jempty_object w) k = none
+child_site (jobject w ms) k = do
+  s ← member_at ms k
+  some (behind (0x7B ∷ spell_ws w []) s)
 
-unfoldable pub valueSite : Positions → JValue → Option Site
-valueSite [] d = some (record { before = []; value = d; after = [] })
-valueSite (k ∷ q) d = do
-  s ← childSite d k
-  t ← valueSite q s.value
+unfoldable pub value_site : Positions → JValue → Option Site
+value_site [] d = some (record { before = []; value = d; after = [] })
+value_site (k ∷ q) d = do
+  s ← child_site d k
+  t ← value_site q s.value
   some (inside s t)
 
 unfoldable pub site : Positions → JText → Option Site
 site q (jtext w d u) = do
-  s ← valueSite q d
-  some (inside (record { before = spellWs w []; value = d; after = spellWs u [] }) s)
+  s ← value_site q d
+  some (inside (record { before = spell_ws w []; value = d; after = spell_ws u [] }) s)
 
 -- ---- in a text
 -- In a text the value at these positions has the bytes `old`, with `before` and `after` around them: a derivation of the text has it there.
@@ -121,16 +121,16 @@ pub record StandsAt (text : Bytes) (q : Positions) (before old after : Bytes) : 
   pub spells : spell tree ≡ text
   pub value : JValue
   pub there : site q tree ≡ some (record { before = before; value = value; after = after })
-  pub is : spellValue value [] ≡ old
+  pub is : spell_value value [] ≡ old
 
 -- ---- operands
 -- A place of the model as positions: an operand of an operation is an item of the array that is the content of its one member.
-abbrev pub toOperand : Value → ℕ → Positions
-toOperand (scalar x) k = k ∷ []
-toOperand (instant t) k = k ∷ []
-toOperand (array vs) k = k ∷ []
-toOperand (object ms) k = 0 ∷ k ∷ []
+abbrev pub to_operand : Value → ℕ → Positions
+to_operand (scalar x) k = k ∷ []
+to_operand (instant t) k = k ∷ []
+to_operand (array vs) k = k ∷ []
+to_operand (object ms) k = 0 ∷ k ∷ []
 
-abbrev pub positionsOf : Place → Value → Positions
-positionsOf [] v = []
-positionsOf (k ∷ q) v = toOperand v k ++ or_else (item_at (operandValuesIn v) k >>= λ w. some (positionsOf q w)) []
+abbrev pub positions_of : Place → Value → Positions
+positions_of [] v = []
+positions_of (k ∷ q) v = to_operand v k ++ or_else (item_at (operand_values_in v) k >>= λ w. some (positions_of q w)) []

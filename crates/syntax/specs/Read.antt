@@ -1,12 +1,12 @@
 -- Read: what a text reads as, or the fault and the place with which it is refused (01, Reading).
 -- A parser takes the bytes that are left and their offset in the text (01: the place). It goes from left to right and ends at the first fault.
 use Rattle.std.specs.Prelude.{Bool, true, false, ◌||◌, List, [], ◌∷◌, ◌++◌, ℕ, zero, suc, ◌+◌, ◌*◌, leb, ltb, eqb, pos, negsuc, length}
-use Rattle.model.specs.Bytes.{Bytes, ascii, sameBytes}
-use Rattle.model.specs.Limits.{maxTextBytes, maxInteger}
+use Rattle.model.specs.Bytes.{Bytes, ascii, same_bytes}
+use Rattle.model.specs.Limits.{max_text_bytes, max_integer}
 use Rattle.model.specs.Lists.{any}
-use Rattle.model.specs.Refusal.{ReadFault, notJson, repeatedName, loneSurrogate, badNumber, tooLarge}
-use Rattle.model.specs.Size.{valueCount}
-use Rattle.model.specs.Value.{Value, scalar, array, object, null, boolean, integer, string, Values, no_items, item, Members, no-members, member}
+use Rattle.model.specs.Refusal.{ReadFault, not_json, repeated_name, lone_surrogate, bad_number, too_large}
+use Rattle.model.specs.Size.{value_count}
+use Rattle.model.specs.Value.{Value, scalar, array, object, null, boolean, integer, string, Values, no_items, item, Members, no_members, member}
 use Rattle.syntax.specs.declared.Start.{Start}
 use Rattle.syntax.specs.declared.Start.TheVariants.{NoValue, TooMuch, Literal, Minus, Digit, Quote, Bracket, Brace}
 use Rattle.syntax.specs.declared.Word.{Word}
@@ -22,8 +22,8 @@ use Rattle.syntax.specs.declared.Hex.TheVariants.{HexDigit, NoHex}
 use Rattle.syntax.specs.declared.Unit.{Unit}
 use Rattle.syntax.specs.declared.Unit.TheVariants.{Plain, High, Low}
 unfoldable pub use Rattle.syntax.specs.Domain.{signed, among}
-use Rattle.syntax.specs.Tokens.{within, isWhite, isDigit, digitValue, isPoint, isE, start_of, separatorOf, escapeOf, hexOf}
-use Rattle.syntax.specs.Utf8.{utf8, leadOf, unit_of, pair_of}
+use Rattle.syntax.specs.Tokens.{within, is_white, is_digit, digit_value, is_point, is_e, start_of, separator_of, escape_of, hex_of}
+use Rattle.syntax.specs.Utf8.{utf8, lead_of, unit_of, pair_of}
 
 -- What was read, the bytes that are left and their offset; or a fault and its place.
 pub data Parsed (A : Type 0) : Type 0 where
@@ -54,24 +54,24 @@ if false m n = n
 
 -- The next byte, which stays. Where the text ends too early, the place is its length.
 unfoldable pub peek : Parser ℕ
-peek [] at = bad notJson at
+peek [] at = bad not_json at
 peek (b ∷ t) at = ok b (b ∷ t) at
 
 -- One byte, and then a parser.
 unfoldable pub eat : {A : Type 0} → Parser A → Parser A
-eat m [] at = bad notJson at
+eat m [] at = bad not_json at
 eat m (b ∷ t) at = m t (suc at)
 
 -- White space, and then a parser.
 unfoldable pub white : {A : Type 0} → Parser A → Parser A
 white m [] at = m [] at
-white m (b ∷ t) at = if (isWhite b) (λ u q. white m t (suc at)) m (b ∷ t) at
+white m (b ∷ t) at = if (is_white b) (λ u q. white m t (suc at)) m (b ∷ t) at
 
 -- These bytes, for a result.
 unfoldable pub expect : {A : Type 0} → Bytes → A → Parser A
 expect [] a t at = ok a t at
-expect (x ∷ xs) a [] at = bad notJson at
-expect (x ∷ xs) a (b ∷ t) at = if (eqb b x) (λ u q. expect xs a t (suc at)) (fail notJson) (b ∷ t) at
+expect (x ∷ xs) a [] at = bad not_json at
+expect (x ∷ xs) a (b ∷ t) at = if (eqb b x) (λ u q. expect xs a t (suc at)) (fail not_json) (b ∷ t) at
 
 -- ---- literals
 unfoldable pub literal : Word → Parser Value
@@ -81,49 +81,49 @@ literal NullWord = expect (ascii "null") (scalar null)
 
 -- ---- numbers
 -- Refusal 4 at "the dot, the e or E".
-unfoldable pub isPart : ℕ → Bool
-isPart b = isPoint b || isE b
+unfoldable pub is_part : ℕ → Bool
+is_part b = is_point b || is_e b
 
-unfoldable pub endNumber : Bool → ℕ → ℕ → Parser Value
-endNumber negative n b = if (isPart b) (fail badNumber) (give (signed negative n))
+unfoldable pub end_number : Bool → ℕ → ℕ → Parser Value
+end_number negative n b = if (is_part b) (fail bad_number) (give (signed negative n))
 
 -- Digits after a first one that is not 0; n is the number so far. Refusal 4 at "the digit that first passes the limit".
 unfoldable pub digits : Bool → ℕ → Parser Value
 digits negative n [] at = ok (signed negative n) [] at
 digits negative n (b ∷ t) at =
-    if (isDigit b)
-    (if (leb (n * 10 + digitValue b) maxInteger) (λ u q. digits negative (n * 10 + digitValue b) t (suc at)) (fail badNumber))
-    (endNumber negative n b)
+    if (is_digit b)
+    (if (leb (n * 10 + digit_value b) max_integer) (λ u q. digits negative (n * 10 + digit_value b) t (suc at)) (fail bad_number))
+    (end_number negative n b)
     (b ∷ t) at
 
 -- int = zero / ( digit1-9 *DIGIT ): after a 0 no digit belongs to the number.
-unfoldable pub afterZero : Bool → Parser Value
-afterZero negative [] at = ok (signed negative 0) [] at
-afterZero negative (b ∷ t) at = endNumber negative 0 b (b ∷ t) at
+unfoldable pub after_zero : Bool → Parser Value
+after_zero negative [] at = ok (signed negative 0) [] at
+after_zero negative (b ∷ t) at = end_number negative 0 b (b ∷ t) at
 
-unfoldable pub firstDigit : Bool → ℕ → Parser Value
-firstDigit negative zero = afterZero negative
-firstDigit negative (suc d) = digits negative (suc d)
+unfoldable pub first_digit : Bool → ℕ → Parser Value
+first_digit negative zero = after_zero negative
+first_digit negative (suc d) = digits negative (suc d)
 
 unfoldable pub int : Bool → Parser Value
-int negative = peek >>= λ b. if (isDigit b) (eat (firstDigit negative (digitValue b))) (fail notJson)
+int negative = peek >>= λ b. if (is_digit b) (eat (first_digit negative (digit_value b))) (fail not_json)
 
 -- ---- strings
 -- n more bytes of a character, the first from lo to hi.
 unfoldable pub tails : ℕ → ℕ → ℕ → Parser Bytes
 tails zero lo hi t at = ok [] t at
-tails (suc n) lo hi [] at = bad notJson at
-tails (suc n) lo hi (b ∷ t) at = if (within lo hi b) (λ u q. then (tails n 0x80 0xBF t (suc at)) (λ bs. give (b ∷ bs))) (fail notJson) (b ∷ t) at
+tails (suc n) lo hi [] at = bad not_json at
+tails (suc n) lo hi (b ∷ t) at = if (within lo hi b) (λ u q. then (tails n 0x80 0xBF t (suc at)) (λ bs. give (b ∷ bs))) (fail not_json) (b ∷ t) at
 
-unfoldable pub onHex : {A : Type 0} → Hex → (ℕ → Parser A) → Parser A → Parser A
-onHex (HexDigit d) f m = f d
-onHex NoHex f m = m
+unfoldable pub on_hex : {A : Type 0} → Hex → (ℕ → Parser A) → Parser A → Parser A
+on_hex (HexDigit d) f m = f d
+on_hex NoHex f m = m
 
 -- n hexadecimal digits after those that make u.
 unfoldable pub hexes : ℕ → ℕ → Parser ℕ
 hexes zero u t at = ok u t at
-hexes (suc n) u [] at = bad notJson at
-hexes (suc n) u (b ∷ t) at = onHex (hexOf b) (λ d t' q. hexes n (u * 16 + d) t (suc at)) (fail notJson) (b ∷ t) at
+hexes (suc n) u [] at = bad not_json at
+hexes (suc n) u (b ∷ t) at = on_hex (hex_of b) (λ d t' q. hexes n (u * 16 + d) t (suc at)) (fail not_json) (b ∷ t) at
 
 -- One step through a string: its end, the bytes of a character, or a code unit from an escape.
 pub data Piece : Type 0 where
@@ -131,34 +131,34 @@ pub data Piece : Type 0 where
   bytes : Bytes → Piece
   unit : ℕ → Piece
 
-unfoldable pub onEscape : {A : Type 0} → Escape → (ℕ → Parser A) → Parser A → Parser A → Parser A
-onEscape (Letter d) f m n = f d
-onEscape Unicode f m n = m
-onEscape NoEscape f m n = n
+unfoldable pub on_escape : {A : Type 0} → Escape → (ℕ → Parser A) → Parser A → Parser A → Parser A
+on_escape (Letter d) f m n = f d
+on_escape Unicode f m n = m
+on_escape NoEscape f m n = n
 
 unfoldable pub escape : Parser Piece
-escape [] at = bad notJson at
+escape [] at = bad not_json at
 escape (b ∷ t) at =
-    onEscape (escapeOf b)
+    on_escape (escape_of b)
     (λ d t' q. ok (bytes (d ∷ [])) t (suc at))
     (λ t' q. then (hexes 4 0 t (suc at)) (λ u. give (unit u)))
-    (fail notJson)
+    (fail not_json)
     (b ∷ t) at
 
-unfoldable pub onLead : {A : Type 0} → Lead → Parser A → Parser A → Parser A → (ℕ → ℕ → ℕ → Parser A) → Parser A
-onLead Closing c b n r = c
-onLead Backslash c b n r = b
-onLead Never c b n r = n
-onLead (Char k lo hi) c b n r = r k lo hi
+unfoldable pub on_lead : {A : Type 0} → Lead → Parser A → Parser A → Parser A → (ℕ → ℕ → ℕ → Parser A) → Parser A
+on_lead Closing c b n r = c
+on_lead Backslash c b n r = b
+on_lead Never c b n r = n
+on_lead (Char k lo hi) c b n r = r k lo hi
 
 -- One character, or the closing quote, which stays.
 unfoldable pub char : Parser Piece
-char [] at = bad notJson at
+char [] at = bad not_json at
 char (b ∷ t) at =
-    onLead (leadOf b)
+    on_lead (lead_of b)
     (give closing)
     (λ t' q. escape t (suc at))
-    (fail notJson)
+    (fail not_json)
     (λ n lo hi t' q. then (tails n lo hi t (suc at)) (λ bs. give (bytes (b ∷ bs))))
     (b ∷ t) at
 
@@ -167,23 +167,23 @@ pub data Pending : Type 0 where
   clear : Pending
   high : ℕ → ℕ → Pending
 
-unfoldable pub onPiece : {A : Type 0} → Piece → Parser A → (Bytes → Parser A) → (ℕ → Parser A) → Parser A
-onPiece closing m f g = m
-onPiece (bytes bs) m f g = f bs
-onPiece (unit u) m f g = g u
+unfoldable pub on_piece : {A : Type 0} → Piece → Parser A → (Bytes → Parser A) → (ℕ → Parser A) → Parser A
+on_piece closing m f g = m
+on_piece (bytes bs) m f g = f bs
+on_piece (unit u) m f g = g u
 
-unfoldable pub onUnit : {A : Type 0} → Unit → Parser A → Parser A → Parser A → Parser A
-onUnit Plain m h l = m
-onUnit High m h l = h
-onUnit Low m h l = l
+unfoldable pub on_unit : {A : Type 0} → Unit → Parser A → Parser A → Parser A → Parser A
+on_unit Plain m h l = m
+on_unit High m h l = h
+on_unit Low m h l = l
 
 -- After a high surrogate escape whatever is no low one, a fault too, leaves it without a partner.
-unfoldable pub orLone : {A B : Type 0} → Parsed A → ℕ → (A → Parser B) → Parsed B
-orLone (ok a t at) p g = g a t at
-orLone (bad k q) p g = bad loneSurrogate p
+unfoldable pub or_lone : {A B : Type 0} → Parsed A → ℕ → (A → Parser B) → Parsed B
+or_lone (ok a t at) p g = g a t at
+or_lone (bad k q) p g = bad lone_surrogate p
 
 unfoldable pub lone : ℕ → Parser Bytes
-lone p t at = bad loneSurrogate p
+lone p t at = bad lone_surrogate p
 
 -- The bytes in front of those that the rest gives.
 unfoldable pub grow : Bytes → Parsed Bytes → Parsed Bytes
@@ -192,13 +192,13 @@ grow bs r = then r (λ cs. give (bs ++ cs))
 -- The characters up to the closing quote, decoded. Refusal 3 at "the backslash of a complete surrogate escape that has no partner
 -- (a high one followed at once by a complete low one is a pair)". The first argument bounds the steps: the number of bytes left is enough.
 unfoldable pub chars : ℕ → Pending → Parser Bytes
-chars zero w t at = bad notJson at
+chars zero w t at = bad not_json at
 chars (suc f) clear t at =
-    then (char t at) (λ x. onPiece x (give []) (λ bs t' q. grow bs (chars f clear t' q))
-    (λ u. onUnit (unit_of u) (λ t' q. grow (utf8 u) (chars f clear t' q)) (λ t' q. chars f (high u at) t' q) (lone at)))
+    then (char t at) (λ x. on_piece x (give []) (λ bs t' q. grow bs (chars f clear t' q))
+    (λ u. on_unit (unit_of u) (λ t' q. grow (utf8 u) (chars f clear t' q)) (λ t' q. chars f (high u at) t' q) (lone at)))
 chars (suc f) (high h p) t at =
-    orLone (char t at) p (λ x. onPiece x (lone p) (λ bs. lone p)
-    (λ u. onUnit (unit_of u) (lone p) (lone p) (λ t' q. grow (utf8 (pair_of h u)) (chars f clear t' q))))
+    or_lone (char t at) p (λ x. on_piece x (lone p) (λ bs. lone p)
+    (λ u. on_unit (unit_of u) (lone p) (lone p) (λ t' q. grow (utf8 (pair_of h u)) (chars f clear t' q))))
 
 -- A string from its opening quote to its closing one, which stays.
 unfoldable pub quoted : ℕ → Parser Bytes
@@ -209,57 +209,57 @@ quoted f = eat (chars f clear)
 unfoldable pub name : ℕ → List Bytes → Parser Bytes
 name f seen =
     peek >>= λ b. if (eqb b 0x22)
-    (quoted f >>= λ n. if (among n seen) (fail repeatedName) (eat (white (peek >>= λ c. if (eqb c 0x3A) (eat (give n)) (fail notJson)))))
-    (fail notJson)
+    (quoted f >>= λ n. if (among n seen) (fail repeated_name) (eat (white (peek >>= λ c. if (eqb c 0x3A) (eat (give n)) (fail not_json)))))
+    (fail not_json)
 
 -- ---- values
-unfoldable pub onStart : {A : Type 0} → Start → (Word → Parser A) → Parser A → Parser A → Parser A → Parser A → Parser A → Parser A
-onStart NoValue w s n t a o = fail notJson
-onStart TooMuch w s n t a o = fail tooLarge
-onStart (Literal x) w s n t a o = w x
-onStart Minus w s n t a o = s
-onStart Digit w s n t a o = n
-onStart Quote w s n t a o = t
-onStart Bracket w s n t a o = a
-onStart Brace w s n t a o = o
+unfoldable pub on_start : {A : Type 0} → Start → (Word → Parser A) → Parser A → Parser A → Parser A → Parser A → Parser A → Parser A
+on_start NoValue w s n t a o = fail not_json
+on_start TooMuch w s n t a o = fail too_large
+on_start (Literal x) w s n t a o = w x
+on_start Minus w s n t a o = s
+on_start Digit w s n t a o = n
+on_start Quote w s n t a o = t
+on_start Bracket w s n t a o = a
+on_start Brace w s n t a o = o
 
-unfoldable pub onSeparator : {A : Type 0} → Separator → Parser A → Parser A → Parser A
-onSeparator Comma m c = m
-onSeparator Close m c = c
-onSeparator Neither m c = fail notJson
+unfoldable pub on_separator : {A : Type 0} → Separator → Parser A → Parser A → Parser A
+on_separator Comma m c = m
+on_separator Close m c = c
+on_separator Neither m c = fail not_json
 
 -- The value that begins here, `row` values having begun before it, `depth` arrays and objects deep.
 -- The first argument bounds the steps: 2 * length t + 1 is enough.
 unfoldable mutual
   pub value : ℕ → ℕ → ℕ → Parser Value
-  value zero row depth t at = bad notJson at
+  value zero row depth t at = bad not_json at
   value (suc f) row depth t at =
-      then (peek t at) (λ b. onStart (start_of row depth b) literal (eat (int true)) (int false)
+      then (peek t at) (λ b. on_start (start_of row depth b) literal (eat (int true)) (int false)
       (quoted f >>= λ bs. eat (give (scalar (string bs))))
       (eat (white (peek >>= λ c. if (eqb c 0x5D) (eat (give (array no_items))) (λ u q. then (items f (suc row) (suc depth) u q) (λ vs. give (array vs))))))
-      (eat (white (peek >>= λ c. if (eqb c 0x7D) (eat (give (object no-members))) (λ u q. then (members f (suc row) (suc depth) [] u q) (λ ms. give (object ms)))))))
+      (eat (white (peek >>= λ c. if (eqb c 0x7D) (eat (give (object no_members))) (λ u q. then (members f (suc row) (suc depth) [] u q) (λ ms. give (object ms)))))))
 
   -- From the first byte of an item to the closing bracket.
   pub items : ℕ → ℕ → ℕ → Parser Values
-  items zero row depth t at = bad notJson at
+  items zero row depth t at = bad not_json at
   items (suc f) row depth t at =
-      then (value f row depth t at) (λ v. white (peek >>= λ b. onSeparator (separatorOf 0x5D b)
-      (eat (white (λ u q. then (items f (row + valueCount v) depth u q) (λ vs. give (item v vs)))))
+      then (value f row depth t at) (λ v. white (peek >>= λ b. on_separator (separator_of 0x5D b)
+      (eat (white (λ u q. then (items f (row + value_count v) depth u q) (λ vs. give (item v vs)))))
       (eat (give (item v no_items)))))
 
   -- From the first byte of a name to the closing brace.
   pub members : ℕ → ℕ → ℕ → List Bytes → Parser Members
-  members zero row depth seen t at = bad notJson at
+  members zero row depth seen t at = bad not_json at
   members (suc f) row depth seen t at =
-      then (name f seen t at) (λ n. white (λ t₁ q₁. then (value f row depth t₁ q₁) (λ v. white (peek >>= λ b. onSeparator (separatorOf 0x7D b)
-      (eat (white (λ u q. then (members f (row + valueCount v) depth (seen ++ (n ∷ [])) u q) (λ ms. give (member n v ms)))))
-      (eat (give (member n v no-members)))))))
+      then (name f seen t at) (λ n. white (λ t₁ q₁. then (value f row depth t₁ q₁) (λ v. white (peek >>= λ b. on_separator (separator_of 0x7D b)
+      (eat (white (λ u q. then (members f (row + value_count v) depth (seen ++ (n ∷ [])) u q) (λ ms. give (member n v ms)))))
+      (eat (give (member n v no_members)))))))
 
 -- ---- texts
 -- Nothing may follow.
 unfoldable pub ended : Value → Parser Value
 ended v [] at = ok v [] at
-ended v (b ∷ t) at = bad notJson at
+ended v (b ∷ t) at = bad not_json at
 
 -- JSON-text = ws value ws
 unfoldable pub text : ℕ → Parser Value
@@ -275,4 +275,4 @@ answer (bad k p) = refuse k p
 
 -- "Over-long text is refused first, at place 16,384. Otherwise the fault with the smallest place wins."
 unfoldable pub read : Bytes → Read
-read s = elim (ltb maxTextBytes (length s)) [ true ↦ refuse tooLarge maxTextBytes | false ↦ answer (text (2 * length s + 1) s 0) ]
+read s = elim (ltb max_text_bytes (length s)) [ true ↦ refuse too_large max_text_bytes | false ↦ answer (text (2 * length s + 1) s 0) ]

@@ -4,8 +4,8 @@ use Rattle.model.specs.Bytes.{Bytes}
 use Rattle.model.specs.Eval.{run, value, outcome}
 use Rattle.model.specs.Rule.{Rule}
 use Rattle.model.specs.Textual.{textual}
-use Rattle.model.specs.Value.{Value, instantFree}
-use Rattle.model.specs.Writing.{valueText}
+use Rattle.model.specs.Value.{Value, instant_free}
+use Rattle.model.specs.Writing.{value_text}
 use Rattle.syntax.specs.Read.{done, read}
 
 -- The text t is that of the value in which the rule, evaluated on the record, ends; it reads as this value, with the text of each date-time in its place,
@@ -13,6 +13,6 @@ use Rattle.syntax.specs.Read.{done, read}
 pub record ReadsBack (r : Rule) (record' : Value) (limit : ℕ) (t : Bytes) : Type 0 where
   pub answer : Value
   pub ends : outcome (run r record' limit) ≡ value answer
-  pub is-text : t ≡ valueText answer
+  pub is_text_lem : t ≡ value_text answer
   pub reads : read t ≡ done (textual answer)
-  pub reads-back : T (instantFree answer) → read t ≡ done answer
+  pub reads_back : T (instant_free answer) → read t ≡ done answer

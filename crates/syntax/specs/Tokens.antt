@@ -1,6 +1,6 @@
 -- Tokens: what RFC 8259's ABNF says of a byte by itself, and what reading decides from it. The grammar, the parser and the code share these.
 use Rattle.std.specs.Prelude.{Bool, true, false, ◌&&◌, ◌||◌, ℕ, ◌-◌, leb, eqb}
-use Rattle.model.specs.Limits.{maxValues, maxNesting}
+use Rattle.model.specs.Limits.{max_values, max_nesting}
 use Rattle.syntax.specs.declared.Start.{Start}
 use Rattle.syntax.specs.declared.Start.TheVariants.{NoValue, TooMuch, Literal, Minus, Digit, Quote, Bracket, Brace}
 use Rattle.syntax.specs.declared.Word.TheVariants.{TrueWord, FalseWord, NullWord}
@@ -16,36 +16,36 @@ unfoldable pub within : ℕ → ℕ → ℕ → Bool
 within lo hi b = leb lo b && leb b hi
 
 -- ws = *( %x20 / %x09 / %x0A / %x0D )
-unfoldable pub isWhite : ℕ → Bool
-isWhite b = eqb b 0x20 || (eqb b 0x09 || (eqb b 0x0A || eqb b 0x0D))
+unfoldable pub is_white : ℕ → Bool
+is_white b = eqb b 0x20 || (eqb b 0x09 || (eqb b 0x0A || eqb b 0x0D))
 
 -- ---- numbers
 -- DIGIT = %x30-39
-unfoldable pub isDigit : ℕ → Bool
-isDigit b = within 0x30 0x39 b
+unfoldable pub is_digit : ℕ → Bool
+is_digit b = within 0x30 0x39 b
 
 -- digit1-9 = %x31-39
-unfoldable pub isDigit1-9 : ℕ → Bool
-isDigit1-9 b = within 0x31 0x39 b
+unfoldable pub is_digit1_9 : ℕ → Bool
+is_digit1_9 b = within 0x31 0x39 b
 
-abbrev pub digitValue : ℕ → ℕ
-digitValue b = b - 0x30
+abbrev pub digit_value : ℕ → ℕ
+digit_value b = b - 0x30
 
 -- decimal-point = %x2E
-unfoldable pub isPoint : ℕ → Bool
-isPoint b = eqb b 0x2E
+unfoldable pub is_point : ℕ → Bool
+is_point b = eqb b 0x2E
 
 -- e = %x65 / %x45
-unfoldable pub isE : ℕ → Bool
-isE b = eqb b 0x65 || eqb b 0x45
+unfoldable pub is_e : ℕ → Bool
+is_e b = eqb b 0x65 || eqb b 0x45
 
 -- ---- values
 -- 01, refusal 5: the value would be "the 1,025th value", `row` values having begun before it; or the bracket "of the 33rd nesting".
 unfoldable pub counted : ℕ → Start → Start
-counted row x = elim (leb maxValues row) [ true ↦ TooMuch | false ↦ x ]
+counted row x = elim (leb max_values row) [ true ↦ TooMuch | false ↦ x ]
 
 unfoldable pub nested : ℕ → Start → Start
-nested depth x = elim (leb maxNesting depth) [ true ↦ TooMuch | false ↦ x ]
+nested depth x = elim (leb max_nesting depth) [ true ↦ TooMuch | false ↦ x ]
 
 -- value = false / null / true / object / array / number / string, by its first byte.
 unfoldable pub start_of : ℕ → ℕ → ℕ → Start
@@ -59,7 +59,7 @@ start_of row depth b =
                 elim (eqb b 0x7B) [
                   | true ↦ counted row (nested depth Brace)
                   | false ↦
-                      elim (isDigit b) [
+                      elim (is_digit b) [
                         | true ↦ counted row Digit
                         | false ↦
                             elim (eqb b 0x2D) [
@@ -81,8 +81,8 @@ start_of row depth b =
     ]
 
 -- value-separator = ws %x2C ws, or the closing byte: end-array = ws %x5D ws, end-object = ws %x7D ws.
-unfoldable pub separatorOf : ℕ → ℕ → Separator
-separatorOf close b =
+unfoldable pub separator_of : ℕ → ℕ → Separator
+separator_of close b =
     elim (eqb b 0x2C) [
       | true ↦ Comma
       | false ↦
@@ -91,8 +91,8 @@ separatorOf close b =
 
 -- ---- strings
 -- char = escape ( %x22 / %x5C / %x2F / %x62 / %x66 / %x6E / %x72 / %x74 / %x75 4HEXDIG )
-unfoldable pub escapeOf : ℕ → Escape
-escapeOf b =
+unfoldable pub escape_of : ℕ → Escape
+escape_of b =
     elim (eqb b 0x22) [
       | true ↦ Letter 0x22
       | false ↦
@@ -128,8 +128,8 @@ escapeOf b =
     ]
 
 -- HEXDIG = DIGIT / "A" / "B" / "C" / "D" / "E" / "F" (RFC 5234), letters in either case.
-unfoldable pub hexOf : ℕ → Hex
-hexOf b =
+unfoldable pub hex_of : ℕ → Hex
+hex_of b =
     elim (within 0x30 0x39 b) [
       | true ↦ HexDigit (b - 0x30)
       | false ↦

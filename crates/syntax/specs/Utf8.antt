@@ -31,8 +31,8 @@ pub data WellFormed : Bytes → Type 0 where
 
 -- The byte at a character of a string (RFC 8259: unescaped = %x20-21 / %x23-5B / %x5D-10FFFF), by the table UTF8-char of RFC 3629, section 4:
 -- how many bytes follow, and from where to where the first of them may be; the others are UTF8-tail = %x80-BF.
-unfoldable pub leadOf : ℕ → Lead
-leadOf b =
+unfoldable pub lead_of : ℕ → Lead
+lead_of b =
     elim (eqb b 0x22) [
       | true ↦ Closing
       | false ↦

@@ -11,7 +11,7 @@ module _ (A : Bytes) (start size : ℕ) where
   pub no_part : length A ≤ start → take (length A - length A) (drop (length A) A) ≡ part A start size
   no_part h = simp (drop-length, drop_of_length-le A h, take-nil)
 
-  pub last-part : length A - start ≤ size → take (length A - start) (drop start A) ≡ part A start size
-  last-part h =
+  pub last_part : length A - start ≤ size → take (length A - start) (drop start A) ≡ part A start size
+  last_part h =
       let l = length-drop start A in
       take_all (length A - start) (drop start A) (omega arith) ∙ sym (take_all size (drop start A) (omega arith))

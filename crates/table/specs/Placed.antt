@@ -1,22 +1,22 @@
 -- Placed: the rows of a table lie in the order of the text: each before the next, and the parts of an array or object up to where it ends.
 use Rattle.std.specs.Prelude.{◌≡◌, ℕ, zero, suc, ◌≤◌, ◌<◌}
 use Rattle.model.specs.Bytes.{Bytes}
-use Rattle.model.specs.Limits.{maxValues}
+use Rattle.model.specs.Limits.{max_values}
 use Rattle.table.specs.declared.node.Node.TheVariants.{Array, Object}
 use Rattle.table.specs.declared.node.Rows.{Rows}
-use Rattle.table.specs.Node.{nodeAt, nextRow}
+use Rattle.table.specs.Node.{node_at, next_row}
 
 -- The row after so many values from a row on.
-abbrev pub rowAfter : Bytes → ℕ → ℕ → ℕ
-rowAfter T row zero = row
-rowAfter T row (suc n) = rowAfter T (nextRow T row) n
+abbrev pub row_after : Bytes → ℕ → ℕ → ℕ
+row_after T row zero = row
+row_after T row (suc n) = row_after T (next_row T row) n
 
 pub record Placed (T : Bytes) : Type 0 where
-  pub on : (row : ℕ) → row < maxValues → row < nextRow T row
-  pub within : (row : ℕ) → row < maxValues → nextRow T row ≤ maxValues
-  pub items : (row : ℕ) (q : Rows) → row < maxValues → nodeAt T row ≡ Array q → rowAfter T q.first q.count ≡ nextRow T row
-  pub members : (row : ℕ) (q : Rows) → row < maxValues → nodeAt T row ≡ Object q → rowAfter T q.first q.count ≡ nextRow T row
-  pub inside : (row : ℕ) (q : Rows) → row < maxValues → nodeAt T row ≡ Array q → (k : ℕ) → k < q.count → rowAfter T q.first k < maxValues
-  pub inside-members : (row : ℕ) (q : Rows) → row < maxValues → nodeAt T row ≡ Object q → (k : ℕ) → k < q.count → rowAfter T q.first k < maxValues
+  pub on : (row : ℕ) → row < max_values → row < next_row T row
+  pub within : (row : ℕ) → row < max_values → next_row T row ≤ max_values
+  pub items : (row : ℕ) (q : Rows) → row < max_values → node_at T row ≡ Array q → row_after T q.first q.count ≡ next_row T row
+  pub members : (row : ℕ) (q : Rows) → row < max_values → node_at T row ≡ Object q → row_after T q.first q.count ≡ next_row T row
+  pub inside : (row : ℕ) (q : Rows) → row < max_values → node_at T row ≡ Array q → (k : ℕ) → k < q.count → row_after T q.first k < max_values
+  pub inside_members : (row : ℕ) (q : Rows) → row < max_values → node_at T row ≡ Object q → (k : ℕ) → k < q.count → row_after T q.first k < max_values
   -- What begins within a value ends within it.
-  pub nested : (row r : ℕ) → row < maxValues → row ≤ r → r < nextRow T row → nextRow T r ≤ nextRow T row
+  pub nested : (row r : ℕ) → row < max_values → row ≤ r → r < next_row T row → next_row T r ≤ next_row T row

@@ -1,7 +1,7 @@
 // The value in a row.
 ghost use Rattle.std.specs.Prelude.{◌≡◌, ◌-◌};
-ghost use Rattle.table.specs.Contract.{nodeAt, nextRow, name_at, tailOf, Halves};
-ghost use Rattle.table.specs.Node.{nodeOf};
+ghost use Rattle.table.specs.Contract.{node_at, next_row, name_at, tail_of, Halves};
+ghost use Rattle.table.specs.Node.{node_of};
 
 use crate::row::{Row, Span, join, row_at};
 use area::get_word;
@@ -30,7 +30,7 @@ pub enum Node {
 // By a row's numbers, and the row after it, where its parts begin.
 fn node_of(r: Row, next: usize) -> Node
     requires { Halves r }
-    ensures { result ≡ nodeOf r next }
+    ensures { result ≡ node_of r next }
 {
     let kind = r.kind;
     let count = r.first;
@@ -60,7 +60,7 @@ fn node_of(r: Row, next: usize) -> Node
 
 // The value in a row; null where the table has no such row.
 pub fn node_at(table: &[u8], row: usize) -> Node
-    ensures { result ≡ nodeAt table.now row }
+    ensures { result ≡ node_at table.now row }
 {
     if row >= table.len() / ROW_BYTES {
         return Node::Null;
@@ -70,7 +70,7 @@ pub fn node_at(table: &[u8], row: usize) -> Node
 
 // The row after a value and all that it holds; the row itself where the table has no such row.
 pub fn next_row(table: &[u8], row: usize) -> usize
-    ensures { result ≡ nextRow table.now row }
+    ensures { result ≡ next_row table.now row }
 {
     if row >= table.len() / ROW_BYTES {
         return row;
@@ -103,7 +103,7 @@ fn less(n: usize) -> usize
 
 // The values after the first.
 pub fn tail(table: &[u8], q: Rows) -> Rows
-    ensures { result ≡ tailOf table.now q }
+    ensures { result ≡ tail_of table.now q }
 {
     Rows {
         first: next_row(table, q.first),

@@ -1,9 +1,9 @@
 // The calendar for callers in C: what the host's tests and benchmarks link. Not a part of the product's library.
 ghost use Rattle.std.specs.Prelude.{◌≡◌, length};
-ghost use Rattle.model.specs.DateText.{dayText, dateText};
-ghost use Rattle.model.specs.Result.{resultNumber};
-ghost use Rattle.calendar.specs.Contract.{dateResult};
-ghost use Rattle.test_calendar.specs.Contract.{millisecondsOf, unit_of, unitFound, shiftNumber, shiftMs, textNumber, textBytes};
+ghost use Rattle.model.specs.DateText.{day_text, date_text};
+ghost use Rattle.model.specs.Result.{result_number};
+ghost use Rattle.calendar.specs.Contract.{date_result};
+ghost use Rattle.test_calendar.specs.Contract.{milliseconds_of, unit_of, unit_found, shift_number, shift_ms, text_number, text_bytes};
 
 use calendar::instant::{DateAnswer, Instant, InstantAnswer, dated};
 use instants::shift::shift;
@@ -21,7 +21,7 @@ const OUT_OF_RANGE: u32 = 9;
 
 // An answer's number, and its milliseconds, 0 where it has none.
 fn put_date(answer: DateAnswer, ms: &mut i64) -> u32
-    ensures { (result ≡ resultNumber (dateResult answer)) × (ms.new ≡ millisecondsOf (dateResult answer)) }
+    ensures { (result ≡ result_number (date_result answer)) × (ms.new ≡ milliseconds_of (date_result answer)) }
 {
     match answer {
         DateAnswer::At(t) => {
@@ -42,7 +42,7 @@ fn put_date(answer: DateAnswer, ms: &mut i64) -> u32
 // A text of one of the nineteen forms: 0 and the instant's milliseconds, or 8 or 9 and 0.
 #[unsafe(no_mangle)]
 pub extern "C" fn calendar_read_date(text: &[u8], ms: &mut i64) -> u32
-    ensures { (result ≡ resultNumber (dateText text.now)) × (ms.new ≡ millisecondsOf (dateText text.now)) }
+    ensures { (result ≡ result_number (date_text text.now)) × (ms.new ≡ milliseconds_of (date_text text.now)) }
 {
     put_date(dates::read_date(text), ms)
 }
@@ -50,7 +50,7 @@ pub extern "C" fn calendar_read_date(text: &[u8], ms: &mut i64) -> u32
 // Of one of the first three.
 #[unsafe(no_mangle)]
 pub extern "C" fn calendar_read_day(text: &[u8], ms: &mut i64) -> u32
-    ensures { (result ≡ resultNumber (dayText text.now)) × (ms.new ≡ millisecondsOf (dayText text.now)) }
+    ensures { (result ≡ result_number (day_text text.now)) × (ms.new ≡ milliseconds_of (day_text text.now)) }
 {
     put_date(dates::read_day(text), ms)
 }
@@ -62,7 +62,7 @@ enum UnitAnswer {
 }
 
 fn unit_of(number: u32) -> UnitAnswer
-    ensures { unitFound result ≡ unit_of number }
+    ensures { unit_found result ≡ unit_of number }
 {
     if number == 0 {
         return UnitAnswer::Of(TimeUnit::Year);
@@ -82,7 +82,7 @@ fn unit_of(number: u32) -> UnitAnswer
 // The instant `from`, shifted by an amount of a unit (0 year, 1 month, 2 day, 3 hour): 0 and its milliseconds, or 9 and 0; 1 and 0 for another unit.
 #[unsafe(no_mangle)]
 pub extern "C" fn calendar_shift(from: i64, amount: i64, unit: u32, ms: &mut i64) -> u32
-    ensures { (result ≡ shiftNumber from amount unit) × (ms.new ≡ shiftMs from amount unit) }
+    ensures { (result ≡ shift_number from amount unit) × (ms.new ≡ shift_ms from amount unit) }
 {
     let UnitAnswer::Of(unit) = unit_of(unit) else {
         *ms = 0;
@@ -110,7 +110,7 @@ fn put_text(text: InstantText, area: &mut [u8])
 // An instant's text into an area of 24 bytes: 0; 1 for an area of another length and 9 for an instant outside the range, the area as it was.
 #[unsafe(no_mangle)]
 pub extern "C" fn calendar_text(ms: i64, text: &mut [u8]) -> u32
-    ensures { (result ≡ textNumber ms text.old) × (text.new ≡ textBytes ms text.old) }
+    ensures { (result ≡ text_number ms text.old) × (text.new ≡ text_bytes ms text.old) }
 {
     if text.len() != 24 {
         return INVALID_ARGUMENT;

@@ -15,5 +15,5 @@ negated_fits : (n : ℕ) → n ≤ 999999999999999999 → SFits w64 (neg_ℤ (po
 negated_fits zero h = record { sfits = omega arith }
 negated_fits (suc n) h = record { sfits = omega arith }
 
-pub minus-fits : (n : ℕ) → n ≤ 999999999999999999 → SFits w64 (pos 0 -ℤ to_z w64 n)
-minus-fits n h = rw (to_z-of_z (fits n h), +ℤ_idl (neg_ℤ (pos n))) (negated_fits n h)
+pub minus_fits : (n : ℕ) → n ≤ 999999999999999999 → SFits w64 (pos 0 -ℤ to_z w64 n)
+minus_fits n h = rw (to_z-of_z (fits n h), +ℤ_idl (neg_ℤ (pos n))) (negated_fits n h)

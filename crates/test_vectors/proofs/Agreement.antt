@@ -8,38 +8,38 @@ use borrow.Author.Tests.{leb-true, leb-false, le-leb, lt-leb}
 use lib.Dec.{leb}
 use lib.ListN.{length, take, replicate, length-replicate}
 use Rattle.model.specs.Bytes.{Bytes}
-use Rattle.model.specs.Limits.{maxTextBytes}
+use Rattle.model.specs.Limits.{max_text_bytes}
 use Rattle.model.specs.Judgement.{Judged, done, refuses, answer_of}
-use Rattle.syntax.specs.Layout.{tableBytes, stringsBytes}
+use Rattle.syntax.specs.Layout.{table_bytes, strings_bytes}
 use Rattle.pipeline.specs.Stage.{Stage, passed, refused}
-use Rattle.pipeline.specs.Texts.{TextsRead, evaluateStage}
-use Rattle.jehvrukam.specs.Contract.{entry, areasOf, numbersOf}
-use Rattle.jehvrukam.specs.Entry.{untouched, cellsBytes}
-use Rattle.jehvrukam.specs.Evaluate.{Areas, Evaluated, isInvalid, answered, evaluateAnswer, evaluateEntry}
+use Rattle.pipeline.specs.Texts.{TextsRead, evaluate_stage}
+use Rattle.jehvrukam.specs.Contract.{entry, areas_of, numbers_of}
+use Rattle.jehvrukam.specs.Entry.{untouched, cells_bytes}
+use Rattle.jehvrukam.specs.Evaluate.{Areas, Evaluated, is_invalid, answered, evaluate_answer, evaluate_entry}
 use Rattle.test_vectors.specs.declared.Header.{Header}
 use Rattle.test_vectors.specs.declared.Outcome.{Outcome}
-use Rattle.test_vectors.specs.Cases.{lent, untold, is_whole, isExpected, isText, agreesWith, agreesIn, agreesOn}
+use Rattle.test_vectors.specs.Cases.{lent, untold, is_whole, is_expected, is_text, agrees_with, agrees_in, agrees_on}
 use Rattle.test_vectors.specs.Inner.{Gives}
 
 -- ---- whole texts
-pub not-whole : (n : ℕ) (h : Header) → n < h.end + h.rule + h.«record» + h.answer → false ≡ is_whole n h
-not-whole n h l = sym (lt-leb (h.end + h.rule + h.«record» + h.answer) n l)
+pub not_whole : (n : ℕ) (h : Header) → n < h.end + h.rule + h.«record» + h.answer → false ≡ is_whole n h
+not_whole n h l = sym (lt-leb (h.end + h.rule + h.«record» + h.answer) n l)
 
 pub whole : (n : ℕ) (h : Header) → h.end + h.rule + h.«record» ≤ n → leb h.answer (n - h.end - h.rule - h.«record») ≡ is_whole n h
 whole n h l = go (leb h.answer (n - h.end - h.rule - h.«record»)) refl
   where
     go : (t : Bool) → leb h.answer (n - h.end - h.rule - h.«record») ≡ t → leb h.answer (n - h.end - h.rule - h.«record») ≡ is_whole n h
     go true e = e ∙ sym (le-leb (h.end + h.rule + h.«record» + h.answer) n (omega (arith, leb-true h.answer (n - h.end - h.rule - h.«record») e)))
-    go false e = e ∙ not-whole n h (omega (arith, leb-false h.answer (n - h.end - h.rule - h.«record») e))
+    go false e = e ∙ not_whole n h (omega (arith, leb-false h.answer (n - h.end - h.rule - h.«record») e))
 
 -- ---- what the entry gives
 -- Work areas of their stated sizes.
 pub record Sized (T A R B C : Bytes) : Type 0 where
-  pub rule-rows : length T ≡ tableBytes
-  pub rule-text : length A ≡ stringsBytes
-  pub record-rows : length R ≡ tableBytes
-  pub record-text : length B ≡ stringsBytes
-  pub heap : length C ≡ cellsBytes
+  pub rule_rows : length T ≡ table_bytes
+  pub rule_text_lem : length A ≡ strings_bytes
+  pub record_rows : length R ≡ table_bytes
+  pub record_text_lem : length B ≡ strings_bytes
+  pub heap : length C ≡ cells_bytes
 
 -- All but the work areas is the same.
 record Same (e f : Evaluated) : Type 0 where
@@ -50,47 +50,47 @@ record Same (e f : Evaluated) : Type 0 where
 -- What the entry gives depends on the work areas' sizes only.
 module _ {T A R B C : Bytes} (O : Bytes) (limit : ℕ) (sized : Sized T A R B C) where
   abbrev some : Areas
-  some = areasOf T A R B C O
+  some = areas_of T A R B C O
 
-  valid_same : isInvalid limit some ≡ isInvalid limit (lent O)
+  valid_same : is_invalid limit some ≡ is_invalid limit (lent O)
   valid_same = rw (
-    sized.rule-rows,
-    sized.rule-text,
-    sized.record-rows,
-    sized.record-text,
+    sized.rule_rows,
+    sized.rule_text_lem,
+    sized.record_rows,
+    sized.record_text_lem,
     sized.heap,
-    length-replicate {A = ℕ} tableBytes 0,
-    length-replicate {A = ℕ} stringsBytes 0,
-    length-replicate {A = ℕ} cellsBytes 0,
+    length-replicate {A = ℕ} table_bytes 0,
+    length-replicate {A = ℕ} strings_bytes 0,
+    length-replicate {A = ℕ} cells_bytes 0,
   )
 
-  answered-same : (t : TextsRead) (j : Judged Bytes) (steps : ℕ) → Same (answered some t j steps) (answered (lent O) t j steps)
-  answered-same t (done x) steps = record { refusal = refl; numbers = refl; output = refl }
-  answered-same t (refuses k) steps = record { refusal = refl; numbers = refl; output = refl }
+  answered_same : (t : TextsRead) (j : Judged Bytes) (steps : ℕ) → Same (answered some t j steps) (answered (lent O) t j steps)
+  answered_same t (done x) steps = record { refusal = refl; numbers = refl; output = refl }
+  answered_same t (refuses k) steps = record { refusal = refl; numbers = refl; output = refl }
 
-  stage-same : (x : Stage TextsRead) → Same (evaluateAnswer some limit x) (evaluateAnswer (lent O) limit x)
-  stage-same (refused k which place) = record { refusal = refl; numbers = refl; output = refl }
-  stage-same (passed t) = let x = answer_of t.rule.content t.«record» limit (length O) in answered-same t x.result x.stepsBegun
+  stage_same : (x : Stage TextsRead) → Same (evaluate_answer some limit x) (evaluate_answer (lent O) limit x)
+  stage_same (refused k which place) = record { refusal = refl; numbers = refl; output = refl }
+  stage_same (passed t) = let x = answer_of t.rule.content t.«record» limit (length O) in answered_same t x.result x.steps_begun
 
   abbrev by : Bool → Areas → Stage TextsRead → Evaluated
-  by v a x = elim v [ true ↦ untouched untold a | false ↦ evaluateAnswer a limit x ]
+  by v a x = elim v [ true ↦ untouched untold a | false ↦ evaluate_answer a limit x ]
 
-  by-same : (v : Bool) (x : Stage TextsRead) → Same (by v some x) (by v (lent O) x)
-  by-same true x = record { refusal = refl; numbers = refl; output = refl }
-  by-same false x = stage-same x
+  by_same : (v : Bool) (x : Stage TextsRead) → Same (by v some x) (by v (lent O) x)
+  by_same true x = record { refusal = refl; numbers = refl; output = refl }
+  by_same false x = stage_same x
 
-  entry-same : (rule record' : Bytes) → Same (evaluateEntry rule record' limit some untold) (evaluateEntry rule record' limit (lent O) untold)
-  entry-same rule record' =
-      let x = evaluateStage rule record' in
-      subst (λ (v : Bool). Same (by (isInvalid limit some) some x) (by v (lent O) x)) valid_same (by-same (isInvalid limit some) x)
+  entry_same : (rule record' : Bytes) → Same (evaluate_entry rule record' limit some untold) (evaluate_entry rule record' limit (lent O) untold)
+  entry_same rule record' =
+      let x = evaluate_stage rule record' in
+      subst (λ (v : Bool). Same (by (is_invalid limit some) some x) (by v (lent O) x)) valid_same (by_same (is_invalid limit some) x)
 
 pub entry_gives :
     (rule record' : Bytes) (limit : ℕ) (O : Bytes) {T A R B C : Bytes} {k which place steps size : ℕ} {a : Areas}
     → Sized T A R B C
-    → entry k (numbersOf which place steps size) a ≡ evaluateEntry rule record' limit (areasOf T A R B C O) untold
-    → Gives (evaluateEntry rule record' limit (lent O) untold) (record { refusal = k; which = which; place = place; steps = steps; size = size }) a.work.output
+    → entry k (numbers_of which place steps size) a ≡ evaluate_entry rule record' limit (areas_of T A R B C O) untold
+    → Gives (evaluate_entry rule record' limit (lent O) untold) (record { refusal = k; which = which; place = place; steps = steps; size = size }) a.work.output
 entry_gives rule record' limit O sized e =
-    let same = entry-same O limit sized rule record' in
+    let same = entry_same O limit sized rule record' in
     record {
       refusal = ap (λ (x : Evaluated). x.refusal) e ∙ same.refusal;
       numbers = ap (λ (x : Evaluated). x.numbers) e ∙ same.numbers;
@@ -98,35 +98,35 @@ entry_gives rule record' limit O sized e =
     }
 
 module _ (h : Header) (answer : Bytes) {e : Evaluated} {o : Outcome} {O : Bytes} (g : Gives e o O) where
-  expected-same : isExpected h o.refusal o.which o.place o.steps ≡ isExpected h e.refusal e.numbers.which e.numbers.place e.numbers.steps
-  expected-same = rw (g.refusal, ← g.numbers)
+  expected_same : is_expected h o.refusal o.which o.place o.steps ≡ is_expected h e.refusal e.numbers.which e.numbers.place e.numbers.steps
+  expected_same = rw (g.refusal, ← g.numbers)
 
-  text_same : isText O o.size answer ≡ isText e.areas.work.output e.numbers.size answer
+  text_same : is_text O o.size answer ≡ is_text e.areas.work.output e.numbers.size answer
   text_same = rw (← g.output, ← g.numbers)
 
-  pub unexpected : isExpected h o.refusal o.which o.place o.steps ≡ false → false ≡ agreesWith h e answer
-  unexpected f = rw (sym expected-same ∙ f)
+  pub unexpected : is_expected h o.refusal o.which o.place o.steps ≡ false → false ≡ agrees_with h e answer
+  unexpected f = rw (sym expected_same ∙ f)
 
-  pub as-expected : {r : Bool} → isExpected h o.refusal o.which o.place o.steps ≡ true → r ≡ isText O o.size answer → r ≡ agreesWith h e answer
-  as-expected f t = t ∙ (text_same ∙ rw (sym expected-same ∙ f))
+  pub as_expected : {r : Bool} → is_expected h o.refusal o.which o.place o.steps ≡ true → r ≡ is_text O o.size answer → r ≡ agrees_with h e answer
+  as_expected f t = t ∙ (text_same ∙ rw (sym expected_same ∙ f))
 
 -- ---- the output
-pub take-zeros : (n m : ℕ) → n ≤ m → take n (replicate {A = ℕ} m 0) ≡ replicate n 0
-take-zeros zero m h = refl
-take-zeros (suc n) zero h = absurd (omega arith)
-take-zeros (suc n) (suc m) h = ap (λ (l : Bytes). 0 ∷ l) (take-zeros n m (omega arith))
+pub take_zeros : (n m : ℕ) → n ≤ m → take n (replicate {A = ℕ} m 0) ≡ replicate n 0
+take_zeros zero m h = refl
+take_zeros (suc n) zero h = absurd (omega arith)
+take_zeros (suc n) (suc m) h = ap (λ (l : Bytes). 0 ∷ l) (take_zeros n m (omega arith))
 
-pub zeros-fit : (n m : ℕ) → n ≤ m → n ≤ length (replicate {A = ℕ} m 0)
-zeros-fit n m h = rw (length-replicate {A = ℕ} m 0) h
+pub zeros_fit : (n m : ℕ) → n ≤ m → n ≤ length (replicate {A = ℕ} m 0)
+zeros_fit n m h = rw (length-replicate {A = ℕ} m 0) h
 
-pub zeros-size : (n m : ℕ) → n ≤ m → n ≡ length (take n (replicate {A = ℕ} m 0))
-zeros-size n m h = sym (ap length (take-zeros n m h) ∙ length-replicate {A = ℕ} n 0)
+pub zeros_size : (n m : ℕ) → n ≤ m → n ≡ length (take n (replicate {A = ℕ} m 0))
+zeros_size n m h = sym (ap length (take_zeros n m h) ∙ length-replicate {A = ℕ} n 0)
 
 module _ (h : Header) (rule record' answer : Bytes) where
-  pub no_room : maxTextBytes < h.room → false ≡ agreesOn h rule record' answer
-  unfolding agreesOn
-  no_room l = rw (lt-leb h.room maxTextBytes l)
+  pub no_room : max_text_bytes < h.room → false ≡ agrees_on h rule record' answer
+  unfolding agrees_on
+  no_room l = rw (lt-leb h.room max_text_bytes l)
 
-  pub with-room : {r : Bool} → h.room ≤ maxTextBytes → r ≡ agreesIn h rule record' answer (take h.room (replicate maxTextBytes 0)) → r ≡ agreesOn h rule record' answer
-  unfolding agreesOn
-  with-room l e = rw (le-leb h.room maxTextBytes l, ← take-zeros h.room maxTextBytes l) e
+  pub with_room : {r : Bool} → h.room ≤ max_text_bytes → r ≡ agrees_in h rule record' answer (take h.room (replicate max_text_bytes 0)) → r ≡ agrees_on h rule record' answer
+  unfolding agrees_on
+  with_room l e = rw (le-leb h.room max_text_bytes l, ← take_zeros h.room max_text_bytes l) e

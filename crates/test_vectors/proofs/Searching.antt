@@ -10,13 +10,13 @@ use lib.ListN.{length, get_or, drop, drop_of_length-le, length-drop}
 use lib.Seq.{drop-cons}
 use Rattle.model.specs.Bytes.{Bytes}
 use Rattle.test_vectors.specs.declared.Number.{Number}
-use Rattle.test_vectors.specs.Cases.{number_at, pastFrom, pastByte, header_at}
+use Rattle.test_vectors.specs.Cases.{number_at, past_from, past_byte, header_at}
 use Rattle.test_vectors.specs.Inner.{Past}
 
 -- ---- where it ends
-pub past-from : (b i : ℕ) (s : Bytes) → (i ≤ pastFrom b i s) × (pastFrom b i s ≤ i + length s)
-past-from b i [] = (omega arith, omega arith)
-past-from b i (x ∷ s) = go (eqb x b) (past-from b (suc i) s)
+pub past_from_lem : (b i : ℕ) (s : Bytes) → (i ≤ past_from b i s) × (past_from b i s ≤ i + length s)
+past_from_lem b i [] = (omega arith, omega arith)
+past_from_lem b i (x ∷ s) = go (eqb x b) (past_from_lem b (suc i) s)
   where
     go : {k : ℕ} (t : Bool) → (suc i ≤ k) × (k ≤ suc i + length s) → (i ≤ cond t (suc i) k) × (cond t (suc i) k ≤ i + suc (length s))
     go true m = (omega arith, omega arith)
@@ -26,26 +26,26 @@ past-from b i (x ∷ s) = go (eqb x b) (past-from b (suc i) s)
 -- No such byte stands before place i.
 pub record SeekTo (s : Bytes) (b at i : ℕ) : Type 0 where
   pub inside : at ≤ length s
-  pub is : pastByte s b at ≡ pastFrom b i (drop i s)
+  pub is : past_byte s b at ≡ past_from b i (drop i s)
 
-pub seek-begins : (s : Bytes) (b at : ℕ) → at ≤ length s → SeekTo s b at at
-unfolding pastByte
-seek-begins s b at h = record { inside = h; is = refl }
+pub seek_begins : (s : Bytes) (b at : ℕ) → at ≤ length s → SeekTo s b at at
+unfolding past_byte
+seek_begins s b at h = record { inside = h; is = refl }
 
-found : {s : Bytes} {b at r : ℕ} → at ≤ length s → r ≡ pastByte s b at → Past s b at r
-unfolding pastByte
+found : {s : Bytes} {b at r : ℕ} → at ≤ length s → r ≡ past_byte s b at → Past s b at r
+unfolding past_byte
 found {s} {b} {at} h e =
-    record { is = e; on = omega (arith, (past-from b at (drop at s)).0); inside = omega (arith, (past-from b at (drop at s)).1, length-drop at s) }
+    record { is = e; on = omega (arith, (past_from_lem b at (drop at s)).0); inside = omega (arith, (past_from_lem b at (drop at s)).1, length-drop at s) }
 
 module _ {s : Bytes} {b at i : ℕ} (seek : SeekTo s b at i) where
-  pub seek-stops : i < length s → eqb (get_or s i 0) b ≡ true → Past s b at (i + 1)
-  seek-stops h e = found seek.inside (rw (seek.is, drop-cons s i 0 h, e, add-one))
+  pub seek_stops : i < length s → eqb (get_or s i 0) b ≡ true → Past s b at (i + 1)
+  seek_stops h e = found seek.inside (rw (seek.is, drop-cons s i 0 h, e, add-one))
 
-  pub seek-goes : i < length s → eqb (get_or s i 0) b ≡ false → SeekTo s b at (i + 1)
-  seek-goes h e = record { inside = seek.inside; is = rw add-one (seek.is ∙ rw (drop-cons s i 0 h, e)) }
+  pub seek_goes : i < length s → eqb (get_or s i 0) b ≡ false → SeekTo s b at (i + 1)
+  seek_goes h e = record { inside = seek.inside; is = rw add-one (seek.is ∙ rw (drop-cons s i 0 h, e)) }
 
-  pub seek-ends : length s ≤ i → Past s b at i
-  seek-ends h = found seek.inside (rw (seek.is, drop_of_length-le s h))
+  pub seek_ends : length s ≤ i → Past s b at i
+  seek_ends h = found seek.inside (rw (seek.is, drop_of_length-le s h))
 
 -- ---- a case's first line
 pub header_read :

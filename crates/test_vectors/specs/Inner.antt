@@ -1,16 +1,16 @@
 -- Inner: what the functions of the program do.
 use Rattle.std.specs.Prelude.{◌≡◌, ℕ, ◌+◌, ◌^◌, ◌≤◌, ◌<◌, length}
 use Rattle.model.specs.Bytes.{Bytes}
-use Rattle.jehvrukam.specs.Contract.{numbersOf}
+use Rattle.jehvrukam.specs.Contract.{numbers_of}
 use Rattle.jehvrukam.specs.Evaluate.{Evaluated}
 use Rattle.test_vectors.specs.declared.Case.{Case}
 use Rattle.test_vectors.specs.declared.Outcome.{Outcome}
-use Rattle.test_vectors.specs.Cases.{pastByte, case_at}
+use Rattle.test_vectors.specs.Cases.{past_byte, case_at}
 use Rattle.test_vectors.specs.declared.Tally.{Tally}
 
 -- A place past such a byte.
 pub record Past (s : Bytes) (b at r : ℕ) : Type 0 where
-  pub is : r ≡ pastByte s b at
+  pub is : r ≡ past_byte s b at
   pub on : at ≤ r
   pub inside : r ≤ length s
 
@@ -23,7 +23,7 @@ pub record Ran (s : Bytes) (at : ℕ) (r : Case) : Type 0 where
 -- What the entry told, and the output.
 pub record Gives (e : Evaluated) (o : Outcome) (O : Bytes) : Type 0 where
   pub refusal : o.refusal ≡ e.refusal
-  pub numbers : numbersOf o.which o.place o.steps o.size ≡ e.numbers
+  pub numbers : numbers_of o.which o.place o.steps o.size ≡ e.numbers
   pub output : O ≡ e.areas.work.output
 
 -- One case more can be counted.

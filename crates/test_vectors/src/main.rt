@@ -4,12 +4,12 @@
 // what the definition of the entry gives (`tally_of`).
 ghost use Rattle.std.specs.Prelude.{◌≡◌, true, ◌+◌, ◌*◌, ◌≤◌, ◌<◌, length};
 ghost use Rattle.io.specs.Counts.{IsPrefixLen};
-ghost use Rattle.model.specs.Bytes.{digitValue};
-ghost use Rattle.jehvrukam.specs.Evaluate.{evaluateEntry};
-ghost use Rattle.test_vectors.specs.Cases.{takesDigit, number_at, header_at, is_whole, lent, untold, isExpected, isText, agreesIn, agreesOn, counted, tally_of};
+ghost use Rattle.model.specs.Bytes.{digit_value};
+ghost use Rattle.jehvrukam.specs.Evaluate.{evaluate_entry};
+ghost use Rattle.test_vectors.specs.Cases.{takes_digit, number_at, header_at, is_whole, lent, untold, is_expected, is_text, agrees_in, agrees_on, counted, tally_of};
 ghost use Rattle.test_vectors.specs.Inner.{Past, Gives, Ran, Few};
 
-use bytes::same;
+use octets::same;
 use heap::cell::CELL_BYTES;
 use jehvrukam::jehvrukam_evaluate;
 use libc::STDOUT_FILENO;
@@ -72,7 +72,7 @@ struct Tally {
 
 // Whether a byte is a digit, and the number with this digit more fits.
 fn takes_digit(n: u64, x: u8) -> bool
-    ensures { result ≡ takesDigit n x }
+    ensures { result ≡ takes_digit n x }
 {
     if x < b'0' {
         return false;
@@ -84,8 +84,8 @@ fn takes_digit(n: u64, x: u8) -> bool
 }
 
 fn with_digit(n: u64, x: u8) -> u64
-    requires { takesDigit n x ≡ true }
-    ensures { result ≡ n * 10 + digitValue x }
+    requires { takes_digit n x ≡ true }
+    ensures { result ≡ n * 10 + digit_value x }
 {
     n * 10 + (x - b'0') as u64
 }
@@ -184,7 +184,7 @@ fn evaluate_in(
     cells: &mut [u8; CELLS_BYTES],
     output: &mut [u8],
 ) -> Outcome
-    ensures { Gives (evaluateEntry rule.now «record».now limit (lent output.old) untold) result output.new }
+    ensures { Gives (evaluate_entry rule.now «record».now limit (lent output.old) untold) result output.new }
 {
     let mut which: u64 = 0;
     let mut place: u64 = 0;
@@ -216,7 +216,7 @@ fn evaluate_in(
 
 // The same in areas of its own: the proof of the function above does not know their bytes, and so computes with none.
 fn evaluate(rule: &[u8], record: &[u8], limit: u64, output: &mut [u8]) -> Outcome
-    ensures { Gives (evaluateEntry rule.now «record».now limit (lent output.old) untold) result output.new }
+    ensures { Gives (evaluate_entry rule.now «record».now limit (lent output.old) untold) result output.new }
 {
     let mut rule_table = [0u8; TABLE_BYTES];
     let mut rule_strings = [0u8; STRINGS_BYTES];
@@ -237,7 +237,7 @@ fn evaluate(rule: &[u8], record: &[u8], limit: u64, output: &mut [u8]) -> Outcom
 }
 
 fn is_expected(h: Header, o: Outcome) -> bool
-    ensures { result ≡ isExpected h o.refusal o.which o.place o.steps }
+    ensures { result ≡ is_expected h o.refusal o.which o.place o.steps }
 {
     if o.refusal as u64 != h.refusal {
         return false;
@@ -253,7 +253,7 @@ fn is_expected(h: Header, o: Outcome) -> bool
 
 // Whether a text of this size stands at the start of the output.
 fn is_text(output: &[u8], size: u64, text: &[u8]) -> bool
-    ensures { result ≡ isText output.now size text.now }
+    ensures { result ≡ is_text output.now size text.now }
 {
     let n = text.len();
     if size != n as u64 {
@@ -266,7 +266,7 @@ fn is_text(output: &[u8], size: u64, text: &[u8]) -> bool
 }
 
 fn agrees_in(h: Header, rule: &[u8], record: &[u8], answer: &[u8], output: &mut [u8]) -> bool
-    ensures { result ≡ agreesIn h rule.now «record».now answer.now output.old }
+    ensures { result ≡ agrees_in h rule.now «record».now answer.now output.old }
 {
     let o = evaluate(rule, record, h.limit, output);
     if !is_expected(h, o) {
@@ -277,7 +277,7 @@ fn agrees_in(h: Header, rule: &[u8], record: &[u8], answer: &[u8], output: &mut 
 
 // With an output of the room that the case has.
 fn agrees(h: Header, rule: &[u8], record: &[u8], answer: &[u8]) -> bool
-    ensures { result ≡ agreesOn h rule.now «record».now answer.now }
+    ensures { result ≡ agrees_on h rule.now «record».now answer.now }
 {
     let room = h.room as usize;
     if room > OUTPUT_BYTES {

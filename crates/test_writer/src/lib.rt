@@ -1,8 +1,8 @@
 // The writer for callers in C: what the host's tests and benchmarks link. Not a part of the product's library.
 ghost use Rattle.std.specs.Prelude.{◌≡◌, length};
-ghost use Rattle.heap.specs.Cells.{cellHandle};
+ghost use Rattle.heap.specs.Cells.{cell_handle};
 ghost use Rattle.heap.specs.Unfold.{areas};
-ghost use Rattle.writer.specs.Contract.{handleWritten};
+ghost use Rattle.writer.specs.Contract.{handle_written};
 ghost use Rattle.test_writer.specs.Contract.{told};
 
 use heap::cell::get;
@@ -26,7 +26,7 @@ pub extern "C" fn writer_write<'a>(
     output: &mut [u8],
     size: &mut u64,
 ) -> u32
-    ensures { told result size.new output.new ≡ handleWritten (areas rule_strings.now record_strings.now record_table.now cells.now) (cellHandle cells.now cell) (length output.old) }
+    ensures { told result size.new output.new ≡ handle_written (areas rule_strings.now record_strings.now record_table.now cells.now) (cell_handle cells.now cell) (length output.old) }
 {
     let h = get(cells, cell as usize);
     let answer = write(rule_strings, record_strings, record_table, cells, h, output);

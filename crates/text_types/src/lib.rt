@@ -1,16 +1,16 @@
 // The type that a text names, and the types that a text has.
 ghost use Rattle.std.specs.Prelude.{◌≡◌};
-ghost use Rattle.model.specs.DateText.{isDate, isDay};
-ghost use Rattle.model.specs.Result.{isOk};
+ghost use Rattle.model.specs.DateText.{is_date, is_day};
+ghost use Rattle.model.specs.Result.{is_ok};
 ghost use Rattle.model.specs.Rule.{Literal};
-ghost use Rattle.model.specs.Sheet.{words, typeNamed};
-ghost use Rattle.model.specs.TypeCheck.{literalTypes};
-ghost use Rattle.bytes.specs.Names.{entry_at};
-ghost use Rattle.calendar.specs.Contract.{dateResult};
-ghost use Rattle.type_set.specs.Contract.{setOf};
+ghost use Rattle.model.specs.Sheet.{words, type_named};
+ghost use Rattle.model.specs.TypeCheck.{literal_types};
+ghost use Rattle.octets.specs.Names.{entry_at};
+ghost use Rattle.calendar.specs.Contract.{date_result};
+ghost use Rattle.type_set.specs.Contract.{set_of};
 ghost use Rattle.text_types.specs.Contract.{type_of};
 
-use bytes::names::{Position, position_of};
+use octets::names::{Position, position_of};
 use calendar::instant::DateAnswer;
 use dates::{read_date, read_day};
 use model::Ty;
@@ -43,7 +43,7 @@ fn type_at(i: usize) -> TypeAnswer
 
 // The type that a word of a sheet names.
 pub fn type_named(name: &[u8]) -> TypeAnswer
-    ensures { type_of result ≡ typeNamed name.now }
+    ensures { type_of result ≡ type_named name.now }
 {
     let names = b"null boolean integer string date day integers strings array object ";
     let sizes = [4, 7, 7, 6, 4, 3, 8, 7, 5, 6];
@@ -55,7 +55,7 @@ pub fn type_named(name: &[u8]) -> TypeAnswer
 
 // Whether a date text's answer is an instant.
 fn is_instant(a: DateAnswer) -> bool
-    ensures { result ≡ isOk (dateResult a) }
+    ensures { result ≡ is_ok (date_result a) }
 {
     match a {
         DateAnswer::At(_) => true,
@@ -66,21 +66,21 @@ fn is_instant(a: DateAnswer) -> bool
 
 // "day (one of the first three)"
 pub fn is_day(text: &[u8]) -> bool
-    ensures { result ≡ isDay text.now }
+    ensures { result ≡ is_day text.now }
 {
     is_instant(read_day(text))
 }
 
 // "date (a string in one of the nineteen forms, instant in range)"
 pub fn is_date(text: &[u8]) -> bool
-    ensures { result ≡ isDate text.now }
+    ensures { result ≡ is_date text.now }
 {
     is_instant(read_date(text))
 }
 
 // "A string literal is day, else date, else string."
 pub fn types_of(text: &[u8]) -> TypeSet
-    ensures { result ≡ setOf (literalTypes (Literal.string text.now)) }
+    ensures { result ≡ set_of (literal_types (Literal.string text.now)) }
 {
     if is_day(text) {
         return only(Ty::Day);

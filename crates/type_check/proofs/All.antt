@@ -3,12 +3,12 @@ use mathlib.Core.Path.{◌≡◌, refl, ap, ◌∙◌, subst}
 use Prim.Native.Nat.{◌≤◌}
 use native.Mathlib.Omega.{arith}
 use Rattle.model.specs.Bytes.{Bytes}
-use Rattle.model.specs.Rule.{Rules, no-rules, rule}
-use Rattle.model.specs.TypeCheck.{Env as ModelEnv, typesForAll, acceptsAll}
+use Rattle.model.specs.Rule.{Rules, no_rules, rule}
+use Rattle.model.specs.TypeCheck.{Env as ModelEnv, types_for_all, accepts_all}
 use Rattle.rule.specs.Holds.{HoldsAll}
-use Rattle.rule.specs.Laws.Holds.{holds-count, holds_parts}
+use Rattle.rule.specs.Laws.Holds.{holds_count, holds_parts}
 use Rattle.table.specs.declared.node.Rows.{Rows}
-use Rattle.table.specs.Node.{tailOf}
+use Rattle.table.specs.Node.{tail_of}
 use Rattle.type_set.specs.declared.set.TypeSet.{TypeSet}
 use Rattle.type_check.specs.declared.env.Scope.{Scope}
 use Rattle.type_check.specs.declared.found.Found.{Found}
@@ -16,50 +16,50 @@ use Rattle.type_check.specs.declared.found.Found.TheVariants.{NotAccepted, Types
 use Rattle.type_check.specs.declared.operation.FoundAll.{FoundAll}
 use Rattle.type_check.specs.declared.operation.FoundAll.TheVariants as FoundsAll
 use Rattle.type_check.specs.declared.operation.Operands.{Operands}
-use Rattle.type_check.specs.ByRows.{noOperands, oneMore, rowsFound, found_at}
-use Rattle.type_check.specs.Inner.{Stands, operandsAfter, allFoundBy, Finds, FindsAll}
+use Rattle.type_check.specs.ByRows.{no_operands, one_more, rows_found, found_at}
+use Rattle.type_check.specs.Inner.{Stands, operands_after, all_found_by, Finds, FindsAll}
 use Rattle.type_check.proofs.Operand.{found, refused}
-use Rattle.type_check.proofs.Rows.{rows-stop, rows_next}
+use Rattle.type_check.proofs.Rows.{rows_stop, rows_next}
 
 -- What is found for those that are left, after these operands.
 pub record Rest (T A S Z : Bytes) (s : Scope) (o : Operands) (q : Rows) (r : FoundAll) : Type 0 where
-  pub byRows : r ≡ rowsFound (found_at T A S Z s.deep s.env) T o q.first q.count
-  pub is : (rs : Rules) (e : ModelEnv) → HoldsAll T A s.deep q rs → Stands S Z s.env e → r ≡ allFoundBy (acceptsAll rs e) (operandsAfter o (typesForAll rs e))
+  pub by_rows : r ≡ rows_found (found_at T A S Z s.deep s.env) T o q.first q.count
+  pub is : (rs : Rules) (e : ModelEnv) → HoldsAll T A s.deep q rs → Stands S Z s.env e → r ≡ all_found_by (accepts_all rs e) (operands_after o (types_for_all rs e))
 
 module _ {T A S Z : Bytes} {s : Scope} where
-  pub all_found : {o : Operands} {q : Rows} {r : FoundAll} → o ≡ noOperands → Rest T A S Z s o q r → FindsAll T A S Z q s r
+  pub all_found : {o : Operands} {q : Rows} {r : FoundAll} → o ≡ no_operands → Rest T A S Z s o q r → FindsAll T A S Z q s r
   all_found {q = q} {r = r} a f =
       let y = subst (λ o. Rest T A S Z s o q r) a f in
-      record { byRows = y.byRows; is = y.is }
+      record { by_rows = y.by_rows; is = y.is }
 
   -- No operand is left.
-  pub rest-done : (o : Operands) (q : Rows) → q.count ≡ 0 → Rest T A S Z s o q (FoundsAll.Types o)
-  unfolding acceptsAll typesForAll
-  rest-done o q n = record { byRows = rw n; is = go }
+  pub rest_done : (o : Operands) (q : Rows) → q.count ≡ 0 → Rest T A S Z s o q (FoundsAll.Types o)
+  unfolding accepts_all types_for_all
+  rest_done o q n = record { by_rows = rw n; is = go }
     where
-      go : (rs : Rules) (e : ModelEnv) → HoldsAll T A s.deep q rs → Stands S Z s.env e → FoundsAll.Types o ≡ allFoundBy (acceptsAll rs e) (operandsAfter o (typesForAll rs e))
-      go no-rules e k z = refl
-      go (rule ρ rs) e k z = absurd (omega (arith, holds-count k))
+      go : (rs : Rules) (e : ModelEnv) → HoldsAll T A s.deep q rs → Stands S Z s.env e → FoundsAll.Types o ≡ all_found_by (accepts_all rs e) (operands_after o (types_for_all rs e))
+      go no_rules e k z = refl
+      go (rule ρ rs) e k z = absurd (omega (arith, holds_count k))
 
   module _ (q : Rows) {x : Found} (f : Finds T A S Z q.first s x) (more : 1 ≤ q.count) where
     -- The first is not accepted.
-    pub rest-stops : (o : Operands) → x ≡ NotAccepted → Rest T A S Z s o q FoundsAll.NotAccepted
-    unfolding acceptsAll typesForAll
-    rest-stops o a = record { byRows = rows-stop (found_at T A S Z s.deep s.env) T o q more f.byRows a; is = go }
+    pub rest_stops : (o : Operands) → x ≡ NotAccepted → Rest T A S Z s o q FoundsAll.NotAccepted
+    unfolding accepts_all types_for_all
+    rest_stops o a = record { by_rows = rows_stop (found_at T A S Z s.deep s.env) T o q more f.by_rows a; is = go }
       where
-        go : (rs : Rules) (e : ModelEnv) → HoldsAll T A s.deep q rs → Stands S Z s.env e → FoundsAll.NotAccepted ≡ allFoundBy (acceptsAll rs e) (operandsAfter o (typesForAll rs e))
-        go no-rules e k z = absurd (omega (arith, holds-count k))
+        go : (rs : Rules) (e : ModelEnv) → HoldsAll T A s.deep q rs → Stands S Z s.env e → FoundsAll.NotAccepted ≡ all_found_by (accepts_all rs e) (operands_after o (types_for_all rs e))
+        go no_rules e k z = absurd (omega (arith, holds_count k))
         go (rule ρ rs) e k z = rw (refused f a (holds_parts k).head z)
 
     -- It is: the others decide.
-    pub rest-goes-on : (o : Operands) {t : TypeSet} {o₁ : Operands} {q₁ : Rows} {r : FoundAll} → x ≡ Accepted t → o₁ ≡ oneMore o t → q₁ ≡ tailOf T q → Rest T A S Z s o₁ q₁ r → Rest T A S Z s o q r
-    unfolding acceptsAll typesForAll
-    rest-goes-on o {t} {o₁} {q₁} {r} a b c d = record { byRows = rows_next (found_at T A S Z s.deep s.env) T o q more f.byRows a b c d.byRows; is = go }
+    pub rest_goes_on : (o : Operands) {t : TypeSet} {o₁ : Operands} {q₁ : Rows} {r : FoundAll} → x ≡ Accepted t → o₁ ≡ one_more o t → q₁ ≡ tail_of T q → Rest T A S Z s o₁ q₁ r → Rest T A S Z s o q r
+    unfolding accepts_all types_for_all
+    rest_goes_on o {t} {o₁} {q₁} {r} a b c d = record { by_rows = rows_next (found_at T A S Z s.deep s.env) T o q more f.by_rows a b c d.by_rows; is = go }
       where
-        go : (rs : Rules) (e : ModelEnv) → HoldsAll T A s.deep q rs → Stands S Z s.env e → r ≡ allFoundBy (acceptsAll rs e) (operandsAfter o (typesForAll rs e))
-        go no-rules e k z = absurd (omega (arith, holds-count k))
+        go : (rs : Rules) (e : ModelEnv) → HoldsAll T A s.deep q rs → Stands S Z s.env e → r ≡ all_found_by (accepts_all rs e) (operands_after o (types_for_all rs e))
+        go no_rules e k z = absurd (omega (arith, holds_count k))
         go (rule ρ rs) e k z =
             let p = holds_parts k in
             let y = found f a p.head z in
             rw y.ok
-            (d.is rs e (rw c p.rest) z ∙ ap (λ o. allFoundBy (acceptsAll rs e) (operandsAfter o (typesForAll rs e))) (b ∙ ap (oneMore o) y.is))
+            (d.is rs e (rw c p.rest) z ∙ ap (λ o. all_found_by (accepts_all rs e) (operands_after o (types_for_all rs e))) (b ∙ ap (one_more o) y.is))

@@ -5,34 +5,34 @@ use Prim.Native.Nat.{ℕ}
 use Rattle.model.specs.Bytes.{Bytes}
 use Rattle.model.specs.Laws.Logic.{clash}
 use Rattle.model.specs.Rule.{Rule}
-use Rattle.model.specs.TypeCheck.{Env as ModelEnv, typesFor, accepts}
+use Rattle.model.specs.TypeCheck.{Env as ModelEnv, types_for, accepts}
 use Rattle.rule.specs.Holds.{Holds}
 use Rattle.type_set.specs.declared.set.TypeSet.{TypeSet}
-use Rattle.type_set.specs.Contract.{setOf}
+use Rattle.type_set.specs.Contract.{set_of}
 use Rattle.type_check.specs.declared.env.Scope.{Scope}
 use Rattle.type_check.specs.declared.found.Found.{Found}
 use Rattle.type_check.specs.declared.found.Found.TheVariants.{NotAccepted, Types as Accepted}
-use Rattle.type_check.specs.ByRows.{acceptedAs}
+use Rattle.type_check.specs.ByRows.{accepted_as}
 use Rattle.type_check.specs.Inner.{Stands, Finds}
 
 -- Types are found: the rule is accepted, and they are its own.
 pub record Accepts (ρ : Rule) (e : ModelEnv) (t : TypeSet) : Type 0 where
   pub ok : accepts ρ e ≡ true
-  pub is : t ≡ setOf (typesFor ρ e)
+  pub is : t ≡ set_of (types_for ρ e)
 
-is-accepted : (b : Bool) (s : TypeSet) {t : TypeSet} → Accepted t ≡ acceptedAs b s → (b ≡ true) × (t ≡ s)
-is-accepted true s e = (refl, cc)
-is-accepted false s e = clash cc
+is_accepted : (b : Bool) (s : TypeSet) {t : TypeSet} → Accepted t ≡ accepted_as b s → (b ≡ true) × (t ≡ s)
+is_accepted true s e = (refl, cc)
+is_accepted false s e = clash cc
 
-not-accepted : (b : Bool) (s : TypeSet) → NotAccepted ≡ acceptedAs b s → b ≡ false
-not-accepted true s e = clash cc
-not-accepted false s e = refl
+not_accepted_lem : (b : Bool) (s : TypeSet) → NotAccepted ≡ accepted_as b s → b ≡ false
+not_accepted_lem true s e = clash cc
+not_accepted_lem false s e = refl
 
 module _ {T A S Z : Bytes} {row : ℕ} {s : Scope} {x : Found} (f : Finds T A S Z row s x) {ρ : Rule} {e : ModelEnv} where
   pub found : {t : TypeSet} → x ≡ Accepted t → Holds T A s.deep row ρ → Stands S Z s.env e → Accepts ρ e t
   found a k z =
-      let (b, c) = is-accepted (accepts ρ e) (setOf (typesFor ρ e)) (sym a ∙ f.is ρ e k z) in
+      let (b, c) = is_accepted (accepts ρ e) (set_of (types_for ρ e)) (sym a ∙ f.is ρ e k z) in
       record { ok = b; is = c }
 
   pub refused : x ≡ NotAccepted → Holds T A s.deep row ρ → Stands S Z s.env e → accepts ρ e ≡ false
-  refused a k z = not-accepted (accepts ρ e) (setOf (typesFor ρ e)) (sym a ∙ f.is ρ e k z)
+  refused a k z = not_accepted_lem (accepts ρ e) (set_of (types_for ρ e)) (sym a ∙ f.is ρ e k z)

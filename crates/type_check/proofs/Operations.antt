@@ -8,113 +8,113 @@ use lib.ListN.{length}
 use Rattle.model.specs.Laws.Logic.{clash}
 use Rattle.model.specs.Lists.{any}
 use Rattle.model.specs.Rule.{Operation}
-use Rattle.model.specs.TypeCheck.{oneOperand, twoOperands, everyOperand, domainType, allowed, arrayTypes, given, union}
-use Rattle.model.specs.Types.{Types, passes, supertypes, isIn, scalars, anyOfRecord}
+use Rattle.model.specs.TypeCheck.{one_operand, two_operands, every_operand, domain_type, allowed, array_types, given, union}
+use Rattle.model.specs.Types.{Types, passes, supertypes, is_in, scalars, any_of_record}
 use Rattle.model.specs.declared.Ty.TheVariants as Ty
 use Rattle.keywords.specs.declared.Op.{Op}
-use Rattle.keywords.specs.Contract.{Stands, stands-array, stands-equal, stands-member-of, stands-plus, stands-not, stands-date-of-birth, stands-compare, stands-plus-time, stands-extract}
+use Rattle.keywords.specs.Contract.{Stands, stands_array, stands_equal, stands_member_of, stands_plus, stands_not, stands_date_of_birth, stands_compare, stands_plus_time, stands_extract}
 use Rattle.type_set.specs.declared.set.TypeSet.{TypeSet}
-use Rattle.type_set.specs.Contract.{setOf, types_in}
-use Rattle.type_set.specs.Laws.Set.{union-set, passes-set}
+use Rattle.type_set.specs.Contract.{set_of, types_in}
+use Rattle.type_set.specs.Laws.Set.{union_set, passes_set}
 use Rattle.type_check.specs.declared.found.Found.TheVariants.{Types as Accepted}
 use Rattle.type_check.specs.declared.operation.Operands.{Operands}
-use Rattle.type_check.specs.ByRows.{acceptedAs, passAs, passingAs, arrayBy, memberBy, all_of, noOperands, oneMore, branchesBy, andBy, operationOn, operationBy}
-use Rattle.type_check.specs.Inner.{foundBy, allFoundBy, operandsAfter}
+use Rattle.type_check.specs.ByRows.{accepted_as, pass_as, passing_as, array_by, member_by, all_of, no_operands, one_more, branches_by, and_by, operation_on, operation_by}
+use Rattle.type_check.specs.Inner.{found_by, all_found_by, operands_after}
 
 -- ---- the types of operands
 -- The operands with these types.
 abbrev pub operands : List Types → Operands
-operands = operandsAfter noOperands
+operands = operands_after no_operands
 
-all_after : (o : Operands) (ts : Types) (l : List Types) → all_of o ≡ setOf ts → all_of (operandsAfter o l) ≡ setOf (ts ++ union l)
+all_after : (o : Operands) (ts : Types) (l : List Types) → all_of o ≡ set_of ts → all_of (operands_after o l) ≡ set_of (ts ++ union l)
 all_after o ts [] e = rw (append-nil ts) e
 all_after o ts (us ∷ l) e =
     rw (← append_assoc ts us (union l))
-    (all_after (oneMore o (setOf us)) (ts ++ us) l (ap (λ s. setOf (types_in s ++ types_in (setOf us))) e ∙ union-set ts us))
+    (all_after (one_more o (set_of us)) (ts ++ us) l (ap (λ s. set_of (types_in s ++ types_in (set_of us))) e ∙ union_set ts us))
 
 -- The types that any operand has.
-pub all-is : (l : List Types) → all_of (operands l) ≡ setOf (union l)
-all-is l = all_after noOperands [] l (union-set [] [])
+pub all_is : (l : List Types) → all_of (operands l) ≡ set_of (union l)
+all_is l = all_after no_operands [] l (union_set [] [])
 
 -- Of two operands the first.
-first-is : (ts us : Types) → (operands (ts ∷ us ∷ [])).before ≡ setOf ts
-first-is ts us = all-is (ts ∷ []) ∙ ap setOf (append-nil ts)
+first_is : (ts us : Types) → (operands (ts ∷ us ∷ [])).before ≡ set_of ts
+first_is ts us = all_is (ts ∷ []) ∙ ap set_of (append-nil ts)
 
 -- ---- passing
 passes_append : (ts us a : Types) → passes (ts ++ us) a ≡ (passes ts a && passes us a)
 passes_append [] us a = refl
-passes_append (t ∷ ts) us a = ap (λ b. any (isIn a) (supertypes t) && b) (passes_append ts us a) ∙ sym (and_assoc (any (isIn a) (supertypes t)) (passes ts a) (passes us a))
+passes_append (t ∷ ts) us a = ap (λ b. any (is_in a) (supertypes t) && b) (passes_append ts us a) ∙ sym (and_assoc (any (is_in a) (supertypes t)) (passes ts a) (passes us a))
 
 -- Every operand's types pass when those of any do.
-every : (a : Types) (l : List Types) → passes (union l) a ≡ everyOperand a l
+every : (a : Types) (l : List Types) → passes (union l) a ≡ every_operand a l
 every a [] = refl
 every a (x ∷ l) = passes_append x (union l) a ∙ ap (λ b. passes x a && b) (every a l)
 
-one : (a : Types) (l : List Types) → length l ≡ 1 → everyOperand a l ≡ oneOperand a l
+one : (a : Types) (l : List Types) → length l ≡ 1 → every_operand a l ≡ one_operand a l
 one a [] n = clash n
 one a (x ∷ []) n = and-true (passes x a)
 one a (x ∷ y ∷ l) n = absurd (omega arith)
 
-two : (a : Types) (l : List Types) → length l ≡ 2 → everyOperand a l ≡ twoOperands a a l
+two : (a : Types) (l : List Types) → length l ≡ 2 → every_operand a l ≡ two_operands a a l
 two a [] n = absurd (omega arith)
 two a (x ∷ []) n = absurd (omega arith)
 two a (x ∷ y ∷ []) n = ap (λ b. passes x a && b) (and-true (passes y a))
 two a (x ∷ y ∷ z ∷ l) n = absurd (omega arith)
 
 -- The code asks whether a set passes where another is allowed.
-pub passed : (a : Types) (s : TypeSet) {u : TypeSet} {b : Bool} → u ≡ setOf a → b ≡ passes (types_in s) (types_in u) → passAs s a ≡ b
+pub passed : (a : Types) (s : TypeSet) {u : TypeSet} {b : Bool} → u ≡ set_of a → b ≡ passes (types_in s) (types_in u) → pass_as s a ≡ b
 passed a s e f = sym (rw e at f)
 
-pass-every : (a : Types) (l : List Types) → passAs (all_of (operands l)) a ≡ everyOperand a l
-pass-every a l = ap (λ s. passAs s a) (all-is l) ∙ (passes-set (union l) a ∙ every a l)
+pass_every : (a : Types) (l : List Types) → pass_as (all_of (operands l)) a ≡ every_operand a l
+pass_every a l = ap (λ s. pass_as s a) (all_is l) ∙ (passes_set (union l) a ∙ every a l)
 
 -- ---- an array
-by_tests : (b c : Bool) → cond b (setOf (Ty.Integers ∷ [])) (cond c (setOf (Ty.Strings ∷ [])) (setOf (Ty.Array ∷ []))) ≡ setOf (cond b (Ty.Integers ∷ []) (cond c (Ty.Strings ∷ []) (Ty.Array ∷ [])))
+by_tests : (b c : Bool) → cond b (set_of (Ty.Integers ∷ [])) (cond c (set_of (Ty.Strings ∷ [])) (set_of (Ty.Array ∷ []))) ≡ set_of (cond b (Ty.Integers ∷ []) (cond c (Ty.Strings ∷ []) (Ty.Array ∷ [])))
 by_tests true c = refl
 by_tests false true = refl
 by_tests false false = refl
 
-array-is : (l : List Types) → arrayBy (all_of (operands l)) ≡ setOf (arrayTypes l)
-array-is l = rw (pass-every (Ty.Integer ∷ []) l, pass-every (Ty.String ∷ []) l) (by_tests (everyOperand (Ty.Integer ∷ []) l) (everyOperand (Ty.String ∷ []) l))
+array_is : (l : List Types) → array_by (all_of (operands l)) ≡ set_of (array_types l)
+array_is l = rw (pass_every (Ty.Integer ∷ []) l, pass_every (Ty.String ∷ []) l) (by_tests (every_operand (Ty.Integer ∷ []) l) (every_operand (Ty.String ∷ []) l))
 
 -- ---- `in`
-member_is : (l : List Types) → length l ≡ 2 → memberBy (operands l).before (operands l).last ≡ foundBy (twoOperands scalars (Ty.Array ∷ []) l) (Ty.Boolean ∷ [])
+member_is : (l : List Types) → length l ≡ 2 → member_by (operands l).before (operands l).last ≡ found_by (two_operands scalars (Ty.Array ∷ []) l) (Ty.Boolean ∷ [])
 member_is [] n = absurd (omega arith)
 member_is (x ∷ []) n = absurd (omega arith)
 member_is (x ∷ y ∷ []) n =
-    ap (λ b. foundBy b (Ty.Boolean ∷ []))
-    (ap₂ ◌&&◌ (ap (λ s. passAs s scalars) (first-is x y) ∙ passes-set x scalars) (passes-set y (Ty.Array ∷ [])))
+    ap (λ b. found_by b (Ty.Boolean ∷ []))
+    (ap₂ ◌&&◌ (ap (λ s. pass_as s scalars) (first_is x y) ∙ passes_set x scalars) (passes_set y (Ty.Array ∷ [])))
 member_is (x ∷ y ∷ z ∷ l) n = absurd (omega arith)
 
 -- ---- operations
 -- Every operand passes where these are allowed.
-passing-is : (a g : Types) (l : List Types) {b : Bool} → everyOperand a l ≡ b → passingAs (all_of (operands l)) a g ≡ foundBy b g
-passing-is a g l e = ap (λ b. foundBy b g) (pass-every a l ∙ e)
+passing_is : (a g : Types) (l : List Types) {b : Bool} → every_operand a l ≡ b → passing_as (all_of (operands l)) a g ≡ found_by b g
+passing_is a g l e = ap (λ b. found_by b g) (pass_every a l ∙ e)
 
-operation-is : {op : Op} {o : Operation} {n : ℕ} (l : List Types) → Stands op o n → length l ≡ n → operationOn op (operands l) ≡ foundBy (allowed o l) (given o l)
-operation-is l stands-array n = ap Accepted (array-is l)
-operation-is l (stands-equal e) n = passing-is scalars (Ty.Boolean ∷ []) l (two scalars l (n ∙ e))
-operation-is l (stands-member-of e) n = member_is l (n ∙ e)
-operation-is l (stands-plus e) n = passing-is (Ty.Integer ∷ []) (Ty.Integer ∷ []) l (two (Ty.Integer ∷ []) l (n ∙ e))
-operation-is l (stands-not e) n = passing-is anyOfRecord (Ty.Boolean ∷ []) l (one anyOfRecord l (n ∙ e))
-operation-is l (stands-date-of-birth e) n = passing-is (Ty.Day ∷ []) (Ty.Instant ∷ []) l (one (Ty.Day ∷ []) l (n ∙ e))
-operation-is l (stands-compare {d = d} x y) n = passing-is (domainType d ∷ []) (Ty.Boolean ∷ []) l refl
-operation-is l (stands-plus-time e x y) n = passing-is (Ty.Date ∷ []) (Ty.Instant ∷ []) l (one (Ty.Date ∷ []) l (n ∙ e))
-operation-is l (stands-extract e x y) n = passing-is (Ty.Null ∷ Ty.String ∷ []) (Ty.Null ∷ Ty.String ∷ []) l (one (Ty.Null ∷ Ty.String ∷ []) l (n ∙ e))
+operation_is : {op : Op} {o : Operation} {n : ℕ} (l : List Types) → Stands op o n → length l ≡ n → operation_on op (operands l) ≡ found_by (allowed o l) (given o l)
+operation_is l stands_array n = ap Accepted (array_is l)
+operation_is l (stands_equal e) n = passing_is scalars (Ty.Boolean ∷ []) l (two scalars l (n ∙ e))
+operation_is l (stands_member_of e) n = member_is l (n ∙ e)
+operation_is l (stands_plus e) n = passing_is (Ty.Integer ∷ []) (Ty.Integer ∷ []) l (two (Ty.Integer ∷ []) l (n ∙ e))
+operation_is l (stands_not e) n = passing_is any_of_record (Ty.Boolean ∷ []) l (one any_of_record l (n ∙ e))
+operation_is l (stands_date_of_birth e) n = passing_is (Ty.Day ∷ []) (Ty.Instant ∷ []) l (one (Ty.Day ∷ []) l (n ∙ e))
+operation_is l (stands_compare {d = d} x y) n = passing_is (domain_type d ∷ []) (Ty.Boolean ∷ []) l refl
+operation_is l (stands_plus_time e x y) n = passing_is (Ty.Date ∷ []) (Ty.Instant ∷ []) l (one (Ty.Date ∷ []) l (n ∙ e))
+operation_is l (stands_extract e x y) n = passing_is (Ty.Null ∷ Ty.String ∷ []) (Ty.Null ∷ Ty.String ∷ []) l (one (Ty.Null ∷ Ty.String ∷ []) l (n ∙ e))
 
 -- ---- whether all operands are accepted
-pub operation-by : {op : Op} {o : Operation} {n : ℕ} (b : Bool) (l : List Types) → Stands op o n → length l ≡ n → operationBy op (allFoundBy b (operands l)) ≡ foundBy (b && allowed o l) (given o l)
-operation-by true l s n = operation-is l s n
-operation-by false l s n = refl
+pub operation_by_lem : {op : Op} {o : Operation} {n : ℕ} (b : Bool) (l : List Types) → Stands op o n → length l ≡ n → operation_by op (all_found_by b (operands l)) ≡ found_by (b && allowed o l) (given o l)
+operation_by_lem true l s n = operation_is l s n
+operation_by_lem false l s n = refl
 
 -- `and` asks the operands one by one.
-pub and-by : (b c : Bool) (ts : Types) (l : List Types) → andBy (allFoundBy (b && c) (operands (ts ∷ l))) ≡ foundBy (b && (passes ts anyOfRecord && (c && everyOperand anyOfRecord l))) (ts ++ union l)
-and-by false c ts l = refl
-and-by true false ts l = rw (and-false (passes ts anyOfRecord))
-and-by true true ts l = ap₂ acceptedAs (pass-every anyOfRecord (ts ∷ l)) (all-is (ts ∷ l))
+pub and_by_lem : (b c : Bool) (ts : Types) (l : List Types) → and_by (all_found_by (b && c) (operands (ts ∷ l))) ≡ found_by (b && (passes ts any_of_record && (c && every_operand any_of_record l))) (ts ++ union l)
+and_by_lem false c ts l = refl
+and_by_lem true false ts l = rw (and-false (passes ts any_of_record))
+and_by_lem true true ts l = ap₂ accepted_as (pass_every any_of_record (ts ∷ l)) (all_is (ts ∷ l))
 
 -- The branches of `if`.
-pub branches-by : (b c : Bool) (ts us : Types) → branchesBy (allFoundBy (b && (c && true)) (operands (ts ∷ us ∷ []))) ≡ foundBy (b && c) (ts ++ us)
-branches-by false c ts us = refl
-branches-by true false ts us = refl
-branches-by true true ts us = ap Accepted (all-is (ts ∷ us ∷ []) ∙ ap (λ l. setOf (ts ++ l)) (append-nil us))
+pub branches_by_lem : (b c : Bool) (ts us : Types) → branches_by (all_found_by (b && (c && true)) (operands (ts ∷ us ∷ []))) ≡ found_by (b && c) (ts ++ us)
+branches_by_lem false c ts us = refl
+branches_by_lem true false ts us = refl
+branches_by_lem true true ts us = ap Accepted (all_is (ts ∷ us ∷ []) ∙ ap (λ l. set_of (ts ++ l)) (append-nil us))

@@ -5,12 +5,12 @@ use mathlib.Core.Path.{◌≡◌, refl, sym, ap, ◌∙◌}
 use Prim.Native.Nat.{ℕ, suc, ◌-◌, ◌≤◌}
 use native.Mathlib.Omega.{arith}
 use Rattle.model.specs.Bytes.{Bytes}
-use Rattle.model.specs.TypeCheck.{itemsTypes}
+use Rattle.model.specs.TypeCheck.{items_types}
 use Rattle.model.specs.declared.Ty.TheVariants as Ty
 use Rattle.table.specs.declared.node.Rows.{Rows}
-use Rattle.table.specs.Node.{nextRow, tailOf}
+use Rattle.table.specs.Node.{next_row, tail_of}
 use Rattle.type_set.specs.declared.set.TypeSet.{TypeSet}
-use Rattle.type_set.specs.Contract.{setOf, types_in}
+use Rattle.type_set.specs.Contract.{set_of, types_in}
 use Rattle.type_check.specs.declared.env.Env.{Env}
 use Rattle.type_check.specs.declared.env.Env.TheVariants.{Lambda}
 use Rattle.type_check.specs.declared.found.Found.{Found}
@@ -18,82 +18,82 @@ use Rattle.type_check.specs.declared.found.Found.TheVariants.{NotAccepted, Types
 use Rattle.type_check.specs.declared.operation.FoundAll.{FoundAll}
 use Rattle.type_check.specs.declared.operation.FoundAll.TheVariants as FoundsAll
 use Rattle.type_check.specs.declared.operation.Operands.{Operands}
-use Rattle.type_check.specs.ByRows.{oneMore, acceptedAs, passesAs, passAs, branchesBy, thenTypes, rowsFound, allFound, ifBy, lambdaFound, reduceBy}
+use Rattle.type_check.specs.ByRows.{one_more, accepted_as, passes_as, pass_as, branches_by, then_types, rows_found, all_found, if_by, lambda_found, reduce_by}
 
 -- ---- all operands, by the first row and the others
-module _ (f : ℕ → Found) (T : Bytes) (o : Operands) (q : Rows) {x : Found} (more : 1 ≤ q.count) (is-first : x ≡ f q.first) where
+module _ (f : ℕ → Found) (T : Bytes) (o : Operands) (q : Rows) {x : Found} (more : 1 ≤ q.count) (is_first : x ≡ f q.first) where
   abbrev others : TypeSet → FoundAll
-  others t = rowsFound f T (oneMore o t) (nextRow T q.first) (q.count - 1)
+  others t = rows_found f T (one_more o t) (next_row T q.first) (q.count - 1)
 
-  first-row : thenTypes FoundsAll.NotAccepted x others ≡ rowsFound f T o q.first q.count
-  first-row =
+  first_row : then_types FoundsAll.NotAccepted x others ≡ rows_found f T o q.first q.count
+  first_row =
       let m : q.count ≡ suc (q.count - 1) = omega arith in
-      ap (λ (y : Found). thenTypes FoundsAll.NotAccepted y others) is-first ∙ sym (ap (rowsFound f T o q.first) m)
+      ap (λ (y : Found). then_types FoundsAll.NotAccepted y others) is_first ∙ sym (ap (rows_found f T o q.first) m)
 
-  pub rows-stop : x ≡ NotAccepted → FoundsAll.NotAccepted ≡ rowsFound f T o q.first q.count
-  rows-stop e = rw e at first-row
+  pub rows_stop : x ≡ NotAccepted → FoundsAll.NotAccepted ≡ rows_found f T o q.first q.count
+  rows_stop e = rw e at first_row
 
-  pub rows_next : {t : TypeSet} {o₁ : Operands} {q₁ : Rows} {r : FoundAll} → x ≡ Accepted t → o₁ ≡ oneMore o t → q₁ ≡ tailOf T q → r ≡ rowsFound f T o₁ q₁.first q₁.count
-      → r ≡ rowsFound f T o q.first q.count
-  rows_next e i j k = rw (i, j) at k ∙ rw e at first-row
+  pub rows_next : {t : TypeSet} {o₁ : Operands} {q₁ : Rows} {r : FoundAll} → x ≡ Accepted t → o₁ ≡ one_more o t → q₁ ≡ tail_of T q → r ≡ rows_found f T o₁ q₁.first q₁.count
+      → r ≡ rows_found f T o q.first q.count
+  rows_next e i j k = rw (i, j) at k ∙ rw e at first_row
 
-none_then : (x : Found) → NotAccepted ≡ thenTypes NotAccepted x (λ t. NotAccepted)
+none_then : (x : Found) → NotAccepted ≡ then_types NotAccepted x (λ t. NotAccepted)
 none_then NotAccepted = refl
 none_then (Accepted t) = refl
 
 -- ---- the lambda of `reduce`
-module _ (f : Env → ℕ → Found) (row : ℕ) (t u : TypeSet) {c : TypeSet} {x : Found} (is_c : c ≡ setOf (itemsTypes (types_in t))) (is_found : x ≡ f (Lambda c u) row) where
-  lambda-rows : cond (passAs t (Ty.Array ∷ [])) (thenTypes NotAccepted x (λ v. acceptedAs (passesAs v u) u)) NotAccepted ≡ lambdaFound f row t u
-  lambda-rows =
-      ap (λ (y : Found). cond (passAs t (Ty.Array ∷ [])) (thenTypes NotAccepted y (λ v. acceptedAs (passesAs v u) u)) NotAccepted)
+module _ (f : Env → ℕ → Found) (row : ℕ) (t u : TypeSet) {c : TypeSet} {x : Found} (is_c : c ≡ set_of (items_types (types_in t))) (is_found : x ≡ f (Lambda c u) row) where
+  lambda_rows : cond (pass_as t (Ty.Array ∷ [])) (then_types NotAccepted x (λ v. accepted_as (passes_as v u) u)) NotAccepted ≡ lambda_found f row t u
+  lambda_rows =
+      ap (λ (y : Found). cond (pass_as t (Ty.Array ∷ [])) (then_types NotAccepted y (λ v. accepted_as (passes_as v u) u)) NotAccepted)
       (is_found ∙ ap (λ (d : TypeSet). f (Lambda d u) row) is_c)
 
-  pub lambda-none : x ≡ NotAccepted → NotAccepted ≡ lambdaFound f row t u
-  lambda-none e = go (passAs t (Ty.Array ∷ [])) ∙ rw e at lambda-rows
+  pub lambda_none : x ≡ NotAccepted → NotAccepted ≡ lambda_found f row t u
+  lambda_none e = go (pass_as t (Ty.Array ∷ [])) ∙ rw e at lambda_rows
     where
       go : (b : Bool) → NotAccepted ≡ cond b NotAccepted NotAccepted
       go true = refl
       go false = refl
 
-  pub lambda-some : {v : TypeSet} → passAs t (Ty.Array ∷ []) ≡ true → x ≡ Accepted v → acceptedAs (passesAs v u) u ≡ lambdaFound f row t u
-  lambda-some {v} b e = sym (ap (λ (z : Bool). cond z (acceptedAs (passesAs v u) u) NotAccepted) b) ∙ rw e at lambda-rows
+  pub lambda_some : {v : TypeSet} → pass_as t (Ty.Array ∷ []) ≡ true → x ≡ Accepted v → accepted_as (passes_as v u) u ≡ lambda_found f row t u
+  lambda_some {v} b e = sym (ap (λ (z : Bool). cond z (accepted_as (passes_as v u) u) NotAccepted) b) ∙ rw e at lambda_rows
 
 -- ---- `if` and `reduce`, by the first operand
-module _ (f : Env → ℕ → Found) (T : Bytes) (env : Env) (q : Rows) {x : Found} (is-first : x ≡ f env q.first) where
-  if-rows : thenTypes NotAccepted x (λ t. branchesBy (allFound (f env) T (tailOf T q))) ≡ ifBy f T env q
-  if-rows = ap (λ (y : Found). thenTypes NotAccepted y (λ t. branchesBy (allFound (f env) T (tailOf T q)))) is-first
+module _ (f : Env → ℕ → Found) (T : Bytes) (env : Env) (q : Rows) {x : Found} (is_first : x ≡ f env q.first) where
+  if_rows : then_types NotAccepted x (λ t. branches_by (all_found (f env) T (tail_of T q))) ≡ if_by f T env q
+  if_rows = ap (λ (y : Found). then_types NotAccepted y (λ t. branches_by (all_found (f env) T (tail_of T q)))) is_first
 
-  pub if_none : x ≡ NotAccepted → NotAccepted ≡ ifBy f T env q
-  if_none e = rw e at if-rows
+  pub if_none : x ≡ NotAccepted → NotAccepted ≡ if_by f T env q
+  if_none e = rw e at if_rows
 
-  pub if_some : {t : TypeSet} → x ≡ Accepted t → branchesBy (allFound (f env) T (tailOf T q)) ≡ ifBy f T env q
-  if_some e = rw e at if-rows
+  pub if_some : {t : TypeSet} → x ≡ Accepted t → branches_by (all_found (f env) T (tail_of T q)) ≡ if_by f T env q
+  if_some e = rw e at if_rows
 
   -- By the operand, and what is found for the initial.
-  abbrev by-initial : Found → TypeSet → Found
-  by-initial y t = thenTypes NotAccepted y (λ u. lambdaFound f (nextRow T q.first) t u)
+  abbrev by_initial : Found → TypeSet → Found
+  by_initial y t = then_types NotAccepted y (λ u. lambda_found f (next_row T q.first) t u)
 
   abbrev initial : Found
-  initial = f env (nextRow T (nextRow T q.first))
+  initial = f env (next_row T (next_row T q.first))
 
-  operand_rows : thenTypes NotAccepted x (by-initial initial) ≡ reduceBy f T env q
-  operand_rows = ap (λ (y : Found). thenTypes NotAccepted y (by-initial initial)) is-first
+  operand_rows : then_types NotAccepted x (by_initial initial) ≡ reduce_by f T env q
+  operand_rows = ap (λ (y : Found). then_types NotAccepted y (by_initial initial)) is_first
 
-  pub reduce-none : x ≡ NotAccepted → NotAccepted ≡ reduceBy f T env q
-  reduce-none e = rw e at operand_rows
+  pub reduce_none : x ≡ NotAccepted → NotAccepted ≡ reduce_by f T env q
+  reduce_none e = rw e at operand_rows
 
-  pub reduce-no-array : {t : TypeSet} → x ≡ Accepted t → passAs t (Ty.Array ∷ []) ≡ false → NotAccepted ≡ reduceBy f T env q
-  reduce-no-array e b = none_then initial ∙ rw (e, b) at operand_rows
+  pub reduce_no_array : {t : TypeSet} → x ≡ Accepted t → pass_as t (Ty.Array ∷ []) ≡ false → NotAccepted ≡ reduce_by f T env q
+  reduce_no_array e b = none_then initial ∙ rw (e, b) at operand_rows
 
-  module _ {row₁ row₂ : ℕ} (is₁ : row₁ ≡ nextRow T q.first) (is₂ : row₂ ≡ nextRow T row₁) {y : Found} (is_last : y ≡ f env row₂) where
-    is-initial : y ≡ initial
-    is-initial = is_last ∙ ap (f env) (is₂ ∙ ap (nextRow T) is₁)
+  module _ {row₁ row₂ : ℕ} (is₁ : row₁ ≡ next_row T q.first) (is₂ : row₂ ≡ next_row T row₁) {y : Found} (is_last : y ≡ f env row₂) where
+    is_initial : y ≡ initial
+    is_initial = is_last ∙ ap (f env) (is₂ ∙ ap (next_row T) is₁)
 
-    initial-rows : thenTypes NotAccepted x (by-initial y) ≡ reduceBy f T env q
-    initial-rows = ap (λ (z : Found). thenTypes NotAccepted x (by-initial z)) is-initial ∙ operand_rows
+    initial_rows : then_types NotAccepted x (by_initial y) ≡ reduce_by f T env q
+    initial_rows = ap (λ (z : Found). then_types NotAccepted x (by_initial z)) is_initial ∙ operand_rows
 
-    pub reduce-no-initial : y ≡ NotAccepted → NotAccepted ≡ reduceBy f T env q
-    reduce-no-initial e = none_then x ∙ rw e at initial-rows
+    pub reduce_no_initial : y ≡ NotAccepted → NotAccepted ≡ reduce_by f T env q
+    reduce_no_initial e = none_then x ∙ rw e at initial_rows
 
-    pub reduce-some : {t u : TypeSet} {r : Found} → x ≡ Accepted t → y ≡ Accepted u → r ≡ lambdaFound f row₁ t u → r ≡ reduceBy f T env q
-    reduce-some e g h = rw is₁ at h ∙ rw (e, g) at initial-rows
+    pub reduce_some : {t u : TypeSet} {r : Found} → x ≡ Accepted t → y ≡ Accepted u → r ≡ lambda_found f row₁ t u → r ≡ reduce_by f T env q
+    reduce_some e g h = rw is₁ at h ∙ rw (e, g) at initial_rows

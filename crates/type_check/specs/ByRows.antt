@@ -1,26 +1,26 @@
 -- ByRows: what is found for the rows of a rule's table T with strings A, under a sheet's table S with strings Z, whatever these bytes are.
 -- Contract says what it is where they hold a rule and a sheet.
 use Rattle.std.specs.Prelude.{Bool, true, false, ◌&&◌, cond, [], ◌∷◌, ◌++◌, ℕ, zero, suc, eqb, length, take}
-use Rattle.model.specs.Bytes.{Bytes, ascii, sameBytes}
+use Rattle.model.specs.Bytes.{Bytes, ascii, same_bytes}
 use Rattle.model.specs.Eval.{current, accumulator}
 use Rattle.model.specs.Rule.{Literal as ModelLiteral}
-use Rattle.model.specs.TypeCheck.{literalTypes, domainType, itemsTypes}
-use Rattle.model.specs.Types.{Types, passes, scalars, anyOfRecord, anyValue}
+use Rattle.model.specs.TypeCheck.{literal_types, domain_type, items_types}
+use Rattle.model.specs.Types.{Types, passes, scalars, any_of_record, any_value}
 use Rattle.model.specs.declared.Ty.TheVariants as Ty
-use Rattle.bytes.specs.Fragment.{fragmentLength}
+use Rattle.octets.specs.Fragment.{fragment_length}
 use Rattle.keywords.specs.declared.Op.{Op}
 use Rattle.keywords.specs.declared.Op.TheVariants as Ops
 use Rattle.rule.specs.declared.view.Literal.{Literal}
 use Rattle.rule.specs.declared.view.Literal.TheVariants as Literals
 use Rattle.rule.specs.declared.view.View.{View}
 use Rattle.rule.specs.declared.view.View.TheVariants as Views
-use Rattle.rule.specs.View.{viewAt}
-use Rattle.sheet.specs.ByRows.{listedFor}
+use Rattle.rule.specs.View.{view_at}
+use Rattle.sheet.specs.ByRows.{listed_for}
 use Rattle.table.specs.declared.node.Rows.{Rows}
-use Rattle.table.specs.Node.{nodeAt, nextRow, tailOf}
+use Rattle.table.specs.Node.{node_at, next_row, tail_of}
 use Rattle.table.specs.Strings.{bytes_of}
 use Rattle.type_set.specs.declared.set.TypeSet.{TypeSet}
-use Rattle.type_set.specs.Contract.{setOf, types_in}
+use Rattle.type_set.specs.Contract.{set_of, types_in}
 use Rattle.type_check.specs.declared.env.Env.{Env}
 use Rattle.type_check.specs.declared.env.Env.TheVariants.{Outside, Lambda}
 use Rattle.type_check.specs.declared.found.Found.{Found}
@@ -31,144 +31,144 @@ use Rattle.type_check.specs.declared.operation.Operands.{Operands}
 
 -- ---- variables
 -- In a lambda, of a path that ends with its first fragment, or goes on.
-abbrev pub partBy : Bool → TypeSet → TypeSet
-partBy whole s = cond whole s (setOf anyValue)
+abbrev pub part_by : Bool → TypeSet → TypeSet
+part_by whole s = cond whole s (set_of any_value)
 
 -- By the first fragment: "any other is null".
-abbrev pub firstBy : Bytes → Bool → TypeSet → TypeSet → TypeSet
-firstBy f whole cur acc =
-    cond (sameBytes f current) (partBy whole cur)
-    (cond (sameBytes f accumulator) (partBy whole acc)
-    (setOf (Ty.Null ∷ [])))
+abbrev pub first_by : Bytes → Bool → TypeSet → TypeSet → TypeSet
+first_by f whole cur acc =
+    cond (same_bytes f current) (part_by whole cur)
+    (cond (same_bytes f accumulator) (part_by whole acc)
+    (set_of (Ty.Null ∷ [])))
 
 -- By the path's text: "the empty path is object".
-abbrev pub lambdaBy : Bytes → TypeSet → TypeSet → TypeSet
-lambdaBy p cur acc =
-    cond (eqb (length p) 0) (setOf (Ty.Object ∷ []))
-    (let size = fragmentLength (ascii ".") p in firstBy (take size p) (eqb size (length p)) cur acc)
+abbrev pub lambda_by : Bytes → TypeSet → TypeSet → TypeSet
+lambda_by p cur acc =
+    cond (eqb (length p) 0) (set_of (Ty.Object ∷ []))
+    (let size = fragment_length (ascii ".") p in first_by (take size p) (eqb size (length p)) cur acc)
 
 -- Outside every lambda what the sheet lists.
-abbrev pub varBy : Bytes → Bytes → Bytes → Env → TypeSet
-varBy S Z p Outside = listedFor S Z p (nodeAt S 0)
-varBy S Z p (Lambda cur acc) = lambdaBy p cur acc
+abbrev pub var_by : Bytes → Bytes → Bytes → Env → TypeSet
+var_by S Z p Outside = listed_for S Z p (node_at S 0)
+var_by S Z p (Lambda cur acc) = lambda_by p cur acc
 
 -- ---- literals
-abbrev pub literalBy : Bytes → Literal → TypeSet
-literalBy A Literals.False = setOf (Ty.Boolean ∷ [])
-literalBy A Literals.True = setOf (Ty.Boolean ∷ [])
-literalBy A (Literals.Integer n) = setOf (Ty.Integer ∷ [])
-literalBy A (Literals.String s) = setOf (literalTypes (ModelLiteral.string (bytes_of A s)))
+abbrev pub literal_by : Bytes → Literal → TypeSet
+literal_by A Literals.False = set_of (Ty.Boolean ∷ [])
+literal_by A Literals.True = set_of (Ty.Boolean ∷ [])
+literal_by A (Literals.Integer n) = set_of (Ty.Integer ∷ [])
+literal_by A (Literals.String s) = set_of (literal_types (ModelLiteral.string (bytes_of A s)))
 
 -- ---- the types of operands
-abbrev pub noOperands : Operands
-noOperands = record { before = setOf []; last = setOf [] }
+abbrev pub no_operands : Operands
+no_operands = record { before = set_of []; last = set_of [] }
 
 -- The types that any operand has.
 abbrev pub all_of : Operands → TypeSet
-all_of o = setOf (types_in o.before ++ types_in o.last)
+all_of o = set_of (types_in o.before ++ types_in o.last)
 
-abbrev pub oneMore : Operands → TypeSet → Operands
-oneMore o t = record { before = all_of o; last = t }
+abbrev pub one_more : Operands → TypeSet → Operands
+one_more o t = record { before = all_of o; last = t }
 
 -- ---- operations by the types of their operands
 -- These types, if the rule is accepted.
-abbrev pub acceptedAs : Bool → TypeSet → Found
-acceptedAs true s = Founds.Types s
-acceptedAs false s = Founds.NotAccepted
+abbrev pub accepted_as : Bool → TypeSet → Found
+accepted_as true s = Founds.Types s
+accepted_as false s = Founds.NotAccepted
 
 -- All types of a set pass where those of another are allowed.
-abbrev pub passesAs : TypeSet → TypeSet → Bool
-passesAs s allowed = passes (types_in s) (types_in allowed)
+abbrev pub passes_as : TypeSet → TypeSet → Bool
+passes_as s allowed = passes (types_in s) (types_in allowed)
 
-abbrev pub passAs : TypeSet → Types → Bool
-passAs s allowed = passesAs s (setOf allowed)
+abbrev pub pass_as : TypeSet → Types → Bool
+pass_as s allowed = passes_as s (set_of allowed)
 
 -- What is given, if all types pass.
-abbrev pub passingAs : TypeSet → Types → Types → Found
-passingAs s allowed given = acceptedAs (passAs s allowed) (setOf given)
+abbrev pub passing_as : TypeSet → Types → Types → Found
+passing_as s allowed given = accepted_as (pass_as s allowed) (set_of given)
 
 -- An array by the types that any of its items has.
-abbrev pub arrayBy : TypeSet → TypeSet
-arrayBy s =
-    cond (passAs s (Ty.Integer ∷ [])) (setOf (Ty.Integers ∷ []))
-    (cond (passAs s (Ty.String ∷ [])) (setOf (Ty.Strings ∷ []))
-    (setOf (Ty.Array ∷ [])))
+abbrev pub array_by : TypeSet → TypeSet
+array_by s =
+    cond (pass_as s (Ty.Integer ∷ [])) (set_of (Ty.Integers ∷ []))
+    (cond (pass_as s (Ty.String ∷ [])) (set_of (Ty.Strings ∷ []))
+    (set_of (Ty.Array ∷ [])))
 
 -- `in`, by the types of each operand.
-abbrev pub memberBy : TypeSet → TypeSet → Found
-memberBy element items = acceptedAs (passAs element scalars && passAs items (Ty.Array ∷ [])) (setOf (Ty.Boolean ∷ []))
+abbrev pub member_by : TypeSet → TypeSet → Found
+member_by element items = accepted_as (pass_as element scalars && pass_as items (Ty.Array ∷ [])) (set_of (Ty.Boolean ∷ []))
 
 -- If all operands are accepted.
-abbrev pub branchesBy : FoundAll → Found
-branchesBy FoundsAll.NotAccepted = Founds.NotAccepted
-branchesBy (FoundsAll.Types o) = Founds.Types (all_of o)
+abbrev pub branches_by : FoundAll → Found
+branches_by FoundsAll.NotAccepted = Founds.NotAccepted
+branches_by (FoundsAll.Types o) = Founds.Types (all_of o)
 
-abbrev pub andBy : FoundAll → Found
-andBy FoundsAll.NotAccepted = Founds.NotAccepted
-andBy (FoundsAll.Types o) = acceptedAs (passAs (all_of o) anyOfRecord) (all_of o)
+abbrev pub and_by : FoundAll → Found
+and_by FoundsAll.NotAccepted = Founds.NotAccepted
+and_by (FoundsAll.Types o) = accepted_as (pass_as (all_of o) any_of_record) (all_of o)
 
-abbrev pub operationOn : Op → Operands → Found
-operationOn Ops.Array o = Founds.Types (arrayBy (all_of o))
-operationOn Ops.Equal o = passingAs (all_of o) scalars (Ty.Boolean ∷ [])
-operationOn Ops.MemberOf o = memberBy o.before o.last
-operationOn Ops.Plus o = passingAs (all_of o) (Ty.Integer ∷ []) (Ty.Integer ∷ [])
-operationOn Ops.Not o = passingAs (all_of o) anyOfRecord (Ty.Boolean ∷ [])
-operationOn Ops.DateOfBirth o = passingAs (all_of o) (Ty.Day ∷ []) (Ty.Instant ∷ [])
-operationOn (Ops.Compare d c) o = passingAs (all_of o) (domainType d ∷ []) (Ty.Boolean ∷ [])
-operationOn (Ops.PlusTime n u) o = passingAs (all_of o) (Ty.Date ∷ []) (Ty.Instant ∷ [])
-operationOn (Ops.ExtractFromUvci n) o = passingAs (all_of o) (Ty.Null ∷ Ty.String ∷ []) (Ty.Null ∷ Ty.String ∷ [])
+abbrev pub operation_on : Op → Operands → Found
+operation_on Ops.Array o = Founds.Types (array_by (all_of o))
+operation_on Ops.Equal o = passing_as (all_of o) scalars (Ty.Boolean ∷ [])
+operation_on Ops.MemberOf o = member_by o.before o.last
+operation_on Ops.Plus o = passing_as (all_of o) (Ty.Integer ∷ []) (Ty.Integer ∷ [])
+operation_on Ops.Not o = passing_as (all_of o) any_of_record (Ty.Boolean ∷ [])
+operation_on Ops.DateOfBirth o = passing_as (all_of o) (Ty.Day ∷ []) (Ty.Instant ∷ [])
+operation_on (Ops.Compare d c) o = passing_as (all_of o) (domain_type d ∷ []) (Ty.Boolean ∷ [])
+operation_on (Ops.PlusTime n u) o = passing_as (all_of o) (Ty.Date ∷ []) (Ty.Instant ∷ [])
+operation_on (Ops.ExtractFromUvci n) o = passing_as (all_of o) (Ty.Null ∷ Ty.String ∷ []) (Ty.Null ∷ Ty.String ∷ [])
 
-abbrev pub operationBy : Op → FoundAll → Found
-operationBy op FoundsAll.NotAccepted = Founds.NotAccepted
-operationBy op (FoundsAll.Types o) = operationOn op o
+abbrev pub operation_by : Op → FoundAll → Found
+operation_by op FoundsAll.NotAccepted = Founds.NotAccepted
+operation_by op (FoundsAll.Types o) = operation_on op o
 
 -- ---- rows, by what is found for a row somewhere
 -- What follows from the types found, if the rule is accepted.
-abbrev pub thenTypes : {A : Type 0} → A → Found → (TypeSet → A) → A
-thenTypes other Founds.NotAccepted f = other
-thenTypes other (Founds.Types t) f = f t
+abbrev pub then_types : {A : Type 0} → A → Found → (TypeSet → A) → A
+then_types other Founds.NotAccepted f = other
+then_types other (Founds.Types t) f = f t
 
 -- These operands, and those in so many rows from a row on.
-abbrev pub rowsFound : (ℕ → Found) → Bytes → Operands → ℕ → ℕ → FoundAll
-rowsFound f T o row zero = FoundsAll.Types o
-rowsFound f T o row (suc n) = thenTypes FoundsAll.NotAccepted (f row) (λ t. rowsFound f T (oneMore o t) (nextRow T row) n)
+abbrev pub rows_found : (ℕ → Found) → Bytes → Operands → ℕ → ℕ → FoundAll
+rows_found f T o row zero = FoundsAll.Types o
+rows_found f T o row (suc n) = then_types FoundsAll.NotAccepted (f row) (λ t. rows_found f T (one_more o t) (next_row T row) n)
 
-abbrev pub allFound : (ℕ → Found) → Bytes → Rows → FoundAll
-allFound f T q = rowsFound f T noOperands q.first q.count
+abbrev pub all_found : (ℕ → Found) → Bytes → Rows → FoundAll
+all_found f T q = rows_found f T no_operands q.first q.count
 
 -- "Guards may have any words".
-abbrev pub ifBy : (Env → ℕ → Found) → Bytes → Env → Rows → Found
-ifBy f T env q = thenTypes Founds.NotAccepted (f env q.first) (λ t. branchesBy (allFound (f env) T (tailOf T q)))
+abbrev pub if_by : (Env → ℕ → Found) → Bytes → Env → Rows → Found
+if_by f T env q = then_types Founds.NotAccepted (f env q.first) (λ t. branches_by (all_found (f env) T (tail_of T q)))
 
 -- A lambda, by the types of the operand and of the initial: "its words must pass there".
-abbrev pub lambdaFound : (Env → ℕ → Found) → ℕ → TypeSet → TypeSet → Found
-lambdaFound f row operand initial =
-    cond (passAs operand (Ty.Array ∷ []))
-    (thenTypes Founds.NotAccepted (f (Lambda (setOf (itemsTypes (types_in operand))) initial) row) (λ t. acceptedAs (passesAs t initial) initial))
+abbrev pub lambda_found : (Env → ℕ → Found) → ℕ → TypeSet → TypeSet → Found
+lambda_found f row operand initial =
+    cond (pass_as operand (Ty.Array ∷ []))
+    (then_types Founds.NotAccepted (f (Lambda (set_of (items_types (types_in operand))) initial) row) (λ t. accepted_as (passes_as t initial) initial))
     Founds.NotAccepted
 
-abbrev pub reduceBy : (Env → ℕ → Found) → Bytes → Env → Rows → Found
-reduceBy f T env q =
-    let lambda = nextRow T q.first in
-    thenTypes Founds.NotAccepted (f env q.first) (λ operand.
-    thenTypes Founds.NotAccepted (f env (nextRow T lambda)) (λ initial.
-    lambdaFound f lambda operand initial))
+abbrev pub reduce_by : (Env → ℕ → Found) → Bytes → Env → Rows → Found
+reduce_by f T env q =
+    let lambda = next_row T q.first in
+    then_types Founds.NotAccepted (f env q.first) (λ operand.
+    then_types Founds.NotAccepted (f env (next_row T lambda)) (λ initial.
+    lambda_found f lambda operand initial))
 
 -- ---- a row
 -- By its view, and by what is found for the rows below.
-abbrev pub viewFound : Bytes → Bytes → Bytes → Bytes → (Env → ℕ → Found) → Env → View → Found
-viewFound T A S Z f env (Views.Literal l) = Founds.Types (literalBy A l)
-viewFound T A S Z f env (Views.Var p) = Founds.Types (varBy S Z (bytes_of A p) env)
-viewFound T A S Z f env (Views.If q) = ifBy f T env q
-viewFound T A S Z f env (Views.And q) = andBy (allFound (f env) T q)
-viewFound T A S Z f env (Views.Reduce q) = reduceBy f T env q
-viewFound T A S Z f env (Views.Apply op q) = operationBy op (allFound (f env) T q)
+abbrev pub view_found : Bytes → Bytes → Bytes → Bytes → (Env → ℕ → Found) → Env → View → Found
+view_found T A S Z f env (Views.Literal l) = Founds.Types (literal_by A l)
+view_found T A S Z f env (Views.Var p) = Founds.Types (var_by S Z (bytes_of A p) env)
+view_found T A S Z f env (Views.If q) = if_by f T env q
+view_found T A S Z f env (Views.And q) = and_by (all_found (f env) T q)
+view_found T A S Z f env (Views.Reduce q) = reduce_by f T env q
+view_found T A S Z f env (Views.Apply op q) = operation_by op (all_found (f env) T q)
 
 -- For a row that nests less deep than `deep`. With no nesting left no operation is seen, so that none is asked for.
-unfoldable pub foundBelow : Bytes → Bytes → Bytes → Bytes → ℕ → Env → ℕ → Found
-foundBelow T A S Z zero env row = Founds.NotAccepted
-foundBelow T A S Z (suc deep) env row = viewFound T A S Z (foundBelow T A S Z deep) env (viewAt T A row deep)
+unfoldable pub found_below : Bytes → Bytes → Bytes → Bytes → ℕ → Env → ℕ → Found
+found_below T A S Z zero env row = Founds.NotAccepted
+found_below T A S Z (suc deep) env row = view_found T A S Z (found_below T A S Z deep) env (view_at T A row deep)
 
 -- For one that nests no deeper.
 abbrev pub found_at : Bytes → Bytes → Bytes → Bytes → ℕ → Env → ℕ → Found
-found_at T A S Z deep = foundBelow T A S Z (suc deep)
+found_at T A S Z deep = found_below T A S Z (suc deep)

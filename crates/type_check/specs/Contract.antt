@@ -2,24 +2,24 @@
 use Rattle.std.proofs.Math.Option.{Option, none, some}
 use Rattle.std.specs.Prelude.{◌≡◌}
 use Rattle.model.specs.Bytes.{Bytes}
-use Rattle.model.specs.Limits.{maxNesting}
+use Rattle.model.specs.Limits.{max_nesting}
 use Rattle.model.specs.Rule.{Rule}
 use Rattle.model.specs.Sheet.{Sheet}
 use Rattle.model.specs.TypeCheck.{check}
 use Rattle.model.specs.Types.{Types}
 use Rattle.rule.specs.Holds.{Holds}
 use Rattle.sheet.specs.Contract.{HoldsSheet}
-use Rattle.type_set.specs.Contract.{setOf}
+use Rattle.type_set.specs.Contract.{set_of}
 use Rattle.type_check.specs.declared.env.Env.TheVariants.{Outside}
 use Rattle.type_check.specs.declared.found.Found.{Found}
 use Rattle.type_check.specs.declared.found.Found.TheVariants as Founds
 use Rattle.type_check.specs.ByRows.{found_at}
 
 -- The types of a rule that is accepted, as a set; 13 where it is not.
-abbrev pub foundOf : Option Types → Found
-foundOf none = Founds.NotAccepted
-foundOf (some ts) = Founds.Types (setOf ts)
+abbrev pub found_of : Option Types → Found
+found_of none = Founds.NotAccepted
+found_of (some ts) = Founds.Types (set_of ts)
 
 pub record Checks (T A S Z : Bytes) (r : Found) : Type 0 where
-  pub byRows : r ≡ found_at T A S Z maxNesting Outside 0
-  pub is : (ρ : Rule) (s : Sheet) → Holds T A maxNesting 0 ρ → HoldsSheet S Z s → r ≡ foundOf (check ρ s)
+  pub by_rows : r ≡ found_at T A S Z max_nesting Outside 0
+  pub is : (ρ : Rule) (s : Sheet) → Holds T A max_nesting 0 ρ → HoldsSheet S Z s → r ≡ found_of (check ρ s)

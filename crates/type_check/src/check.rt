@@ -2,7 +2,7 @@
 ghost use Rattle.model.specs.Rule.{if, reduce};
 ghost use Rattle.name_index.specs.Table.{IndexedTable};
 ghost use Rattle.rule.specs.Mark.{Marked};
-ghost use Rattle.type_check.specs.ByRows.{ifBy, reduceBy};
+ghost use Rattle.type_check.specs.ByRows.{if_by, reduce_by};
 ghost use Rattle.type_check.specs.Contract.{Checks};
 ghost use Rattle.type_check.specs.Inner.{Finds, FindsThree, FindsAll};
 
@@ -96,7 +96,7 @@ fn find_if(
     s: Scope,
 ) -> Found
     requires { Marked rule_table.now rule_strings.now × IndexedTable sheet_table.now sheet_strings.now }
-    ensures { FindsThree if ifBy rule_table.now rule_strings.now sheet_table.now sheet_strings.now q s result }
+    ensures { FindsThree if if_by rule_table.now rule_strings.now sheet_table.now sheet_strings.now q s result }
 {
     let row = q.first;
     let guard = find(rule_table, rule_strings, sheet_table, sheet_strings, row, s);
@@ -118,7 +118,7 @@ fn find_reduce(
     s: Scope,
 ) -> Found
     requires { Marked rule_table.now rule_strings.now × IndexedTable sheet_table.now sheet_strings.now }
-    ensures { FindsThree reduce reduceBy rule_table.now rule_strings.now sheet_table.now sheet_strings.now q s result }
+    ensures { FindsThree reduce reduce_by rule_table.now rule_strings.now sheet_table.now sheet_strings.now q s result }
 {
     let row = q.first;
     let found = find(rule_table, rule_strings, sheet_table, sheet_strings, row, s);

@@ -1,11 +1,11 @@
 // Where a rule stands, and the types of a variable there.
 ghost use Rattle.std.specs.Prelude.{◌≡◌, ◌≤◌};
 ghost use Rattle.name_index.specs.Table.{IndexedTable};
-ghost use Rattle.type_check.specs.ByRows.{partBy, lambdaBy};
+ghost use Rattle.type_check.specs.ByRows.{part_by, lambda_by};
 ghost use Rattle.type_check.specs.Inner.{inner_of, VarTypes};
 
-use bytes::path::fragment_end;
-use bytes::same;
+use octets::path::fragment_end;
+use octets::same;
 use model::Ty;
 use sheet::listed::types_for;
 use type_set::set::{TypeSet, any_value, only};
@@ -38,7 +38,7 @@ pub fn inner(s: Scope) -> Scope
 
 // "`current` and `accumulator` have their sets"; "a longer path from either has those six and instant".
 fn part_types(whole: bool, s: TypeSet) -> TypeSet
-    ensures { result ≡ partBy whole s }
+    ensures { result ≡ part_by whole s }
 {
     if whole {
         return s;
@@ -48,7 +48,7 @@ fn part_types(whole: bool, s: TypeSet) -> TypeSet
 
 // "the empty path is object"; "any other is null"
 fn lambda_types(path: &[u8], current: TypeSet, accumulator: TypeSet) -> TypeSet
-    ensures { result ≡ lambdaBy path.now current accumulator }
+    ensures { result ≡ lambda_by path.now current accumulator }
 {
     let n = path.len();
     if n == 0 {

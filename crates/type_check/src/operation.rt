@@ -1,9 +1,9 @@
 // Literals and operations: the types of a rule by those of its operands.
 ghost use Rattle.std.specs.Prelude.{[], ◌∷◌, ◌≡◌};
-ghost use Rattle.model.specs.TypeCheck.{domainType};
+ghost use Rattle.model.specs.TypeCheck.{domain_type};
 ghost use Rattle.model.specs.declared.Ty.TheVariants.{Null, String};
-ghost use Rattle.type_set.specs.Contract.{setOf};
-ghost use Rattle.type_check.specs.ByRows.{literalBy, acceptedAs, all_of, noOperands, oneMore, passesAs, memberBy, arrayBy, branchesBy, andBy, operationBy};
+ghost use Rattle.type_set.specs.Contract.{set_of};
+ghost use Rattle.type_check.specs.ByRows.{literal_by, accepted_as, all_of, no_operands, one_more, passes_as, member_by, array_by, branches_by, and_by, operation_by};
 
 use crate::found::Found;
 use keywords::Op;
@@ -29,7 +29,7 @@ pub enum FoundAll {
 
 // "A string literal is day, else date, else string."
 pub fn literal_types(rule_strings: &[u8], l: Literal) -> TypeSet
-    ensures { result ≡ literalBy rule_strings.now l }
+    ensures { result ≡ literal_by rule_strings.now l }
 {
     match l {
         Literal::False => only(Ty::Boolean),
@@ -42,7 +42,7 @@ pub fn literal_types(rule_strings: &[u8], l: Literal) -> TypeSet
 // ---- operands
 // No operand.
 pub fn no_operands() -> Operands
-    ensures { result ≡ noOperands }
+    ensures { result ≡ no_operands }
 {
     Operands {
         before: none(),
@@ -59,7 +59,7 @@ fn all_types(o: Operands) -> TypeSet
 
 // One operand more.
 pub fn one_more(o: Operands, last: TypeSet) -> Operands
-    ensures { result ≡ oneMore o last }
+    ensures { result ≡ one_more o last }
 {
     Operands {
         before: all_types(o),
@@ -70,7 +70,7 @@ pub fn one_more(o: Operands, last: TypeSet) -> Operands
 // ---- operations
 // These types, if the rule is accepted.
 fn accepted(ok: bool, s: TypeSet) -> Found
-    ensures { result ≡ acceptedAs ok s }
+    ensures { result ≡ accepted_as ok s }
 {
     if ok {
         return Found::Types(s);
@@ -80,14 +80,14 @@ fn accepted(ok: bool, s: TypeSet) -> Found
 
 // What is given, if all the types pass where these are allowed.
 pub fn passing(s: TypeSet, allowed: TypeSet, given: TypeSet) -> Found
-    ensures { result ≡ acceptedAs (passesAs s allowed) given }
+    ensures { result ≡ accepted_as (passes_as s allowed) given }
 {
     accepted(passes(s, allowed), given)
 }
 
 // What a comparison takes.
 fn domain_type(domain: Domain) -> Ty
-    ensures { result ≡ domainType domain }
+    ensures { result ≡ domain_type domain }
 {
     match domain {
         Domain::OnIntegers => Ty::Integer,
@@ -97,14 +97,14 @@ fn domain_type(domain: Domain) -> Ty
 
 // What `extractFromUVCI` takes and gives.
 fn null_or_string() -> TypeSet
-    ensures { result ≡ setOf (Null ∷ String ∷ []) }
+    ensures { result ≡ set_of (Null ∷ String ∷ []) }
 {
     union(only(Ty::Null), only(Ty::String))
 }
 
 // "An array is integers if every item's only word is integer (the empty one too), else strings if all item words pass as string, else array."
 fn array_types(items: TypeSet) -> TypeSet
-    ensures { result ≡ arrayBy items }
+    ensures { result ≡ array_by items }
 {
     if passes(items, only(Ty::Integer)) {
         return only(Ty::Integers);
@@ -117,7 +117,7 @@ fn array_types(items: TypeSet) -> TypeSet
 
 // `in`: "a scalar, then an array".
 fn member_types(element: TypeSet, items: TypeSet) -> Found
-    ensures { result ≡ memberBy element items }
+    ensures { result ≡ member_by element items }
 {
     let ok = passes(element, scalars()) & passes(items, only(Ty::Array));
     accepted(ok, only(Ty::Boolean))
@@ -125,7 +125,7 @@ fn member_types(element: TypeSet, items: TypeSet) -> Found
 
 // `if`, by its branches.
 pub fn branch_types(found: FoundAll) -> Found
-    ensures { result ≡ branchesBy found }
+    ensures { result ≡ branches_by found }
 {
     match found {
         FoundAll::NotAccepted => Found::NotAccepted,
@@ -135,7 +135,7 @@ pub fn branch_types(found: FoundAll) -> Found
 
 // `and`
 pub fn and_types(found: FoundAll) -> Found
-    ensures { result ≡ andBy found }
+    ensures { result ≡ and_by found }
 {
     match found {
         FoundAll::NotAccepted => Found::NotAccepted,
@@ -148,7 +148,7 @@ pub fn and_types(found: FoundAll) -> Found
 
 // An operation that evaluates all its operands: the types that they may have, and those that it gives.
 pub fn operation_types(op: Op, found: FoundAll) -> Found
-    ensures { result ≡ operationBy op found }
+    ensures { result ≡ operation_by op found }
 {
     let FoundAll::Types(o) = found else {
         return Found::NotAccepted;

@@ -4,19 +4,19 @@ use mathlib.Core.List.{[], ◌∷◌}
 use mathlib.Core.Path.{◌≡◌, refl, sym, ap, ◌∙◌}
 use Prim.Native.Nat.{ℕ}
 use lib.Dec.{eqb}
-use Rattle.model.specs.TypeCheck.{itemsTypes}
-use Rattle.model.specs.Types.{isIn, tyNumber, passes}
+use Rattle.model.specs.TypeCheck.{items_types}
+use Rattle.model.specs.Types.{is_in, ty_number, passes}
 use Rattle.model.specs.declared.Ty.{Ty}
 use Rattle.model.specs.declared.Ty.TheVariants as Ty
 use Rattle.type_set.specs.declared.set.TypeSet.{TypeSet}
-use Rattle.type_set.specs.Contract.{setOf, types_in}
-use Rattle.type_set.specs.Laws.Fields.{field, setBy, isIn-typesIn, items-fields, passes-fields}
+use Rattle.type_set.specs.Contract.{set_of, types_in}
+use Rattle.type_set.specs.Laws.Fields.{field, set_by, is_in_types_in, items_fields, passes_fields}
 
 -- A type's field tells whether it is in the set.
-pub field-is-in : (s : TypeSet) (j : Ty) {k : Ty} → k ≡ j → field s j ≡ isIn (types_in s) k
-field-is-in s j e = sym (isIn-typesIn s j) ∙ ap (isIn (types_in s)) (sym e)
+pub field_is_in : (s : TypeSet) (j : Ty) {k : Ty} → k ≡ j → field s j ≡ is_in (types_in s) k
+field_is_in s j e = sym (is_in_types_in s j) ∙ ap (is_in (types_in s)) (sym e)
 
-numbered : (k : Ty) → setBy (λ j. eqb (tyNumber k) (tyNumber j)) ≡ setOf (k ∷ [])
+numbered : (k : Ty) → set_by (λ j. eqb (ty_number k) (ty_number j)) ≡ set_of (k ∷ [])
 numbered Ty.Null = refl
 numbered Ty.Boolean = refl
 numbered Ty.Integer = refl
@@ -30,8 +30,8 @@ numbered Ty.Object = refl
 numbered Ty.Instant = refl
 
 -- The set of the type with a number.
-pub only-numbered : (k : Ty) {n : ℕ} → n ≡ tyNumber k → setBy (λ j. eqb n (tyNumber j)) ≡ setOf (k ∷ [])
-only-numbered k e = ap (λ n. setBy (λ j. eqb n (tyNumber j))) e ∙ numbered k
+pub only_numbered : (k : Ty) {n : ℕ} → n ≡ ty_number k → set_by (λ j. eqb n (ty_number j)) ≡ set_of (k ∷ [])
+only_numbered k e = ap (λ n. set_by (λ j. eqb n (ty_number j))) e ∙ numbered k
 
 -- The items' types, field by field.
 abbrev pub items_in : TypeSet → TypeSet
@@ -49,12 +49,12 @@ items_in s = record {
   instant = s.array;
 }
 
-pub items-written : (s : TypeSet) → items_in s ≡ setOf (itemsTypes (types_in s))
-items-written s = rw (items-fields s) (simp (and-true, and-false, or-false))
+pub items_written : (s : TypeSet) → items_in s ≡ set_of (items_types (types_in s))
+items_written s = rw (items_fields s) (simp (and-true, and-false, or-false))
 
 -- What passes, field by field.
-abbrev pub passesIn : TypeSet → TypeSet → Bool
-passesIn a b =
+abbrev pub passes_in : TypeSet → TypeSet → Bool
+passes_in a b =
     (not a.null || b.null)
     && (not a.boolean || b.boolean)
     && (not a.integer || b.integer)
@@ -67,5 +67,5 @@ passesIn a b =
     && (not a.object || b.object)
     && (not a.instant || b.instant)
 
-pub passes-written : (a b : TypeSet) → passesIn a b ≡ passes (types_in a) (types_in b)
-passes-written a b = rw (passes-fields a b) (simp (and_assoc, or_assoc, and-true, or-false))
+pub passes_written : (a b : TypeSet) → passes_in a b ≡ passes (types_in a) (types_in b)
+passes_written a b = rw (passes_fields a b) (simp (and_assoc, or_assoc, and-true, or-false))

@@ -1,24 +1,24 @@
 -- Contract: a set of types by value (`TypeSet`), and the model's lists of types, which may list one twice.
 use Rattle.std.specs.Prelude.{Bool, true, false, [], ◌∷◌}
-use Rattle.model.specs.Types.{Types, isIn}
+use Rattle.model.specs.Types.{Types, is_in}
 use Rattle.model.specs.declared.Ty.{Ty}
 use Rattle.model.specs.declared.Ty.TheVariants as Ty
 use Rattle.type_set.specs.declared.set.TypeSet.{TypeSet}
 
 -- The set of a list's types.
-abbrev pub setOf : Types → TypeSet
-setOf ts = record {
-  null = isIn ts Ty.Null;
-  boolean = isIn ts Ty.Boolean;
-  integer = isIn ts Ty.Integer;
-  string = isIn ts Ty.String;
-  date = isIn ts Ty.Date;
-  day = isIn ts Ty.Day;
-  integers = isIn ts Ty.Integers;
-  strings = isIn ts Ty.Strings;
-  array = isIn ts Ty.Array;
-  object = isIn ts Ty.Object;
-  instant = isIn ts Ty.Instant;
+abbrev pub set_of : Types → TypeSet
+set_of ts = record {
+  null = is_in ts Ty.Null;
+  boolean = is_in ts Ty.Boolean;
+  integer = is_in ts Ty.Integer;
+  string = is_in ts Ty.String;
+  date = is_in ts Ty.Date;
+  day = is_in ts Ty.Day;
+  integers = is_in ts Ty.Integers;
+  strings = is_in ts Ty.Strings;
+  array = is_in ts Ty.Array;
+  object = is_in ts Ty.Object;
+  instant = is_in ts Ty.Instant;
 }
 
 -- One type more, if it is there.

@@ -1,8 +1,8 @@
 // A set of types: whether each is in it.
 ghost use Rattle.std.specs.Prelude.{[], ◌∷◌, ◌++◌, true, false, cond, ◌≡◌, ◌≤◌};
-ghost use Rattle.model.specs.TypeCheck.{itemsTypes};
-ghost use Rattle.model.specs.Types.{isIn, passes as allPass, scalars as scalarTypes, anyOfRecord, anyValue, typeBits, tyNumber};
-ghost use Rattle.type_set.specs.Contract.{setOf, types_in};
+ghost use Rattle.model.specs.TypeCheck.{items_types};
+ghost use Rattle.model.specs.Types.{is_in, passes as allPass, scalars as scalarTypes, any_of_record, any_value, type_bits, ty_number};
+ghost use Rattle.type_set.specs.Contract.{set_of, types_in};
 
 use model::Ty;
 
@@ -23,7 +23,7 @@ pub struct TypeSet {
 
 // A type's place in the paper's order.
 fn number(k: Ty) -> u32
-    ensures { result ≡ tyNumber k }
+    ensures { result ≡ ty_number k }
 {
     match k {
         Ty::Null => 0,
@@ -42,7 +42,7 @@ fn number(k: Ty) -> u32
 
 // No type.
 pub fn none() -> TypeSet
-    ensures { result ≡ setOf [] }
+    ensures { result ≡ set_of [] }
 {
     TypeSet {
         null: false,
@@ -61,7 +61,7 @@ pub fn none() -> TypeSet
 
 // One type.
 pub fn only(k: Ty) -> TypeSet
-    ensures { result ≡ setOf (k ∷ []) }
+    ensures { result ≡ set_of (k ∷ []) }
 {
     let n = number(k);
     TypeSet {
@@ -81,7 +81,7 @@ pub fn only(k: Ty) -> TypeSet
 
 // Whether a type is in a set.
 pub fn has(s: TypeSet, k: Ty) -> bool
-    ensures { result ≡ isIn (types_in s) k }
+    ensures { result ≡ is_in (types_in s) k }
 {
     match k {
         Ty::Null => s.null,
@@ -100,7 +100,7 @@ pub fn has(s: TypeSet, k: Ty) -> bool
 
 // The types of either set.
 pub fn union(a: TypeSet, b: TypeSet) -> TypeSet
-    ensures { result ≡ setOf (types_in a ++ types_in b) }
+    ensures { result ≡ set_of (types_in a ++ types_in b) }
 {
     TypeSet {
         null: a.null | b.null,
@@ -159,28 +159,28 @@ fn scalars_with(containers: bool, instant: bool) -> TypeSet
 
 // "null, boolean, integer or string (a scalar)"
 pub fn scalars() -> TypeSet
-    ensures { result ≡ setOf scalarTypes }
+    ensures { result ≡ set_of scalarTypes }
 {
     scalars_with(false, false)
 }
 
 // "null, boolean, integer, string, array, object": whatever a record holds belongs to one of these.
 pub fn any_of_record() -> TypeSet
-    ensures { result ≡ setOf anyOfRecord }
+    ensures { result ≡ set_of any_of_record }
 {
     scalars_with(true, false)
 }
 
 // "those six and instant"
 pub fn any_value() -> TypeSet
-    ensures { result ≡ setOf anyValue }
+    ensures { result ≡ set_of any_value }
 {
     scalars_with(true, true)
 }
 
 // "items of integers are integer, of strings string, of array those seven"
 pub fn items_of(s: TypeSet) -> TypeSet
-    ensures { result ≡ setOf (itemsTypes (types_in s)) }
+    ensures { result ≡ set_of (items_types (types_in s)) }
 {
     TypeSet {
         null: s.array,
@@ -209,7 +209,7 @@ fn bit(there: bool, value: u64) -> u64
 
 // The set as a number: bit k stands for the type with the number k.
 pub fn bits(s: TypeSet) -> u64
-    ensures { result ≡ typeBits (types_in s) }
+    ensures { result ≡ type_bits (types_in s) }
 {
     bit(s.null, 1)
         + bit(s.boolean, 2)

@@ -10,20 +10,20 @@ use lib.IntN.{pos, negsuc, ◌-ℤ◌}
 use mir.Facts.{to_z-of_z, to_z_pos}
 use mir.Syntax.{w64}
 use mir.Val.{SFits, of_z, to_z}
-use Rattle.model.specs.Limits.{maxInteger}
+use Rattle.model.specs.Limits.{max_integer}
 use Rattle.model.specs.Laws.Logic.{and_r}
 use Rattle.syntax.specs.Layout.{unbiased}
 use Rattle.table.specs.declared.row.Row.{Row}
 use Rattle.table.specs.Row.{joined}
-use Rattle.viewer.specs.Form.{isInteger, integerIn}
+use Rattle.viewer.specs.Form.{is_integer, integer_in}
 
-pub integer-small : (n : ℕ) → isInteger n ≡ true → n < 18014398509481984
-unfolding maxInteger
-integer-small n e = omega (arith, leb→le n 18014398509481983 (and_r (leb 1 n) (leb n 18014398509481983) (rw e tt)))
+pub integer_small : (n : ℕ) → is_integer n ≡ true → n < 18014398509481984
+unfolding max_integer
+integer_small n e = omega (arith, leb→le n 18014398509481983 (and_r (leb 1 n) (leb n 18014398509481983) (rw e tt)))
 
-difference-is : (n : ℕ) → pos n -ℤ pos 9007199254740992 ≡ unbiased n
+difference_is : (n : ℕ) → pos n -ℤ pos 9007199254740992 ≡ unbiased n
 unfolding unbiased
-difference-is n = go (dec_lt n 9007199254740992)
+difference_is n = go (dec_lt n 9007199254740992)
   where
     go : Dec (n < 9007199254740992) → pos n -ℤ pos 9007199254740992 ≡ unbiased n
     go (yes p) =
@@ -31,9 +31,9 @@ difference-is n = go (dec_lt n 9007199254740992)
         rw (unbiased, lt-ltb n 9007199254740992 p, lt-leb 9007199254740992 n p) (ap negsuc e)
     go (no p) = rw (unbiased, le-ltb n 9007199254740992 (omega arith), le-leb 9007199254740992 n (omega arith))
 
-unbiased-fits : (n : ℕ) → n < 18014398509481984 → SFits w64 (unbiased n)
+unbiased_fits : (n : ℕ) → n < 18014398509481984 → SFits w64 (unbiased n)
 unfolding unbiased
-unbiased-fits n h = go (dec_lt n 9007199254740992)
+unbiased_fits n h = go (dec_lt n 9007199254740992)
   where
     go : Dec (n < 9007199254740992) → SFits w64 (unbiased n)
     go (yes p) = rw (unbiased, lt-leb 9007199254740992 n p) (record { sfits = omega arith })
@@ -41,22 +41,22 @@ unbiased-fits n h = go (dec_lt n 9007199254740992)
 
 -- As the machine reads and subtracts.
 minus_is : (n : ℕ) → n < 18014398509481984 → to_z w64 n -ℤ pos 9007199254740992 ≡ unbiased n
-minus_is n h = rw (to_z_pos w64 {n = n} (omega arith)) (difference-is n)
+minus_is n h = rw (to_z_pos w64 {n = n} (omega arith)) (difference_is n)
 
-pub minus-fits : (n : ℕ) → n < 18014398509481984 → SFits w64 (to_z w64 n -ℤ pos 9007199254740992)
-minus-fits n h = rw (minus_is n h) (unbiased-fits n h)
+pub minus_fits : (n : ℕ) → n < 18014398509481984 → SFits w64 (to_z w64 n -ℤ pos 9007199254740992)
+minus_fits n h = rw (minus_is n h) (unbiased_fits n h)
 
-pub integer-is : (n : ℕ) → n < 18014398509481984 → to_z w64 (of_z w64 (to_z w64 n -ℤ pos 9007199254740992)) ≡ unbiased n
-integer-is n h = to_z-of_z (minus-fits n h) ∙ minus_is n h
+pub integer_is : (n : ℕ) → n < 18014398509481984 → to_z w64 (of_z w64 (to_z w64 n -ℤ pos 9007199254740992)) ≡ unbiased n
+integer_is n h = to_z-of_z (minus_fits n h) ∙ minus_is n h
 
 -- ---- by a row's two numbers
 module _ (r : Row) where
-  pub an-integer-in : isInteger (joined r) ≡ true → unbiased (joined r) ≡ integerIn r
-  an-integer-in e = rw e
+  pub an_integer_in : is_integer (joined r) ≡ true → unbiased (joined r) ≡ integer_in r
+  an_integer_in e = rw e
 
-  pub no-integer-in : isInteger (joined r) ≡ false → pos 0 ≡ integerIn r
-  no-integer-in e = rw e
+  pub no_integer_in : is_integer (joined r) ≡ false → pos 0 ≡ integer_in r
+  no_integer_in e = rw e
 
-  pub too_large : 18014398509481984 ≤ joined r → pos 0 ≡ integerIn r
-  unfolding maxInteger
-  too_large h = no-integer-in (rw (le-leb 1 (joined r) (omega arith), lt-leb (joined r) 18014398509481983 (omega arith)))
+  pub too_large : 18014398509481984 ≤ joined r → pos 0 ≡ integer_in r
+  unfolding max_integer
+  too_large h = no_integer_in (rw (le-leb 1 (joined r) (omega arith), lt-leb (joined r) 18014398509481983 (omega arith)))

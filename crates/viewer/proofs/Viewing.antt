@@ -63,8 +63,8 @@ module _ {M : Type 1} {𝓤 : Ura M} (𝓛 : Logic 𝓤) (κ : Lft) (d : Viewer)
   vd = (d.table, (d.place, tt))
 
   -- the struct is Copy: what it owns is had twice, one copy is kept whole, and of the other what table owns is taken
-  pub table-out : ent 𝓤 (sem 𝓛 (OfViewer κ d)) (sep 𝓤 (sem 𝓛 (OfTable κ d.table)) (sem 𝓛 (OfViewer κ d)))
-  table-out =
+  pub table_out : ent 𝓤 (sem 𝓛 (OfViewer κ d)) (sep 𝓤 (sem 𝓛 (OfTable κ d.table)) (sem 𝓛 (OfViewer κ d)))
+  table_out =
       qed 𝓛 (‵ (OfViewer κ d) ∷ []) ∵ use1 𝓛 (‵ (OfViewer κ d) ⊛ ‵ (OfViewer κ d)) ((LL.copy D (T'.the_copy (named_lft 1 0 tt (κ, tt))) 𝓛).twice d (T'.lowered d ∷ [])) $ split ! $
       use1 𝓛 (given (T'.lowered d ∷ [] ≡ T'.lowered d ∷ []) (‵ (all_own D.parts L vd))) (own_open 𝓛 D L vd (T'.lowered d)) $ learn ! (λ _. use1 𝓛 (‵ (field_own D.parts L 0 d.table) ⊛ ‵ (rest D.parts L 0 vd)) (own_out 𝓛 D.parts L 0 vd) $ split ! $
       -- [what table owns; what place owns; what the struct owns]
@@ -77,17 +77,17 @@ module _ {M : Type 1} {𝓤 : Ura M} (𝓛 : Logic 𝓤) (mem : Memory → SProp
 
   -- the call of `new`: what it is passed, what it asks, beside what the table owns, which is kept, and what is known of its result
   module _ (κ : Lft) (q : Share) (s : Bor (List ℕ)) (n : ℕ) where
-    abbrev pub to-new : New.Ghost
-    to-new = (((κ, tt), (q, tt), tt, (s, (n, tt)), (machine s ∷ [], (vint w64 n ∷ [], tt))), tt)
+    abbrev pub to_new : New.Ghost
+    to_new = (((κ, tt), (q, tt), tt, (s, (n, tt)), (machine s ∷ [], (vint w64 n ∷ [], tt))), tt)
 
-    asked : ent 𝓤 (on_entry 𝓛 new.signature (κ, tt) (q, tt) (s, (n, tt)) (machine s ∷ [], (vint w64 n ∷ [], tt))) (New.pre to-new)
+    asked : ent 𝓤 (on_entry 𝓛 new.signature (κ, tt) (q, tt) (s, (n, tt)) (machine s ∷ [], (vint w64 n ∷ [], tt))) (New.pre to_new)
     asked = qed 𝓛 ((‵ (flft κ q) ⊛ ‵ ftrue) ∷ ‵ (owns (ShrSlice (named 0) κ u8 ∷ usize ∷ []) (s, (n, tt)) (machine s ∷ [], (vint w64 n ∷ [], tt))) ∷ []) ∵ join ! $ frame ! $ done !
 
-    pub goes-new : n < 2 ^ 64 → ent 𝓤 (⋆ 𝓛 ((‵ (flft κ q) ⊛ ‵ ftrue) ∷ ‵ (OfTable κ s) ∷ [])) (sep 𝓤 (New.pre to-new) (sem 𝓛 (OfTable κ s)))
-    goes-new fits =
+    pub goes_new : n < 2 ^ 64 → ent 𝓤 (⋆ 𝓛 ((‵ (flft κ q) ⊛ ‵ ftrue) ∷ ‵ (OfTable κ s) ∷ [])) (sep 𝓤 (New.pre to_new) (sem 𝓛 (OfTable κ s)))
+    goes_new fits =
         qed 𝓛 ((‵ (flft κ q) ⊛ ‵ ftrue) ∷ ‵ (OfTable κ s) ∷ []) ∵
         move ! (1 ∷ []) $ use1 𝓛 (‵ (OfTable κ s) ⊛ ‵ (OfTable κ s)) ((shr_slice_copy 𝓛 (named 0) κ u8).twice s (machine s ∷ [])) $ split ! $
-        nothing ! $ owned ! usize (Is usize) (uint_Makes 𝓛 w64) n _ (refl, fits) $ fjoin ! $ move ! (1 ∷ 0 ∷ []) $ fjoin ! $ move ! (2 ∷ 0 ∷ []) $ use2 𝓛 (raw (New.pre to-new)) asked $ frame ! $ done !
+        nothing ! $ owned ! usize (Is usize) (uint_Makes 𝓛 w64) n _ (refl, fits) $ fjoin ! $ move ! (1 ∷ 0 ∷ []) $ fjoin ! $ move ! (2 ∷ 0 ∷ []) $ use2 𝓛 (raw (New.pre to_new)) asked $ frame ! $ done !
 
-    pub new-said : (r : Viewer) → ent 𝓤 (ensured 𝓛 new.ended (new.clauses 𝓛 mem run) (κ, tt) (s, (n, tt)) tt r) (fact 𝓤 ((r.table ≡ s) × (r.place ≡ n)))
-    new-said r = ex_e 𝓤 _ (λ ws. snd∗ 𝓤 (sem 𝓛 (lasts new.ended (κ, tt) (s, (n, tt)) ws)) (fact 𝓤 ((r.table ≡ s) × (r.place ≡ n))))
+    pub new_said : (r : Viewer) → ent 𝓤 (ensured 𝓛 new.ended (new.clauses 𝓛 mem run) (κ, tt) (s, (n, tt)) tt r) (fact 𝓤 ((r.table ≡ s) × (r.place ≡ n)))
+    new_said r = ex_e 𝓤 _ (λ ws. snd∗ 𝓤 (sem 𝓛 (lasts new.ended (κ, tt) (s, (n, tt)) ws)) (fact 𝓤 ((r.table ≡ s) × (r.place ≡ n))))

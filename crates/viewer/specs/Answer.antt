@@ -15,23 +15,23 @@ pub record Seen : Type 0 where
   pub count : ℕ
 
 -- Of every row the kind, the count and the name;
-abbrev pub seenOf : RowAnswer → Option Seen
-seenOf (rows.Is r) = some (record { kind = r.kind; count = count_of r })
-seenOf rows.NotThere = none
+abbrev pub seen_of : RowAnswer → Option Seen
+seen_of (rows.Is r) = some (record { kind = r.kind; count = count_of r })
+seen_of rows.NotThere = none
 
 abbrev pub name_of : RowAnswer → Option Span
 name_of (rows.Is r) = some r.name
 name_of rows.NotThere = none
 
 -- of an integer's its integer,
-abbrev pub integerOf : RowAnswer → Option ℤ
-integerOf (rows.Is r) = cond (eqb r.kind 4) (some (unbiased (joined r))) none
-integerOf rows.NotThere = none
+abbrev pub integer_of : RowAnswer → Option ℤ
+integer_of (rows.Is r) = cond (eqb r.kind 4) (some (unbiased (joined r))) none
+integer_of rows.NotThere = none
 
 -- of a string's where it lies.
-abbrev pub stringOf : RowAnswer → Option Span
-stringOf (rows.Is r) = cond (eqb r.kind 5) (some (record { start = r.first; size = r.second })) none
-stringOf rows.NotThere = none
+abbrev pub string_of : RowAnswer → Option Span
+string_of (rows.Is r) = cond (eqb r.kind 5) (some (record { start = r.first; size = r.second })) none
+string_of rows.NotThere = none
 
 abbrev pub place_of : PartAnswer → Option ℕ
 place_of (parts.At place) = some place

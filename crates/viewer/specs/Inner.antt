@@ -5,15 +5,15 @@ use Rattle.model.specs.Bytes.{Bytes}
 use Rattle.model.specs.Option.{or_else}
 use Rattle.viewer.specs.declared.part.PartAnswer.{PartAnswer}
 use Rattle.viewer.specs.declared.part.PartAnswer.TheVariants as parts
-use Rattle.viewer.specs.View.{nextWithin}
+use Rattle.viewer.specs.View.{next_within}
 
 -- 0 stands for none: no part of a value lies in row 0.
 abbrev pub after : Bytes → ℕ → ℕ → ℕ
-after T end place = or_else (cond (eqb place 0) none (nextWithin T end place)) 0
+after T end place = or_else (cond (eqb place 0) none (next_within T end place)) 0
 
-unfoldable pub afterAll : Bytes → ℕ → ℕ → ℕ → ℕ
-afterAll T end place zero = place
-afterAll T end place (suc n) = after T end (afterAll T end place n)
+unfoldable pub after_all : Bytes → ℕ → ℕ → ℕ → ℕ
+after_all T end place zero = place
+after_all T end place (suc n) = after T end (after_all T end place n)
 
-abbrev pub partAfter : Bytes → ℕ → ℕ → PartAnswer
-partAfter T end at = cond (eqb (after T end at) 0) parts.NotThere (parts.At at)
+abbrev pub part_after : Bytes → ℕ → ℕ → PartAnswer
+part_after T end at = cond (eqb (after T end at) 0) parts.NotThere (parts.At at)

@@ -8,16 +8,16 @@ use Rattle.viewer.specs.declared.row.RowAnswer.{RowAnswer}
 use Rattle.viewer.specs.declared.row.RowAnswer.TheVariants as rows
 use Rattle.viewer.specs.declared.part.PartAnswer.{PartAnswer}
 use Rattle.viewer.specs.declared.part.PartAnswer.TheVariants as parts
-use Rattle.viewer.specs.Form.{hasForm}
-use Rattle.table.specs.Row.{numbersAt}
-use Rattle.viewer.specs.Row.{rowCount, count_of, end_of}
+use Rattle.viewer.specs.Form.{has_form}
+use Rattle.table.specs.Row.{numbers_at}
+use Rattle.viewer.specs.Row.{row_count, count_of, end_of}
 
 -- ---- the row at a place
 -- It is there and has the form.
-abbrev pub rowSeen : Bytes → ℕ → RowAnswer
-rowSeen T place =
-    cond (ltb place (rowCount T) && hasForm (rowCount T) place (numbersAt T place))
-    (rows.Is (numbersAt T place))
+abbrev pub row_seen : Bytes → ℕ → RowAnswer
+row_seen T place =
+    cond (ltb place (row_count T) && has_form (row_count T) place (numbers_at T place))
+    (rows.Is (numbers_at T place))
     rows.NotThere
 
 -- ---- the parts of a container that ends before the row `end`
@@ -26,22 +26,22 @@ abbrev pub next_of : ℕ → ℕ → RowAnswer → Option ℕ
 next_of end place (rows.Is r) = cond (leb (end_of place r) end) (some (end_of place r)) none
 next_of end place rows.NotThere = none
 
-abbrev pub nextWithin : Bytes → ℕ → ℕ → Option ℕ
-nextWithin T end place = next_of end place (rowSeen T place)
+abbrev pub next_within : Bytes → ℕ → ℕ → Option ℕ
+next_within T end place = next_of end place (row_seen T place)
 
 -- The place of the nth value from a place on, where all before it and it itself are such.
-unfoldable pub nthWithin : Bytes → ℕ → ℕ → ℕ → Option ℕ
-nthWithin T end zero place = nextWithin T end place >>= λ _. some place
-nthWithin T end (suc n) place = nextWithin T end place >>= nthWithin T end n
+unfoldable pub nth_within : Bytes → ℕ → ℕ → ℕ → Option ℕ
+nth_within T end zero place = next_within T end place >>= λ _. some place
+nth_within T end (suc n) place = next_within T end place >>= nth_within T end n
 
 abbrev pub part_of : Option ℕ → PartAnswer
 part_of none = parts.NotThere
 part_of (some place) = parts.At place
 
 -- The parts stand from the next row on. A container has as many as its count.
-abbrev pub partOfRow : Bytes → ℕ → ℕ → RowAnswer → PartAnswer
-partOfRow T place nth (rows.Is r) = cond (ltb nth (count_of r)) (part_of (nthWithin T r.second nth (place + 1))) parts.NotThere
-partOfRow T place nth rows.NotThere = parts.NotThere
+abbrev pub part_of_row : Bytes → ℕ → ℕ → RowAnswer → PartAnswer
+part_of_row T place nth (rows.Is r) = cond (ltb nth (count_of r)) (part_of (nth_within T r.second nth (place + 1))) parts.NotThere
+part_of_row T place nth rows.NotThere = parts.NotThere
 
-abbrev pub partSeen : Bytes → ℕ → ℕ → PartAnswer
-partSeen T place nth = partOfRow T place nth (rowSeen T place)
+abbrev pub part_seen : Bytes → ℕ → ℕ → PartAnswer
+part_seen T place nth = part_of_row T place nth (row_seen T place)

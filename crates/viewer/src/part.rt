@@ -1,7 +1,7 @@
 // The parts of a container: where the nth item or member's content lies.
 ghost use Rattle.std.specs.Prelude.{◌≡◌, ◌<◌};
-ghost use Rattle.viewer.specs.Inner.{after, afterAll, partAfter};
-ghost use Rattle.viewer.specs.Contract.{partSeen};
+ghost use Rattle.viewer.specs.Inner.{after, after_all, part_after};
+ghost use Rattle.viewer.specs.Contract.{part_seen};
 ghost use Rattle.viewer.specs.Row.{end_of};
 
 use crate::row::{RowAnswer, count_of, find_row};
@@ -47,7 +47,7 @@ fn next(table: &[u8], end: usize, place: usize) -> usize
 
 // The place after so many values from a place on, or 0.
 fn skip(table: &[u8], end: usize, place: usize, nth: usize) -> usize
-    ensures { result ≡ afterAll table.now end place nth }
+    ensures { result ≡ after_all table.now end place nth }
 {
     let mut at = place;
     let mut i = 0;
@@ -60,7 +60,7 @@ fn skip(table: &[u8], end: usize, place: usize, nth: usize) -> usize
 
 // The nth value from a place on, within a container's end.
 fn part_from(table: &[u8], end: usize, place: usize, nth: usize) -> PartAnswer
-    ensures { result ≡ partAfter table.now end (afterAll table.now end place nth) }
+    ensures { result ≡ part_after table.now end (after_all table.now end place nth) }
 {
     let at = skip(table, end, place, nth);
     if next(table, end, at) == 0 {
@@ -71,7 +71,7 @@ fn part_from(table: &[u8], end: usize, place: usize, nth: usize) -> PartAnswer
 
 // The nth part of the value at a place, from 0.
 pub fn find_part(table: &[u8], place: usize, nth: usize) -> PartAnswer
-    ensures { result ≡ partSeen table.now place nth }
+    ensures { result ≡ part_seen table.now place nth }
 {
     let RowAnswer::Is(r) = find_row(table, place) else {
         return PartAnswer::NotThere;

@@ -1,9 +1,9 @@
 // The rows of a table: how many there are, and whether their numbers have the form of docs/LAYOUT.md.
 ghost use Rattle.std.specs.Prelude.{◌≡◌};
-ghost use Rattle.viewer.specs.Contract.{integerIn, count_of, rowSeen};
-ghost use Rattle.viewer.specs.Form.{isWithin, isInteger, isSpan, hasContent, hasForm};
+ghost use Rattle.viewer.specs.Contract.{integer_in, count_of, row_seen};
+ghost use Rattle.viewer.specs.Form.{is_within, is_integer, is_span, has_content, has_form};
 ghost use Rattle.table.specs.Row.{Halves};
-ghost use Rattle.viewer.specs.Row.{rowCount};
+ghost use Rattle.viewer.specs.Row.{row_count};
 
 use model::MAX_VALUES;
 use syntax::{ARRAY_ROW, BIAS, INTEGER_ROW, OBJECT_ROW, ROW_BYTES, STRING_ROW, STRINGS_BYTES};
@@ -21,7 +21,7 @@ pub enum RowAnswer {
 
 // How many rows a table has: as many as fit, and no more than a text has values.
 fn row_count(table: &[u8]) -> usize
-    ensures { result ≡ rowCount table.now }
+    ensures { result ≡ row_count table.now }
 {
     let n = table.len() / ROW_BYTES;
     if n < MAX_VALUES {
@@ -32,7 +32,7 @@ fn row_count(table: &[u8]) -> usize
 
 // So many bytes from a start lie within a strings area.
 fn is_within(start: usize, size: usize) -> bool
-    ensures { result ≡ isWithin start size }
+    ensures { result ≡ is_within start size }
 {
     if STRINGS_BYTES < start {
         return false;
@@ -42,7 +42,7 @@ fn is_within(start: usize, size: usize) -> bool
 
 // An integer within the limits, to which 2^53 was added.
 fn is_integer(n: u64) -> bool
-    ensures { result ≡ isInteger n }
+    ensures { result ≡ is_integer n }
 {
     if n == 0 {
         return false;
@@ -52,7 +52,7 @@ fn is_integer(n: u64) -> bool
 
 // A container at a place of so many rows, with so many parts, that ends before a row.
 fn is_span(rows: usize, place: usize, count: usize, end: usize) -> bool
-    ensures { result ≡ isSpan rows place count end }
+    ensures { result ≡ is_span rows place count end }
 {
     if end <= place {
         return false;
@@ -70,7 +70,7 @@ fn is_span(rows: usize, place: usize, count: usize, end: usize) -> bool
 // The last two numbers are as the kind wants them.
 fn has_content(rows: usize, place: usize, r: Row) -> bool
     requires { Halves r }
-    ensures { result ≡ hasContent rows place r }
+    ensures { result ≡ has_content rows place r }
 {
     let kind = r.kind;
     if kind == 0 {
@@ -94,7 +94,7 @@ fn has_content(rows: usize, place: usize, r: Row) -> bool
 // A row at a place of so many rows has the form.
 fn has_form(rows: usize, place: usize, r: Row) -> bool
     requires { Halves r }
-    ensures { result ≡ hasForm rows place r }
+    ensures { result ≡ has_form rows place r }
 {
     let name = r.name;
     if is_within(name.start, name.size) {
@@ -105,7 +105,7 @@ fn has_form(rows: usize, place: usize, r: Row) -> bool
 
 // The row at a place.
 pub fn find_row(table: &[u8], place: usize) -> RowAnswer
-    ensures { result ≡ rowSeen table.now place }
+    ensures { result ≡ row_seen table.now place }
 {
     let rows = row_count(table);
     if rows <= place {
@@ -130,7 +130,7 @@ pub fn count_of(r: Row) -> usize
 
 // The integer in a row of an integer; 0 where the row's numbers are none's.
 pub fn integer_of(r: Row) -> i64
-    ensures { result ≡ integerIn r }
+    ensures { result ≡ integer_in r }
 {
     if r.first >= TOO_LARGE {
         return 0;

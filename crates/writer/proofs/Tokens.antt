@@ -8,24 +8,24 @@ use borrow.Author.Tests.{le-leb, lt-leb}
 use lib.IntN.{ℤ, pos, negsuc}
 use lib.ListN.{length, length-append}
 use Rattle.model.specs.Bytes.{Bytes, ascii}
-use Rattle.model.specs.Instant.{in_range, ranged, fromYear0}
-use Rattle.model.specs.InstantText.{instantText}
-use Rattle.model.specs.Limits.{maxTextBytes}
-use Rattle.model.specs.Refusal.{outOfRange}
+use Rattle.model.specs.Instant.{in_range, ranged, from_year0}
+use Rattle.model.specs.InstantText.{instant_text}
+use Rattle.model.specs.Limits.{max_text_bytes}
+use Rattle.model.specs.Refusal.{out_of_range}
 use Rattle.model.specs.Result.{ok, refuse, provided}
 use Rattle.model.specs.Value.{scalar, instant, null}
-use Rattle.model.specs.Writing.{decimal, integerText, stringText, valueText}
+use Rattle.model.specs.Writing.{decimal, integer_text, string_text, value_text}
 use Rattle.model.specs.Laws.Logic.{clash}
 use Rattle.syntax.specs.Layout.{unbiased}
-use Rattle.heap.specs.Unfold.{instantAt}
+use Rattle.heap.specs.Unfold.{instant_at}
 use Rattle.print.specs.Contract.{Put, StringPut}
-use Rattle.print.specs.Laws.{put_then, string-fits, string-passes}
+use Rattle.print.specs.Laws.{put_then, string_fits, string_passes}
 use Rattle.writer.specs.Inner.{Puts}
 use Rattle.writer.proofs.Pieces.{Passing, stays, passes, passing}
 
 -- ---- one text after another
-pub puts-as : {x y : Bytes} {at r : ℕ} {d d' : Bytes} → Puts x at d r d' → x ≡ y → Puts y at d r d'
-puts-as p e = rw e at p
+pub puts_as : {x y : Bytes} {at r : ℕ} {d d' : Bytes} → Puts x at d r d' → x ≡ y → Puts y at d r d'
+puts_as p e = rw e at p
 
 -- A text, and bytes behind it.
 pub puts_then : {x y : Bytes} {at m r : ℕ} {d d₁ d₂ : Bytes} → Puts x at d m d₁ → Put y m d₁ r d₂ → Puts (x ++ y) at d r d₂
@@ -33,13 +33,13 @@ puts_then {x} {y} {at} {m} {r} {d} {d₁} {d₂} p q =
     let l = length-append x y in
     record { fits = λ k. put_then (p.fits (omega arith)) q; passes = λ k. past k (passing (at + length x)) }
   where
-    past : maxTextBytes < at + length (x ++ y) → Passing (at + length x) → maxTextBytes < r
+    past : max_text_bytes < at + length (x ++ y) → Passing (at + length x) → max_text_bytes < r
     past k (stays h) = omega (arith, length-append x y, (p.fits h).end, q.end)
     past k (passes h) = omega (arith, p.passes h, q.end)
 
 -- Bytes, and a text behind them.
-pub then-puts : {x y : Bytes} {at m r : ℕ} {d d₁ d₂ : Bytes} → Put x at d m d₁ → Puts y m d₁ r d₂ → Puts (x ++ y) at d r d₂
-then-puts {x} {y} p q =
+pub then_puts : {x y : Bytes} {at m r : ℕ} {d d₁ d₂ : Bytes} → Put x at d m d₁ → Puts y m d₁ r d₂ → Puts (x ++ y) at d r d₂
+then_puts {x} {y} p q =
     let l = length-append x y in
     let e = p.end in
     record { fits = λ k. put_then p (q.fits (omega arith)); passes = λ k. q.passes (omega arith) }
@@ -53,31 +53,31 @@ down : (n : ℕ) → n < 9007199254740992 → negsuc (9007199254740991 - n) ≡ 
 unfolding unbiased
 down n h = rw (lt-leb 9007199254740992 n h, unbiased)
 
-pub integer-up : (n : ℕ) → 9007199254740992 ≤ n → decimal (n - 9007199254740992) ≡ integerText (unbiased n)
-integer-up n h = ap integerText (up n h)
+pub integer_up : (n : ℕ) → 9007199254740992 ≤ n → decimal (n - 9007199254740992) ≡ integer_text (unbiased n)
+integer_up n h = ap integer_text (up n h)
 
-pub integer-down : (n : ℕ) → n < 9007199254740992 → ascii "-" ++ decimal (9007199254740992 - n) ≡ integerText (unbiased n)
-integer-down n h =
+pub integer_down : (n : ℕ) → n < 9007199254740992 → ascii "-" ++ decimal (9007199254740992 - n) ≡ integer_text (unbiased n)
+integer_down n h =
     let e : 9007199254740992 - n ≡ suc (9007199254740991 - n) = omega arith in
-    ap (λ (k : ℕ). ascii "-" ++ decimal k) e ∙ ap integerText (down n h)
+    ap (λ (k : ℕ). ascii "-" ++ decimal k) e ∙ ap integer_text (down n h)
 
 -- ---- instants
-pub instant-in : (n : ℕ) {t : ℤ} → ok t ≡ ranged (fromYear0 n) → stringText (instantText t) ≡ valueText (instantAt n)
-unfolding instantAt valueText
-instant-in n {t} = go (in_range (fromYear0 n)) (fromYear0 n)
+pub instant_in : (n : ℕ) {t : ℤ} → ok t ≡ ranged (from_year0 n) → string_text (instant_text t) ≡ value_text (instant_at n)
+unfolding instant_at value_text
+instant_in n {t} = go (in_range (from_year0 n)) (from_year0 n)
   where
-    go : (b : Bool) (z : ℤ) → ok t ≡ provided b outOfRange (ok z) → stringText (instantText t) ≡ valueText (elim b [ true ↦ instant z | false ↦ scalar null ])
-    go true z e = let f : t ≡ z = cc in ap (λ (x : ℤ). stringText (instantText x)) f
+    go : (b : Bool) (z : ℤ) → ok t ≡ provided b out_of_range (ok z) → string_text (instant_text t) ≡ value_text (elim b [ true ↦ instant z | false ↦ scalar null ])
+    go true z e = let f : t ≡ z = cc in ap (λ (x : ℤ). string_text (instant_text x)) f
     go false z e = clash cc
 
-pub instant-out : (n : ℕ) → refuse outOfRange ≡ ranged (fromYear0 n) → ascii "null" ≡ valueText (instantAt n)
-unfolding instantAt valueText
-instant-out n = go (in_range (fromYear0 n)) (fromYear0 n)
+pub instant_out : (n : ℕ) → refuse out_of_range ≡ ranged (from_year0 n) → ascii "null" ≡ value_text (instant_at n)
+unfolding instant_at value_text
+instant_out n = go (in_range (from_year0 n)) (from_year0 n)
   where
-    go : (b : Bool) (z : ℤ) → refuse outOfRange ≡ provided b outOfRange (ok z) → ascii "null" ≡ valueText (elim b [ true ↦ instant z | false ↦ scalar null ])
+    go : (b : Bool) (z : ℤ) → refuse out_of_range ≡ provided b out_of_range (ok z) → ascii "null" ≡ value_text (elim b [ true ↦ instant z | false ↦ scalar null ])
     go true z e = clash cc
     go false z e = refl
 
 -- ---- strings
-pub string-puts : {s : Bytes} {at r : ℕ} {d d' : Bytes} → StringPut s at d r d' → Puts (stringText s) at d r d'
-string-puts p = record { fits = λ k. string-fits p (omega arith); passes = string-passes p }
+pub string_puts : {s : Bytes} {at r : ℕ} {d d' : Bytes} → StringPut s at d r d' → Puts (string_text s) at d r d'
+string_puts p = record { fits = λ k. string_fits p (omega arith); passes = string_passes p }

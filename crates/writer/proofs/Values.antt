@@ -10,15 +10,15 @@ use denote.Enum.Declared.{tag_of}
 use types.Run.{OneOf}
 use lib.ListN.{length, length-append, set}
 use lib.Seq.{sets}
-use Rattle.area.specs.Laws.{sets-append}
+use Rattle.area.specs.Laws.{sets_append}
 use Rattle.model.specs.Bytes.{Bytes}
-use Rattle.model.specs.Instant.{in_range, fromYear0}
-use Rattle.model.specs.Limits.{maxTextBytes}
-use Rattle.model.specs.Size.{valueCount, nesting}
+use Rattle.model.specs.Instant.{in_range, from_year0}
+use Rattle.model.specs.Limits.{max_text_bytes}
+use Rattle.model.specs.Size.{value_count, nesting}
 use Rattle.model.specs.Value.{Value, scalar, instant, null}
-use Rattle.model.specs.Writing.{valueText}
+use Rattle.model.specs.Writing.{value_text}
 use Rattle.model.specs.Laws.Logic.{clash}
-use Rattle.syntax.specs.Laws.Layout.{count-positive}
+use Rattle.syntax.specs.Laws.Layout.{count_positive}
 use Rattle.heap.specs.contracts.handle.Handle.{the_type}
 use Rattle.heap.specs.declared.handle.Handle.{Handle}
 use Rattle.heap.specs.declared.handle.Handle.TheVariants.{Null, False, True, Integer, Instant, String, Compound}
@@ -26,17 +26,17 @@ use Rattle.heap.specs.declared.handle.Form.{Form}
 use Rattle.heap.specs.declared.handle.Form.TheVariants.{Items, Members, List, Context}
 use Rattle.heap.specs.declared.handle.Parts.{Parts}
 use Rattle.heap.specs.declared.handle.Span.{Span}
-use Rattle.heap.specs.Unfold.{Areas, compoundBy, opened, valueBy, unfolded, instantAt}
+use Rattle.heap.specs.Unfold.{Areas, compound_by, opened, value_by, unfolded, instant_at}
 use Rattle.writer.specs.declared.value.Progress.{Progress}
 use Rattle.writer.specs.declared.value.Progress.TheVariants.{TooLarge, At}
-use Rattle.writer.specs.Inner.{Puts, Piece, piece, valuePiece, insidePiece, handleText, openingOf, Writes, wrote, over, within, ValueWrites, PartsWrite}
-use Rattle.writer.proofs.Pieces.{Passing, stays, passes, passing, within-stays, within-passes, ends}
+use Rattle.writer.specs.Inner.{Puts, Piece, piece, value_piece, inside_piece, handle_text, opening_of, Writes, wrote, over, within, ValueWrites, PartsWrite}
+use Rattle.writer.proofs.Pieces.{Passing, stays, passes, passing, within_stays, within_passes, ends}
 
 -- ---- refused at once
-pub none_left : (v : Value) {deep left at : ℕ} {d d₁ : Bytes} → left ≡ 0 → Writes (valuePiece v) deep left at d TooLarge d₁
-none_left v e = over (inr (inl (omega (arith, count-positive v)))) refl
+pub none_left : (v : Value) {deep left at : ℕ} {d d₁ : Bytes} → left ≡ 0 → Writes (value_piece v) deep left at d TooLarge d₁
+none_left v e = over (inr (inl (omega (arith, count_positive v)))) refl
 
-pub too_long : (v : Value) {deep left at : ℕ} {d d₁ : Bytes} → maxTextBytes < at → Writes (valuePiece v) deep left at d TooLarge d₁
+pub too_long : (v : Value) {deep left at : ℕ} {d d₁ : Bytes} → max_text_bytes < at → Writes (value_piece v) deep left at d TooLarge d₁
 too_long v h = over (inr (inr (omega arith))) refl
 
 -- Whatever its parts are, an array or object nests.
@@ -44,104 +44,104 @@ nests : (a : Areas) (f : Handle → Value) (p : Parts) → 1 ≤ nesting (opened
 unfolding nesting
 nests a f p = go p.form
   where
-    go : (form : Form) → 1 ≤ nesting (compoundBy a f form p)
+    go : (form : Form) → 1 ≤ nesting (compound_by a f form p)
     go Items = omega arith
     go Members = omega arith
     go List = omega arith
     go Context = omega arith
 
-pub too-deep : (a : Areas) (p : Parts) {deep left at : ℕ} {d d₁ : Bytes} → deep ≡ 0 → Writes (valuePiece (unfolded a deep (Compound p))) deep left at d TooLarge d₁
+pub too_deep : (a : Areas) (p : Parts) {deep left at : ℕ} {d d₁ : Bytes} → deep ≡ 0 → Writes (value_piece (unfolded a deep (Compound p))) deep left at d TooLarge d₁
 unfolding unfolded
-too-deep a p {deep} e = rw e (over (inl (omega (arith, nests a (λ x. scalar null) p))) refl)
+too_deep a p {deep} e = rw e (over (inl (omega (arith, nests a (λ x. scalar null) p))) refl)
 
 -- ---- scalars and instants
-instant-piece : (n : ℕ) → valuePiece (instantAt n) ≡ piece (valueText (instantAt n)) 1 0
-unfolding instantAt valueCount nesting
-instant-piece n = go (in_range (fromYear0 n))
+instant_piece : (n : ℕ) → value_piece (instant_at n) ≡ piece (value_text (instant_at n)) 1 0
+unfolding instant_at value_count nesting
+instant_piece n = go (in_range (from_year0 n))
   where
-    go : (b : Bool) → valuePiece (elim b [ true ↦ instant (fromYear0 n) | false ↦ scalar null ]) ≡ piece (valueText (elim b [ true ↦ instant (fromYear0 n) | false ↦ scalar null ])) 1 0
+    go : (b : Bool) → value_piece (elim b [ true ↦ instant (from_year0 n) | false ↦ scalar null ]) ≡ piece (value_text (elim b [ true ↦ instant (from_year0 n) | false ↦ scalar null ])) 1 0
     go true = refl
     go false = refl
 
 -- A handle of no array or object.
 pub data Scalarlike : Handle → Type 0 where
-  of-null : Scalarlike Null
-  of-false : Scalarlike False
-  of-true : Scalarlike True
-  of-integer : {n : ℕ} → Scalarlike (Integer n)
-  of-instant : {n : ℕ} → Scalarlike (Instant n)
-  of-string : {s : Span} → Scalarlike (String s)
+  of_null : Scalarlike Null
+  of_false : Scalarlike False
+  of_true : Scalarlike True
+  of_integer : {n : ℕ} → Scalarlike (Integer n)
+  of_instant : {n : ℕ} → Scalarlike (Instant n)
+  of_string : {s : Span} → Scalarlike (String s)
 
 pub scalarlike : (h : Handle) → OneOf (0 ∷ 1 ∷ 2 ∷ 3 ∷ 4 ∷ 5 ∷ []) (tag_of the_type h) → Scalarlike h
-scalarlike Null k = of-null
-scalarlike False k = of-false
-scalarlike True k = of-true
-scalarlike (Integer n) k = of-integer
-scalarlike (Instant n) k = of-instant
-scalarlike (String s) k = of-string
+scalarlike Null k = of_null
+scalarlike False k = of_false
+scalarlike True k = of_true
+scalarlike (Integer n) k = of_integer
+scalarlike (Instant n) k = of_instant
+scalarlike (String s) k = of_string
 scalarlike (Compound p) k = absurd (⊎_elim (λ x. omega arith) (⊎_elim (λ x. omega arith) (⊎_elim (λ x. omega arith) (⊎_elim (λ x. omega arith) (⊎_elim (λ x. omega arith) (λ x. omega arith))))) k)
 
-scalar-piece : (a : Areas) (f : Handle → Value) {h : Handle} → Scalarlike h → valuePiece (valueBy a f h) ≡ piece (handleText a.rule a.strings h) 1 0
-unfolding valueText valueCount nesting
-scalar-piece a f of-null = refl
-scalar-piece a f of-false = refl
-scalar-piece a f of-true = refl
-scalar-piece a f of-integer = refl
-scalar-piece a f (of-instant {n}) = instant-piece n
-scalar-piece a f of-string = refl
+scalar_piece : (a : Areas) (f : Handle → Value) {h : Handle} → Scalarlike h → value_piece (value_by a f h) ≡ piece (handle_text a.rule a.strings h) 1 0
+unfolding value_text value_count nesting
+scalar_piece a f of_null = refl
+scalar_piece a f of_false = refl
+scalar_piece a f of_true = refl
+scalar_piece a f of_integer = refl
+scalar_piece a f (of_instant {n}) = instant_piece n
+scalar_piece a f of_string = refl
 
-scalar-writes : (a : Areas) {h : Handle} (deep : ℕ) {left at m : ℕ} {d d₁ : Bytes} → Scalarlike h → 1 ≤ left → Puts (handleText a.rule a.strings h) at d m d₁
-    → Writes (valuePiece (unfolded a deep h)) deep left at d (within m (left - 1)) d₁
+scalar_writes : (a : Areas) {h : Handle} (deep : ℕ) {left at m : ℕ} {d d₁ : Bytes} → Scalarlike h → 1 ≤ left → Puts (handle_text a.rule a.strings h) at d m d₁
+    → Writes (value_piece (unfolded a deep h)) deep left at d (within m (left - 1)) d₁
 unfolding unfolded
-scalar-writes a zero s l p = rw (scalar-piece a (λ x. scalar null) s) (ends 1 l p)
-scalar-writes a (suc deep) s l p = rw (scalar-piece a (unfolded a deep) s) (ends 1 l p)
+scalar_writes a zero s l p = rw (scalar_piece a (λ x. scalar null) s) (ends 1 l p)
+scalar_writes a (suc deep) s l p = rw (scalar_piece a (unfolded a deep) s) (ends 1 l p)
 
-pub scalar-value : (a : Areas) {h : Handle} (deep : ℕ) {left at m : ℕ} {d d₁ : Bytes} (q : Progress) → Scalarlike h → 1 ≤ left → Puts (handleText a.rule a.strings h) at d m d₁
+pub scalar_value : (a : Areas) {h : Handle} (deep : ℕ) {left at m : ℕ} {d d₁ : Bytes} (q : Progress) → Scalarlike h → 1 ≤ left → Puts (handle_text a.rule a.strings h) at d m d₁
     → q ≡ within m (left - 1) → ValueWrites a h deep at left d q d₁
-scalar-value a deep q s l p e = record { writes = rw e (scalar-writes a deep s l p) }
+scalar_value a deep q s l p e = record { writes = rw e (scalar_writes a deep s l p) }
 
 -- ---- arrays and objects
 -- A piece between an opening byte and the closing one, which is two more: one value more, and one deeper.
 abbrev enclosed : ℕ → Piece → Piece
 enclosed o p = piece (o ∷ (p.text ++ ((o + 2) ∷ []))) (suc p.values) (suc p.depth)
 
-compound-piece : (a : Areas) (f : Handle → Value) (p : Parts) → valuePiece (opened a f p) ≡ enclosed (openingOf p.form) (insidePiece (opened a f p) [])
-unfolding valueText valueCount nesting
-compound-piece a f p = go p.form
+compound_piece : (a : Areas) (f : Handle → Value) (p : Parts) → value_piece (opened a f p) ≡ enclosed (opening_of p.form) (inside_piece (opened a f p) [])
+unfolding value_text value_count nesting
+compound_piece a f p = go p.form
   where
-    go : (form : Form) → valuePiece (compoundBy a f form p) ≡ enclosed (openingOf form) (insidePiece (compoundBy a f form p) [])
+    go : (form : Form) → value_piece (compound_by a f form p) ≡ enclosed (opening_of form) (inside_piece (compound_by a f form p) [])
     go Items = refl
     go Members = refl
     go List = refl
     go Context = refl
 
-enclosed-length : (o : ℕ) (p : Piece) → length (enclosed o p).text ≡ length p.text + 2
-enclosed-length o p = omega (arith, length-append p.text ((o + 2) ∷ []))
+enclosed_length : (o : ℕ) (p : Piece) → length (enclosed o p).text ≡ length p.text + 2
+enclosed_length o p = omega (arith, length-append p.text ((o + 2) ∷ []))
 
 -- Its parts are too large.
-enclosed-over : (o : ℕ) {p : Piece} {deep left at : ℕ} {d d₁ d₂ : Bytes} → 1 ≤ left → Writes p deep (left - 1) (at + 1) (set d at o) TooLarge d₁
+enclosed_over : (o : ℕ) {p : Piece} {deep left at : ℕ} {d d₁ d₂ : Bytes} → 1 ≤ left → Writes p deep (left - 1) (at + 1) (set d at o) TooLarge d₁
     → Writes (enclosed o p) (suc deep) left at d TooLarge d₂
-enclosed-over o l (wrote a b c g f) = clash cc
-enclosed-over o l (over (inl x) g) = over (inl (omega arith)) refl
-enclosed-over o l (over (inr (inl x)) g) = over (inr (inl (omega arith))) refl
-enclosed-over o {p} l (over (inr (inr x)) g) = over (inr (inr (omega (arith, enclosed-length o p)))) refl
+enclosed_over o l (wrote a b c g f) = clash cc
+enclosed_over o l (over (inl x) g) = over (inl (omega arith)) refl
+enclosed_over o l (over (inr (inl x)) g) = over (inr (inl (omega arith))) refl
+enclosed_over o {p} l (over (inr (inr x)) g) = over (inr (inr (omega (arith, enclosed_length o p)))) refl
 
-enclosed-closes : (o : ℕ) {p : Piece} {deep left at end rest : ℕ} {d d₁ : Bytes} → 1 ≤ left → Writes p deep (left - 1) (at + 1) (set d at o) (At end rest) d₁
+enclosed_closes : (o : ℕ) {p : Piece} {deep left at end rest : ℕ} {d d₁ : Bytes} → 1 ≤ left → Writes p deep (left - 1) (at + 1) (set d at o) (At end rest) d₁
     → Writes (enclosed o p) (suc deep) left at d (within (end + 1) rest) (set d₁ end (o + 2))
-enclosed-closes o {p} {deep} {left} {at} {end} {rest} {d} {d₁} l (over x g) = clash cc
-enclosed-closes o {p} {deep} {left} {at} {end} {rest} {d} {d₁} l (wrote a b c g f) = go (passing (end + 1))
+enclosed_closes o {p} {deep} {left} {at} {end} {rest} {d} {d₁} l (over x g) = clash cc
+enclosed_closes o {p} {deep} {left} {at} {end} {rest} {d} {d₁} l (wrote a b c g f) = go (passing (end + 1))
   where
     end_is : end ≡ at + 1 + length p.text
     end_is = cc
 
-    rest-is : rest ≡ left - 1 - p.values
-    rest-is = cc
+    rest_is : rest ≡ left - 1 - p.values
+    rest_is = cc
 
     size : length (enclosed o p).text ≡ length p.text + 2
-    size = enclosed-length o p
+    size = enclosed_length o p
 
-    rest-left : rest ≡ left - suc p.values
-    rest-left = omega (arith, rest-is)
+    rest_left : rest ≡ left - suc p.values
+    rest_left = omega (arith, rest_is)
 
     close_at : end + 1 ≡ at + length (enclosed o p).text
     close_at = omega (arith, end_is, size)
@@ -153,49 +153,49 @@ enclosed-closes o {p} {deep} {left} {at} {end} {rest} {d} {d₁} l (wrote a b c 
     stored =
         ap (λ (x : Bytes). set x end (o + 2)) (f ∙ ap (λ (n : ℕ). sets (set d at o) n p.text) (add-one at))
         ∙ ap (λ (n : ℕ). set (sets (set d at o) (suc at) p.text) n (o + 2)) (sym place)
-        ∙ sets-append p.text ((o + 2) ∷ []) (set d at o) (suc at)
+        ∙ sets_append p.text ((o + 2) ∷ []) (set d at o) (suc at)
 
     go : Passing (end + 1) → Writes (enclosed o p) (suc deep) left at d (within (end + 1) rest) (set d₁ end (o + 2))
-    go (stays k) = wrote (omega arith) (omega arith) (omega (arith, close_at)) (within-stays (end + 1) rest k ∙ (λ i. At (close_at i) (rest-left i))) stored
-    go (passes k) = over (inr (inr (omega (arith, close_at)))) (within-passes (end + 1) rest k)
+    go (stays k) = wrote (omega arith) (omega arith) (omega (arith, close_at)) (within_stays (end + 1) rest k ∙ (λ i. At (close_at i) (rest_left i))) stored
+    go (passes k) = over (inr (inr (omega (arith, close_at)))) (within_passes (end + 1) rest k)
 
 -- The value of an array or object is its parts, enclosed.
-deeper : (a : Areas) (p : Parts) (deep : ℕ) → 1 ≤ deep → valuePiece (unfolded a deep (Compound p)) ≡ enclosed (openingOf p.form) (insidePiece (opened a (unfolded a (deep - 1)) p) [])
+deeper : (a : Areas) (p : Parts) (deep : ℕ) → 1 ≤ deep → value_piece (unfolded a deep (Compound p)) ≡ enclosed (opening_of p.form) (inside_piece (opened a (unfolded a (deep - 1)) p) [])
 unfolding unfolded
 deeper a p deep some =
     let e : deep ≡ suc (deep - 1) = omega arith in
-    ap (λ (n : ℕ). valuePiece (unfolded a n (Compound p))) e ∙ compound-piece a (unfolded a (deep - 1)) p
+    ap (λ (n : ℕ). value_piece (unfolded a n (Compound p))) e ∙ compound_piece a (unfolded a (deep - 1)) p
 
-module _ (a : Areas) (p : Parts) (deep left at : ℕ) (some-deep : 1 ≤ deep) (some_left : 1 ≤ left) where
+module _ (a : Areas) (p : Parts) (deep left at : ℕ) (some_deep : 1 ≤ deep) (some_left : 1 ≤ left) where
   abbrev inside : Piece
-  inside = insidePiece (opened a (unfolded a (deep - 1)) p) []
+  inside = inside_piece (opened a (unfolded a (deep - 1)) p) []
 
   abbrev opens : ℕ
-  opens = openingOf p.form
+  opens = opening_of p.form
 
-  same-depth : suc (deep - 1) ≡ deep
-  same-depth = omega arith
+  same_depth : suc (deep - 1) ≡ deep
+  same_depth = omega arith
 
   enclosing : {d d₂ : Bytes} {r : Progress} → Writes (enclosed opens inside) (suc (deep - 1)) left at d r d₂ → ValueWrites a (Compound p) deep at left d r d₂
-  enclosing w = record { writes = rw (deeper a p deep some-deep) (rw same-depth at w) }
+  enclosing w = record { writes = rw (deeper a p deep some_deep) (rw same_depth at w) }
 
   module _ (d d₀ : Bytes) {d₁ : Bytes} (b : ℕ) (is-opening : b ≡ opens) (opened-by : d₀ ≡ set d at b) (r : Progress) (w : PartsWrite a p (deep - 1) (at + 1) (left - 1) d₀ r d₁) where
-    opened-writes : Writes inside (deep - 1) (left - 1) (at + 1) (set d at opens) r d₁
-    opened-writes = rw (← is-opening, ← opened-by) w.writes
+    opened_writes : Writes inside (deep - 1) (left - 1) (at + 1) (set d at opens) r d₁
+    opened_writes = rw (← is-opening, ← opened-by) w.writes
 
-    pub compound-over : r ≡ TooLarge → ValueWrites a (Compound p) deep at left d TooLarge d₁
-    compound-over e = enclosing (enclosed-over opens {p = inside} some_left (rw e at opened-writes))
+    pub compound_over : r ≡ TooLarge → ValueWrites a (Compound p) deep at left d TooLarge d₁
+    compound_over e = enclosing (enclosed_over opens {p = inside} some_left (rw e at opened_writes))
 
-    pub compound-closes : (end rest : ℕ) {d₂ : Bytes} (q : Progress) → r ≡ At end rest → d₂ ≡ set d₁ end (b + 2) → q ≡ within (end + 1) rest → ValueWrites a (Compound p) deep at left d q d₂
-    compound-closes end rest q e f g = rw (f, g, is-opening) (enclosing (enclosed-closes opens {p = inside} some_left (rw e at opened-writes)))
+    pub compound_closes : (end rest : ℕ) {d₂ : Bytes} (q : Progress) → r ≡ At end rest → d₂ ≡ set d₁ end (b + 2) → q ≡ within (end + 1) rest → ValueWrites a (Compound p) deep at left d q d₂
+    compound_closes end rest q e f g = rw (f, g, is-opening) (enclosing (enclosed_closes opens {p = inside} some_left (rw e at opened_writes)))
 
 -- The text goes no further than the largest.
-pub writes_short : {p : Piece} {deep left at end rest : ℕ} {d d₁ : Bytes} (r : Progress) → Writes p deep left at d r d₁ → r ≡ At end rest → end ≤ maxTextBytes
+pub writes_short : {p : Piece} {deep left at end rest : ℕ} {d d₁ : Bytes} (r : Progress) → Writes p deep left at d r d₁ → r ≡ At end rest → end ≤ max_text_bytes
 writes_short {p} {at = at} {end = end} r (wrote x y z g f) e = let q : end ≡ at + length p.text = cc in omega arith
 writes_short r (over x g) e = clash cc
 
-pub opening-small : (form : Form) → openingOf form ≤ 123
-opening-small Items = omega arith
-opening-small Members = omega arith
-opening-small List = omega arith
-opening-small Context = omega arith
+pub opening_small : (form : Form) → opening_of form ≤ 123
+opening_small Items = omega arith
+opening_small Members = omega arith
+opening_small List = omega arith
+opening_small Context = omega arith

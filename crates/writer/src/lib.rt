@@ -1,7 +1,7 @@
 // The writer: the text of a value, given by its handle, into an output area.
 ghost use Rattle.std.specs.Prelude.{◌≡◌, length};
 ghost use Rattle.heap.specs.Unfold.{areas};
-ghost use Rattle.writer.specs.Contract.{answered, handleWritten};
+ghost use Rattle.writer.specs.Contract.{answered, handle_written};
 
 use crate::value::{Progress, write_value};
 use area::clear_from;
@@ -30,7 +30,7 @@ pub fn write<'a>(
     h: Handle,
     output: &mut [u8],
 ) -> Answer
-    ensures { answered result output.new ≡ handleWritten (areas rule_strings.now record_strings.now record_table.now cells.now) h (length output.old) }
+    ensures { answered result output.new ≡ handle_written (areas rule_strings.now record_strings.now record_table.now cells.now) h (length output.old) }
 {
     let p = write_value(
         rule_strings,

@@ -1,7 +1,7 @@
 // What stands before the first part of an array or object, and around all parts.
 ghost use Rattle.std.specs.Prelude.{◌≡◌, ◌+◌, ◌≤◌};
-ghost use Rattle.model.specs.Limits.{maxTextBytes};
-ghost use Rattle.writer.specs.Inner.{Puts, openingOf, labelText, frontText};
+ghost use Rattle.model.specs.Limits.{max_text_bytes};
+ghost use Rattle.writer.specs.Inner.{Puts, opening_of, label_text, front_text};
 
 use heap::handle::{Form, Parts};
 use heap::part::{Label, name_of};
@@ -11,7 +11,7 @@ use table::string::bytes_of;
 
 // The opening bracket or brace.
 pub fn opening(form: Form) -> u8
-    ensures { result ≡ openingOf form }
+    ensures { result ≡ opening_of form }
 {
     match form {
         Form::Items => b'[',
@@ -23,8 +23,8 @@ pub fn opening(form: Form) -> u8
 
 // A name and its colon; nothing where there is no name.
 fn put_label(record_strings: &[u8], output: &mut [u8], name: Label, at: usize) -> usize
-    requires { at ≤ maxTextBytes + 2 }
-    ensures { Puts (labelText record_strings.now name) at output.old result output.new }
+    requires { at ≤ max_text_bytes + 2 }
+    ensures { Puts (label_text record_strings.now name) at output.old result output.new }
 {
     match name {
         Label::Nothing => at,
@@ -53,8 +53,8 @@ pub fn put_front(
     comma: bool,
     at: usize,
 ) -> usize
-    requires { at ≤ maxTextBytes + 1 }
-    ensures { Puts (frontText record_strings.now record_table.now p comma) at output.old result output.new }
+    requires { at ≤ max_text_bytes + 1 }
+    ensures { Puts (front_text record_strings.now record_table.now p comma) at output.old result output.new }
 {
     let name = name_of(record_table, p);
     if comma {

@@ -1,11 +1,11 @@
 // Scalars and instants.
 ghost use Rattle.std.specs.Prelude.{◌≤◌};
-ghost use Rattle.model.specs.Limits.{maxTextBytes};
-ghost use Rattle.model.specs.Writing.{integerText, valueText};
+ghost use Rattle.model.specs.Limits.{max_text_bytes};
+ghost use Rattle.model.specs.Writing.{integer_text, value_text};
 ghost use Rattle.syntax.specs.Layout.{unbiased};
-ghost use Rattle.heap.specs.Unfold.{instantAt};
+ghost use Rattle.heap.specs.Unfold.{instant_at};
 ghost use Rattle.print.specs.Contract.{Put};
-ghost use Rattle.writer.specs.Inner.{Puts, handleText};
+ghost use Rattle.writer.specs.Inner.{Puts, handle_text};
 
 use calendar::instant::{Instant, InstantAnswer};
 use heap::handle::Handle;
@@ -18,8 +18,8 @@ use syntax::BIAS;
 
 // The integer to which 2^53 was added.
 fn put_integer(output: &mut [u8], at: usize, biased: u64) -> usize
-    requires { at ≤ maxTextBytes }
-    ensures { Put (integerText (unbiased biased)) at output.old result output.new }
+    requires { at ≤ max_text_bytes }
+    ensures { Put (integer_text (unbiased biased)) at output.old result output.new }
 {
     if biased >= BIAS {
         return put_decimal(output, at, biased - BIAS);
@@ -30,8 +30,8 @@ fn put_integer(output: &mut [u8], at: usize, biased: u64) -> usize
 
 // The instant so many milliseconds after 0000-01-01; null for a number past the latest.
 fn put_since(output: &mut [u8], at: usize, since: u64) -> usize
-    requires { at ≤ maxTextBytes }
-    ensures { Put (valueText (instantAt since)) at output.old result output.new }
+    requires { at ≤ max_text_bytes }
+    ensures { Put (value_text (instant_at since)) at output.old result output.new }
 {
     let InstantAnswer::At(t) = Instant::from_year_0(since) else {
         put_bytes(output, at, b"null");
@@ -48,8 +48,8 @@ pub fn put_scalar<'a>(
     h: Handle,
     at: usize,
 ) -> usize
-    requires { at ≤ maxTextBytes }
-    ensures { Puts (handleText rule_strings.now record_strings.now h) at output.old result output.new }
+    requires { at ≤ max_text_bytes }
+    ensures { Puts (handle_text rule_strings.now record_strings.now h) at output.old result output.new }
 {
     match h {
         Handle::Null => {

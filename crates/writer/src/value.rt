@@ -1,6 +1,6 @@
 // Values, with their parts. Every value takes one from the values that are left, so a value that shares its cells ends too.
 ghost use Rattle.std.specs.Prelude.{◌+◌, ◌≤◌, ◌<◌, ◌≡◌};
-ghost use Rattle.model.specs.Limits.{maxTextBytes};
+ghost use Rattle.model.specs.Limits.{max_text_bytes};
 ghost use Rattle.heap.specs.Unfold.{areas};
 ghost use Rattle.writer.specs.Inner.{within, ValueWrites, PartsWrite};
 
@@ -79,7 +79,7 @@ fn write_compound<'a>(
     at: usize,
     left: usize,
 ) -> Progress
-    requires { (at ≤ maxTextBytes) × (1 ≤ left) }
+    requires { (at ≤ max_text_bytes) × (1 ≤ left) }
     ensures { ValueWrites (areas rule_strings.now record_strings.now record_table.now cells.now) (Handle.Compound p) deep at left output.old result output.new }
 {
     if deep == 0 {
@@ -122,7 +122,7 @@ fn write_parts<'a>(
     at: usize,
     left: usize,
 ) -> Progress
-    requires { at ≤ maxTextBytes + 1 }
+    requires { at ≤ max_text_bytes + 1 }
     ensures { PartsWrite (areas rule_strings.now record_strings.now record_table.now cells.now) p deep at left output.old result output.new }
 {
     let mut rest = p;

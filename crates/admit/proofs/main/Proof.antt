@@ -2,7 +2,7 @@ use borrow.Author.Rules.{rules}
 use mathlib.Core.Path.{sym}
 use Prim.Native.Nat.{ℕ}
 use lib.ListN.{length-replicate}
-use Rattle.admit.specs.Limits.{outputBytes}
+use Rattle.admit.specs.Limits.{output_bytes}
 use Rattle.admit.proofs.main.Statement.{statement}
 use Rattle.admit.proofs.main.Tie as tie
 
@@ -16,7 +16,7 @@ slice-aggregate-run-3 : tie.Need-slice-aggregate-run-3
 slice-aggregate-run-3 c = sym (length-replicate {A = ℕ} _ 0)
 
 run-requires : tie.Need-run-requires
-unfolding outputBytes
+unfolding output_bytes
 run-requires c κs = length-replicate {A = ℕ} _ 0
 
 returns : tie.Need-returns

@@ -1,5 +1,5 @@
 use borrow.Author.Rules.{rules}
-use Rattle.admit.proofs.Lines.{begins-counts}
+use Rattle.admit.proofs.Lines.{begins_counts}
 use Rattle.admit.proofs.run.Statement.{statement}
 use Rattle.admit.proofs.run.Tie as tie
 
@@ -34,7 +34,7 @@ slice-reshare-prefix-write-all : tie.Need-slice-reshare-prefix-write-all
 slice-reshare-prefix-write-all c = search rules
 
 slice-aggregate-write-all : tie.Need-slice-aggregate-write-all
-slice-aggregate-write-all c = begins-counts c.before.before.before.report.ensures
+slice-aggregate-write-all c = begins_counts c.before.before.before.report.ensures
 
 write-all-requires : tie.Need-write-all-requires
 write-all-requires c κs = search rules

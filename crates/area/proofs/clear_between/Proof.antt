@@ -3,14 +3,14 @@ use borrow.Author.Rules.{rules}
 use mathlib.Core.Path.{◌≡◌, refl, sym, ◌∙◌}
 use Prim.Native.Nat.{◌-◌}
 use lib.ListN.{length, length-set}
-use Rattle.area.specs.Words.{zeroBetween}
-use Rattle.area.specs.Laws.{zeroBetween-more, zeroBetween-none}
+use Rattle.area.specs.Words.{zero_between}
+use Rattle.area.specs.Laws.{zero_between_more, zero_between_none}
 use native.Mathlib.Omega.{arith}
 use Rattle.area.proofs.clear_between.Statement.{statement}
 use Rattle.area.proofs.clear_between.Tie as tie
 
 abbrev invariant-loop : tie.invariant-loop
-invariant-loop d₀ from to end at₀ d at = (length d ≡ length d₀) × (zeroBetween at to d ≡ zeroBetween from to d₀) × (end ≡ to - (to - length d₀))
+invariant-loop d₀ from to end at₀ d at = (length d ≡ length d₀) × (zero_between at to d ≡ zero_between from to d₀) × (end ≡ to - (to - length d₀))
 
 abbrev decreases-loop : tie.decreases-loop
 decreases-loop d₀ from to end at₀ d at = end - at
@@ -35,7 +35,7 @@ loop-again c =
     let l = c.before in
     let e = l.loop.invariant.2 in (
       length-set l.loop.d l.loop.at 0 ∙ l.loop.invariant.0,
-      zeroBetween-more l.loop.at _ l.loop.d (omega arith) (omega arith) ∙ l.loop.invariant.1,
+      zero_between_more l.loop.at _ l.loop.d (omega arith) (omega arith) ∙ l.loop.invariant.1,
       l.loop.invariant.2,
     )
 
@@ -46,7 +46,7 @@ returns : tie.Need-returns invariant-loop decreases-loop
 returns c =
     let l = c.before.loop in
     let e = l.invariant.2 in
-    sym (zeroBetween-none l.at _ l.d (omega arith)) ∙ l.invariant.1
+    sym (zero_between_none l.at _ l.d (omega arith)) ∙ l.invariant.1
 
 pub clear-between-spec : {M : Type 1} → statement M
 clear-between-spec =

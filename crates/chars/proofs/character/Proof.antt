@@ -1,7 +1,7 @@
 use borrow.Author.Rules.{rules}
 use native.Mathlib.Omega.{arith}
-use Rattle.model.specs.Refusal.{notJson}
-use Rattle.chars.proofs.Pieces.{gives, stops_at, char-short, taken-char}
+use Rattle.model.specs.Refusal.{not_json}
+use Rattle.chars.proofs.Pieces.{gives, stops_at, char_short, taken_char}
 use Rattle.chars.proofs.character.Statement.{statement}
 use Rattle.chars.proofs.character.Tie as tie
 
@@ -21,7 +21,7 @@ fault-requires : tie.Need-fault-requires
 fault-requires c κs = search rules
 
 returns : tie.Need-returns
-returns c = stops_at notJson c.before.before.before.before.before.requires.0.inside (char-short _ _ _ _ _ c.before.before.before.before.before.requires.1 c.before.before.tails.ensures c.before.if1.true) c.fault.ensures
+returns c = stops_at not_json c.before.before.before.before.before.requires.0.inside (char_short _ _ _ _ _ c.before.before.before.before.before.requires.1 c.before.before.tails.ensures c.before.if1.true) c.fault.ensures
 
 add-copy : tie.Need-overflow-add-copy
 add-copy c = search rules
@@ -45,7 +45,7 @@ same_length : tie.Need-same-length
 same_length c = search rules
 
 returns-2 : tie.Need-returns-2
-returns-2 c = gives (taken-char _ _ _ _ _ c.before.before.before.before.before.before.before.before.requires.1 c.before.before.before.before.before.tails.ensures _ _ _ c.before.before.before.before.if1.false c.before.before.copy.ensures) (omega arith)
+returns-2 c = gives (taken_char _ _ _ _ _ c.before.before.before.before.before.before.before.before.requires.1 c.before.before.before.before.before.tails.ensures _ _ _ c.before.before.before.before.if1.false c.before.before.copy.ensures) (omega arith)
 
 pub character-spec : {M : Type 1} → statement M
 character-spec =

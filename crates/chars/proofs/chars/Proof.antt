@@ -1,5 +1,5 @@
 use borrow.Author.Rules.{rules}
-use Rattle.chars.proofs.Promise.{promise-closed, promise-end, promise-then}
+use Rattle.chars.proofs.Promise.{promise_closed, promise_end, promise_then}
 use Rattle.chars.proofs.chars.Statement.{statement}
 use Rattle.chars.proofs.chars.Tie as tie
 
@@ -7,7 +7,7 @@ fault-requires : tie.Need-fault-requires
 fault-requires c κs = search rules
 
 returns : tie.Need-returns
-returns c = promise-end c.before.if1.true c.fault.ensures
+returns c = promise_end c.before.if1.true c.fault.ensures
 
 sub-if2 : tie.Need-overflow-sub-if2
 sub-if2 c = search rules
@@ -37,7 +37,7 @@ same-length-2 : tie.Need-same-length-2
 same-length-2 c = search rules
 
 returns-3 : tie.Need-returns-3
-returns-3 c = promise-closed c.before.before.before.before.plain-start.ensures c.before.stands.ensures c.if3.true
+returns-3 c = promise_closed c.before.before.before.before.plain-start.ensures c.before.stands.ensures c.if3.true
 
 any-chars-requires-2 : tie.Need-any-chars-requires-2
 any-chars-requires-2 c κs = search rules
@@ -46,7 +46,7 @@ same-length-3 : tie.Need-same-length-3
 same-length-3 c = search rules
 
 returns-4 : tie.Need-returns-4
-returns-4 c = promise-then c.before.before.before.before.before.before.before.before.plain-start.ensures c.before.before.any-chars2.ensures
+returns-4 c = promise_then c.before.before.before.before.before.before.before.before.plain-start.ensures c.before.before.any-chars2.ensures
 
 pub chars-spec : {M : Type 1} → statement M
 chars-spec =

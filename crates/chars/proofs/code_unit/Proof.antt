@@ -2,9 +2,9 @@ use borrow.Author.Rules.{rules}
 use mathlib.Core.Path.{sym, ◌∙◌}
 use Prim.Native.Nat.{◌-◌}
 use native.Mathlib.Omega.{arith}
-use Rattle.chars.proofs.Loops.{Hexes, hexes-none, hexes-more, hexes-all, hexes-some, hexes-small}
-use Rattle.chars.proofs.Read.{hexes-end, hexes-not}
-use Rattle.chars.proofs.Tables.{hex-as}
+use Rattle.chars.proofs.Loops.{Hexes, hexes_none, hexes_more, hexes_all, hexes_some, hexes_small}
+use Rattle.chars.proofs.Read.{hexes_end, hexes_not}
+use Rattle.chars.proofs.Tables.{hex_as}
 use Rattle.chars.proofs.code_unit.Statement.{statement}
 use Rattle.chars.proofs.code_unit.Tie as tie
 
@@ -15,7 +15,7 @@ abbrev decreases-loop : tie.decreases-loop
 decreases-loop text at i₀ unit₀ i unit = 4 - i
 
 loop-holds : tie.Need-loop-init invariant-loop decreases-loop
-loop-holds c = hexes-none _ _ c.before.requires
+loop-holds c = hexes_none _ _ c.before.requires
 
 add-if1 : tie.Need-overflow-add-if1 invariant-loop decreases-loop
 add-if1 c = omega arith
@@ -24,7 +24,7 @@ add-t10 : tie.Need-overflow-add-t10 invariant-loop decreases-loop
 add-t10 c = omega arith
 
 returns : tie.Need-returns invariant-loop decreases-loop
-returns c = hexes-some c.before.before.loop.invariant c.before.loop-test.true (λ m. hexes-end _ _ c.if1.true m _)
+returns c = hexes_some c.before.before.loop.invariant c.before.loop-test.true (λ m. hexes_end _ _ c.if1.true m _)
 
 add-hex-of : tie.Need-overflow-add-hex-of invariant-loop decreases-loop
 add-hex-of c = omega arith
@@ -42,19 +42,19 @@ add-t13 : tie.Need-overflow-add-t13 invariant-loop decreases-loop
 add-t13 c = omega arith
 
 returns-2 : tie.Need-returns-2 invariant-loop decreases-loop
-returns-2 c = hexes-some c.before.before.before.before.before.before.loop.invariant c.before.before.before.before.before.loop-test.true (λ m. hexes-not _ _ c.before.before.before.before.if1.false m _ (sym c.before.before.hex-of.ensures ∙ c.enum_told.given.1))
+returns-2 c = hexes_some c.before.before.before.before.before.before.loop.invariant c.before.before.before.before.before.loop-test.true (λ m. hexes_not _ _ c.before.before.before.before.if1.false m _ (sym c.before.before.hex-of.ensures ∙ c.enum_told.given.1))
 
 enum-known-h : tie.Need-enum-known-h invariant-loop decreases-loop
 enum-known-h c = search rules
 
 mul-unit : tie.Need-overflow-mul-unit invariant-loop decreases-loop
-mul-unit c = omega (arith, hexes-small c.before.before.before.before.before.before.before.loop.invariant c.before.before.before.before.before.before.loop-test.true)
+mul-unit c = omega (arith, hexes_small c.before.before.before.before.before.before.before.loop.invariant c.before.before.before.before.before.before.loop-test.true)
 
 cast-unit : tie.Need-overflow-cast-unit invariant-loop decreases-loop
-cast-unit c = omega (arith, hex-as _ _ (sym c.before.before.before.hex-of.ensures ∙ c.before.h.given.1))
+cast-unit c = omega (arith, hex_as _ _ (sym c.before.before.before.hex-of.ensures ∙ c.before.h.given.1))
 
 add-unit : tie.Need-overflow-add-unit invariant-loop decreases-loop
-add-unit c = omega (arith, hexes-small c.before.before.before.before.before.before.before.loop.invariant c.before.before.before.before.before.before.loop-test.true, hex-as _ _ (sym c.before.before.before.hex-of.ensures ∙ c.before.h.given.1))
+add-unit c = omega (arith, hexes_small c.before.before.before.before.before.before.before.loop.invariant c.before.before.before.before.before.before.loop-test.true, hex_as _ _ (sym c.before.before.before.hex-of.ensures ∙ c.before.h.given.1))
 
 add-i : tie.Need-overflow-add-i invariant-loop decreases-loop
 add-i c = omega arith
@@ -63,10 +63,10 @@ loop-less : tie.Need-loop-smaller invariant-loop decreases-loop
 loop-less c = omega arith
 
 loop-again : tie.Need-loop-preserved invariant-loop decreases-loop
-loop-again c = hexes-more c.before.before.before.before.before.before.before.loop.invariant c.before.before.before.before.before.before.loop-test.true c.before.before.before.before.before.if1.false _ (sym c.before.before.before.hex-of.ensures ∙ c.before.h.given.1)
+loop-again c = hexes_more c.before.before.before.before.before.before.before.loop.invariant c.before.before.before.before.before.before.loop-test.true c.before.before.before.before.before.if1.false _ (sym c.before.before.before.hex-of.ensures ∙ c.before.h.given.1)
 
 returns-3 : tie.Need-returns-3 invariant-loop decreases-loop
-returns-3 c = hexes-all c.before.loop.invariant c.loop-test.false
+returns-3 c = hexes_all c.before.loop.invariant c.loop-test.false
 
 pub code-unit-spec : {M : Type 1} → statement M
 code-unit-spec =

@@ -1,6 +1,6 @@
 use Prim.Native.Nat.{◌-◌}
 use native.Mathlib.Omega.{arith}
-use Rattle.chars.proofs.Loops.{Copies, copies-none, copies-more, copies-all, copies_length}
+use Rattle.chars.proofs.Loops.{Copies, copies_none, copies_more, copies_all, copies_length}
 use Rattle.chars.proofs.copy.Statement.{statement}
 use Rattle.chars.proofs.copy.Tie as tie
 
@@ -11,7 +11,7 @@ abbrev decreases-loop : tie.decreases-loop
 decreases-loop text at n strings₀ used i₀ strings i = n - i
 
 loop-holds : tie.Need-loop-init invariant-loop decreases-loop
-loop-holds c = copies-none _ _ _ _ _
+loop-holds c = copies_none _ _ _ _ _
 
 add-strings : tie.Need-overflow-add-strings invariant-loop decreases-loop
 add-strings c = omega arith
@@ -32,13 +32,13 @@ loop-less : tie.Need-loop-smaller invariant-loop decreases-loop
 loop-less c = omega arith
 
 loop-again : tie.Need-loop-preserved invariant-loop decreases-loop
-loop-again c = copies-more c.before.before.loop.invariant c.before.loop-test.true c.before.before.before.requires.0
+loop-again c = copies_more c.before.before.loop.invariant c.before.loop-test.true c.before.before.before.requires.0
 
 same_length : tie.Need-same-length invariant-loop decreases-loop
 same_length c = copies_length c.before.loop.invariant
 
 returns : tie.Need-returns invariant-loop decreases-loop
-returns c = copies-all c.before.loop.invariant c.loop-test.false
+returns c = copies_all c.before.loop.invariant c.loop-test.false
 
 pub copy_spec : {M : Type 1} → statement M
 copy_spec =

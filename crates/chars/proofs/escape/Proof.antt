@@ -1,8 +1,8 @@
 use borrow.Author.Rules.{rules}
 use mathlib.Core.Path.{sym, ◌∙◌}
 use native.Mathlib.Omega.{arith}
-use Rattle.model.specs.Refusal.{notJson}
-use Rattle.chars.proofs.Pieces.{gives, stops_at, letter-end, letter-not, letter-u, taken-letter}
+use Rattle.model.specs.Refusal.{not_json}
+use Rattle.chars.proofs.Pieces.{gives, stops_at, letter_end, letter_not, letter_u, taken_letter}
 use Rattle.chars.proofs.escape.Statement.{statement}
 use Rattle.chars.proofs.escape.Tie as tie
 
@@ -16,7 +16,7 @@ fault-requires : tie.Need-fault-requires
 fault-requires c κs = search rules
 
 returns : tie.Need-returns
-returns c = stops_at notJson c.before.before.before.before.requires.0.inside (letter-end _ _ c.before.before.before.before.requires.1 c.before.if1.true) c.fault.ensures
+returns c = stops_at not_json c.before.before.before.before.requires.0.inside (letter_end _ _ c.before.before.before.before.requires.1 c.before.if1.true) c.fault.ensures
 
 add-escape-of : tie.Need-overflow-add-escape-of
 add-escape-of c = search rules
@@ -43,7 +43,7 @@ enum_told : tie.Need-enum-told
 enum_told c = search rules
 
 unicode-requires : tie.Need-unicode-requires
-unicode-requires c κs = (c.before.before.before.before.before.before.before.before.requires.0, letter-u _ _ c.before.before.before.before.before.before.before.before.requires.1 c.before.before.before.before.before.if1.false (sym c.before.before.before.escape-of.ensures ∙ c.before.enum_told.given.1))
+unicode-requires c κs = (c.before.before.before.before.before.before.before.before.requires.0, letter_u _ _ c.before.before.before.before.before.before.before.before.requires.1 c.before.before.before.before.before.if1.false (sym c.before.before.before.escape-of.ensures ∙ c.before.enum_told.given.1))
 
 enum-told-2 : tie.Need-enum-told-2
 enum-told-2 c = search rules
@@ -58,7 +58,7 @@ same_length : tie.Need-same-length
 same_length c = search rules
 
 returns-2 : tie.Need-returns-2
-returns-2 c = gives (taken-letter _ _ c.before.before.before.before.before.before.before.before.requires.1 _ _ _ c.before.before.before.before.before.if1.false (sym c.before.before.before.escape-of.ensures ∙ c.before.kind.given.1)) (omega arith)
+returns-2 c = gives (taken_letter _ _ c.before.before.before.before.before.before.before.before.requires.1 _ _ _ c.before.before.before.before.before.if1.false (sym c.before.before.before.escape-of.ensures ∙ c.before.kind.given.1)) (omega arith)
 
 same-length-2 : tie.Need-same-length-2
 same-length-2 c = search rules
@@ -67,7 +67,7 @@ returns-3 : tie.Need-returns-3
 returns-3 c = search rules
 
 returns-4 : tie.Need-returns-4
-returns-4 c = stops_at notJson c.before.before.before.before.before.before.before.before.requires.0.inside (letter-not _ _ c.before.before.before.before.before.before.before.before.requires.1 c.before.before.before.before.before.if1.false (sym c.before.before.before.escape-of.ensures ∙ c.before.enum-told2.given.1)) c.fault2.ensures
+returns-4 c = stops_at not_json c.before.before.before.before.before.before.before.before.requires.0.inside (letter_not _ _ c.before.before.before.before.before.before.before.before.requires.1 c.before.before.before.before.before.if1.false (sym c.before.before.before.escape-of.ensures ∙ c.before.enum-told2.given.1)) c.fault2.ensures
 
 pub escape-spec : {M : Type 1} → statement M
 escape-spec =

@@ -6,8 +6,8 @@ use borrow.Author.Rules.{rules}
 use lib.ListN.{length}
 use Rattle.scan.specs.Contract.{Stands}
 use Rattle.chars.specs.Inner.{Taken}
-use Rattle.chars.proofs.Loops.{taken-length}
-use Rattle.chars.proofs.Promise.{room_of, promise-closed, promise-stopped, advanced, stopped}
+use Rattle.chars.proofs.Loops.{taken_length}
+use Rattle.chars.proofs.Promise.{room_of, promise_closed, promise_stopped, advanced, stopped}
 use Rattle.chars.proofs.Steps.{taken_none, taken_then}
 use Rattle.chars.proofs.from_piece.Statement.{statement}
 use Rattle.chars.proofs.from_piece.Tie as tie
@@ -28,10 +28,10 @@ enum-known-one : tie.Need-enum-known-one invariant-loop decreases-loop
 enum-known-one c = search rules
 
 same_length : tie.Need-same-length invariant-loop decreases-loop
-same_length c = ap length (stopped c.before.before.before.before.before.piece.ensures c.before.one.given.1).same ∙ taken-length c.before.before.before.before.before.before.before.loop.invariant.0
+same_length c = ap length (stopped c.before.before.before.before.before.piece.ensures c.before.one.given.1).same ∙ taken_length c.before.before.before.before.before.before.before.loop.invariant.0
 
 returns : tie.Need-returns invariant-loop decreases-loop
-returns c = promise-stopped c.before.before.before.before.before.before.before.loop.invariant.0 (stopped c.before.before.before.before.before.piece.ensures c.before.one.given.1)
+returns c = promise_stopped c.before.before.before.before.before.before.before.loop.invariant.0 (stopped c.before.before.before.before.before.piece.ensures c.before.one.given.1)
 
 enum-known-one-2 : tie.Need-enum-known-one-2 invariant-loop decreases-loop
 enum-known-one-2 c = search rules
@@ -49,10 +49,10 @@ stands-requires : tie.Need-stands-requires invariant-loop decreases-loop
 stands-requires c κs = tt
 
 same-length-2 : tie.Need-same-length-2 invariant-loop decreases-loop
-same-length-2 c = taken-length (taken_then (taken_then c.before.before.before.before.before.before.before.before.before.before.before.before.before.loop.invariant.0 (advanced c.before.before.before.before.before.before.before.before.before.before.before.piece.ensures c.before.before.before.before.before.before.before.one2.given.1).taken) c.before.before.before.before.plain-run.ensures)
+same-length-2 c = taken_length (taken_then (taken_then c.before.before.before.before.before.before.before.before.before.before.before.before.before.loop.invariant.0 (advanced c.before.before.before.before.before.before.before.before.before.before.before.piece.ensures c.before.before.before.before.before.before.before.one2.given.1).taken) c.before.before.before.before.plain-run.ensures)
 
 returns-2 : tie.Need-returns-2 invariant-loop decreases-loop
-returns-2 c = promise-closed (taken_then (taken_then c.before.before.before.before.before.before.before.before.before.before.before.before.before.loop.invariant.0 (advanced c.before.before.before.before.before.before.before.before.before.before.before.piece.ensures c.before.before.before.before.before.before.before.one2.given.1).taken) c.before.before.before.before.plain-run.ensures) c.before.stands.ensures c.if1.true
+returns-2 c = promise_closed (taken_then (taken_then c.before.before.before.before.before.before.before.before.before.before.before.before.before.loop.invariant.0 (advanced c.before.before.before.before.before.before.before.before.before.before.before.piece.ensures c.before.before.before.before.before.before.before.one2.given.1).taken) c.before.before.before.before.plain-run.ensures) c.before.stands.ensures c.if1.true
 
 loop-less : tie.Need-loop-smaller invariant-loop decreases-loop
 loop-less c = let a = advanced c.before.before.before.before.before.before.before.before.before.before.before.piece.ensures c.before.before.before.before.before.before.before.one2.given.1 in omega (arith, a.on, c.before.before.before.before.plain-run.ensures.reads.few, c.before.before.before.before.plain-run.ensures.reads.inside)

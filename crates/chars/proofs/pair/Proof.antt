@@ -3,8 +3,8 @@ use Rattle.syntax.specs.declared.Unit.TheVariants.{Low}
 use Rattle.chars.specs.Inner.{Escaped}
 use native.Mathlib.Omega.{arith}
 use Rattle.syntax.specs.Utf8.{pair_of}
-use Rattle.chars.proofs.Pieces.{gives, stops-high, taken-pair}
-use Rattle.chars.proofs.Tables.{unit-as}
+use Rattle.chars.proofs.Pieces.{gives, stops_high, taken_pair}
+use Rattle.chars.proofs.Tables.{unit_as}
 use borrow.Author.Rules.{rules}
 use Rattle.chars.proofs.pair.Statement.{statement}
 use Rattle.chars.proofs.pair.Tie as tie
@@ -32,32 +32,32 @@ add-t10 : tie.Need-overflow-add-t10
 add-t10 c = search rules
 
 sub-put-utf8 : tie.Need-overflow-sub-put-utf8
-sub-put-utf8 c = omega (arith, unit-as _ _ c.before.before.before.before.before.before.before.requires.1.of)
+sub-put-utf8 c = omega (arith, unit_as _ _ c.before.before.before.before.before.before.before.requires.1.of)
 
 mul-put-utf8 : tie.Need-overflow-mul-put-utf8
-mul-put-utf8 c = omega (arith, unit-as _ _ c.before.before.before.before.before.before.before.requires.1.of)
+mul-put-utf8 c = omega (arith, unit_as _ _ c.before.before.before.before.before.before.before.requires.1.of)
 
 add-put-utf8 : tie.Need-overflow-add-put-utf8
-add-put-utf8 c = omega (arith, unit-as _ _ c.before.before.before.before.before.before.before.requires.1.of)
+add-put-utf8 c = omega (arith, unit_as _ _ c.before.before.before.before.before.before.before.requires.1.of)
 
 sub-put-utf8-2 : tie.Need-overflow-sub-put-utf8-2
-sub-put-utf8-2 c = omega (arith, unit-as _ _ (second c.before).of)
+sub-put-utf8-2 c = omega (arith, unit_as _ _ (second c.before).of)
 
 add-put-utf8-2 : tie.Need-overflow-add-put-utf8-2
-add-put-utf8-2 c = omega (arith, unit-as _ _ c.before.before.before.before.before.before.before.requires.1.of, unit-as _ _ (second c.before).of)
+add-put-utf8-2 c = omega (arith, unit_as _ _ c.before.before.before.before.before.before.before.requires.1.of, unit_as _ _ (second c.before).of)
 
 put-utf8-requires : tie.Need-put-utf8-requires
-put-utf8-requires c κs = omega (arith, unit-as _ _ c.before.before.before.before.before.before.before.requires.1.of, unit-as _ _ (second c.before).of, (second c.before).inside)
+put-utf8-requires c κs = omega (arith, unit_as _ _ c.before.before.before.before.before.before.before.requires.1.of, unit_as _ _ (second c.before).of, (second c.before).inside)
 
 returns : tie.Need-returns
-returns c = stops-high c.before.before.before.before.before.before.requires.1 (rw c.before.enum_told.given.1 at c.before.before.before.low_half_lem.ensures) c.fault.ensures
+returns c = stops_high c.before.before.before.before.before.before.requires.1 (rw c.before.enum_told.given.1 at c.before.before.before.low_half_lem.ensures) c.fault.ensures
 
 same_length : tie.Need-same-length
 same_length c = search rules
 
 returns-2 : tie.Need-returns-2
 unfolding pair_of
-returns-2 c = gives (taken-pair c.before.before.before.before.before.before.before.before.before.before.requires.1 (second c.before.before.before.before) c.before.before.put-utf8.ensures) (omega arith)
+returns-2 c = gives (taken_pair c.before.before.before.before.before.before.before.before.before.before.requires.1 (second c.before.before.before.before) c.before.before.put-utf8.ensures) (omega arith)
 
 pub pair_spec : {M : Type 1} → statement M
 pair_spec =

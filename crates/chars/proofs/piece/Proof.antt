@@ -1,10 +1,10 @@
 use borrow.Author.Rules.{rules}
 use mathlib.Core.Path.{refl, sym, ◌∙◌}
-use Rattle.model.specs.Refusal.{notJson}
-use Rattle.chars.proofs.Halves.{stands-not}
+use Rattle.model.specs.Refusal.{not_json}
+use Rattle.chars.proofs.Halves.{stands_not}
 use Rattle.chars.proofs.Pieces.{stops_at}
-use Rattle.chars.proofs.Read.{char-end, char-never}
-use Rattle.chars.proofs.Tables.{lead-as}
+use Rattle.chars.proofs.Read.{char_end, char_never}
+use Rattle.chars.proofs.Tables.{lead_as}
 use Rattle.chars.proofs.piece.Statement.{statement}
 use Rattle.chars.proofs.piece.Tie as tie
 
@@ -12,7 +12,7 @@ fault-requires : tie.Need-fault-requires
 fault-requires c κs = search rules
 
 returns : tie.Need-returns
-returns c = stops_at notJson c.before.before.before.before.requires.0.inside (char-end _ _ c.before.if1.true) c.fault.ensures
+returns c = stops_at not_json c.before.before.before.before.requires.0.inside (char_end _ _ c.before.if1.true) c.fault.ensures
 
 shared-slice-read-lead-of : tie.Need-shared-slice-read-lead-of
 shared-slice-read-lead-of c = search rules
@@ -60,10 +60,10 @@ returns-3 : tie.Need-returns-3
 returns-3 c = search rules
 
 returns-4 : tie.Need-returns-4
-returns-4 c = absurd (stands-not c.before.before.before.before.before.before.before.before.requires.1 c.before.before.before.before.before.if1.false refl (lead-as _ _ (sym c.before.before.before.lead-of.ensures ∙ c.before.enum-told2.given.1)))
+returns-4 c = absurd (stands_not c.before.before.before.before.before.before.before.before.requires.1 c.before.before.before.before.before.if1.false refl (lead_as _ _ (sym c.before.before.before.lead-of.ensures ∙ c.before.enum-told2.given.1)))
 
 returns-5 : tie.Need-returns-5
-returns-5 c = stops_at notJson c.before.before.before.before.before.before.before.before.requires.0.inside (char-never _ _ c.before.before.before.before.before.if1.false (sym c.before.before.before.lead-of.ensures ∙ c.before.enum-told3.given.1)) c.fault3.ensures
+returns-5 c = stops_at not_json c.before.before.before.before.before.before.before.before.requires.0.inside (char_never _ _ c.before.before.before.before.before.if1.false (sym c.before.before.before.lead-of.ensures ∙ c.before.enum-told3.given.1)) c.fault3.ensures
 
 pub piece-spec : {M : Type 1} → statement M
 piece-spec =

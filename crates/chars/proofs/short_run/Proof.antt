@@ -1,5 +1,5 @@
 use borrow.Author.Rules.{rules}
-use Rattle.chars.proofs.Loops.{runs_none, runs-end}
+use Rattle.chars.proofs.Loops.{runs_none, runs_end}
 use Rattle.chars.proofs.short_run.Statement.{statement}
 use Rattle.chars.proofs.short_run.Tie as tie
 
@@ -22,7 +22,7 @@ is-plain-requires : tie.Need-is-plain-requires
 is-plain-requires c κs = search rules
 
 returns-2 : tie.Need-returns-2
-returns-2 c = runs-end (runs_none _ _ _ _ c.before.before.before.before.before.before.requires.inside)
+returns-2 c = runs_end (runs_none _ _ _ _ c.before.before.before.before.before.before.requires.inside)
 
 plain-start-requires : tie.Need-plain-start-requires
 plain-start-requires c κs = search rules

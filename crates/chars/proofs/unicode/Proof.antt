@@ -1,8 +1,8 @@
 use Prim.Native.Nat.{◌+◌}
 use Rattle.chars.specs.Inner.{UnitRead}
 use borrow.Author.Rules.{rules}
-use Rattle.model.specs.Refusal.{notJson}
-use Rattle.chars.proofs.Pieces.{stops_at, escaped, unit-not}
+use Rattle.model.specs.Refusal.{not_json}
+use Rattle.chars.proofs.Pieces.{stops_at, escaped, unit_not}
 use Rattle.chars.proofs.unicode.Statement.{statement}
 use Rattle.chars.proofs.unicode.Tie as tie
 
@@ -23,13 +23,13 @@ enum-known-digits-2 c = search rules
 
 -- The code unit of the digits.
 read : (c : tie.After-known-told2) → UnitRead c.before.before.before.before.before.before.args.text.now (c.before.before.before.before.before.before.args.at + 2) c.before.digits2.given.0.0
-read c = rw c.before.digits2.given.1 at c.before.before.before.code-unit.ensures
+read c = rw c.before.digits2.given.1 at c.before.before.before.code_unit_lem.ensures
 
 unit-requires : tie.Need-unit-requires
 unit-requires c κs = (c.before.before.before.before.before.before.before.requires.0, escaped c.before.before.before.before.before.before.before.requires.1 (read c.before), (read c.before).small)
 
 returns : tie.Need-returns
-returns c = stops_at notJson c.before.before.before.before.before.before.before.requires.0.inside (unit-not c.before.before.before.before.before.before.before.requires.1 (rw c.before.before.digits.given.1 at c.before.before.before.before.code-unit.ensures)) c.fault.ensures
+returns c = stops_at not_json c.before.before.before.before.before.before.before.requires.0.inside (unit_not c.before.before.before.before.before.before.before.requires.1 (rw c.before.before.digits.given.1 at c.before.before.before.before.code_unit_lem.ensures)) c.fault.ensures
 
 same_length : tie.Need-same-length
 same_length c = search rules

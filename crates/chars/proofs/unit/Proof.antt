@@ -1,6 +1,6 @@
 use mathlib.Core.Path.{sym, ◌∙◌}
 use native.Mathlib.Omega.{arith}
-use Rattle.chars.proofs.Pieces.{gives, stops-low, taken-unit, of-kind}
+use Rattle.chars.proofs.Pieces.{gives, stops_low, taken_unit, of_kind}
 use borrow.Author.Rules.{rules}
 use Rattle.chars.proofs.unit.Statement.{statement}
 use Rattle.chars.proofs.unit.Tie as tie
@@ -21,7 +21,7 @@ enum-told-2 : tie.Need-enum-told-2
 enum-told-2 c = search rules
 
 pair-requires : tie.Need-pair-requires
-pair-requires c κs = (c.before.before.before.before.before.before.requires.0, of-kind c.before.before.before.before.before.before.requires.1 (sym c.before.before.before.unit-of.ensures ∙ c.before.enum-told2.given.1))
+pair-requires c κs = (c.before.before.before.before.before.before.requires.0, of_kind c.before.before.before.before.before.before.requires.1 (sym c.before.before.before.unit_of_lem.ensures ∙ c.before.enum-told2.given.1))
 
 enum-told-3 : tie.Need-enum-told-3
 enum-told-3 c = search rules
@@ -33,7 +33,7 @@ same_length : tie.Need-same-length
 same_length c = search rules
 
 returns : tie.Need-returns
-returns c = gives (taken-unit (of-kind c.before.before.before.before.before.before.before.before.before.requires.1 (sym c.before.before.before.before.before.before.unit-of.ensures ∙ c.before.before.before.before.enum_told.given.1)) c.before.before.put-utf8.ensures) (omega arith)
+returns c = gives (taken_unit (of_kind c.before.before.before.before.before.before.before.before.before.requires.1 (sym c.before.before.before.before.before.before.unit_of_lem.ensures ∙ c.before.before.before.before.enum_told.given.1)) c.before.before.put-utf8.ensures) (omega arith)
 
 same-length-2 : tie.Need-same-length-2
 same-length-2 c = search rules
@@ -42,7 +42,7 @@ returns-2 : tie.Need-returns-2
 returns-2 c = search rules
 
 returns-3 : tie.Need-returns-3
-returns-3 c = stops-low (of-kind c.before.before.before.before.before.before.requires.1 (sym c.before.before.before.unit-of.ensures ∙ c.before.enum-told3.given.1)) c.fault.ensures
+returns-3 c = stops_low (of_kind c.before.before.before.before.before.before.requires.1 (sym c.before.before.before.unit_of_lem.ensures ∙ c.before.enum-told3.given.1)) c.fault.ensures
 
 pub unit_spec : {M : Type 1} → statement M
 unit_spec =

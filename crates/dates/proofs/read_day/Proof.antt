@@ -1,7 +1,7 @@
 use borrow.Author.Rules.{rules}
 use mathlib.Core.Path.{refl, ◌∙◌, ap}
 use Prim.Native.Nat.{ℕ}
-use Rattle.model.specs.DateText.{dayText, midnight, lastOfYear, lastOfMonth}
+use Rattle.model.specs.DateText.{day_text, midnight, last_of_year, last_of_month}
 use Rattle.model.specs.Laws.Branches.{taken, passed}
 use Rattle.dates.proofs.read_day.Statement.{statement}
 use Rattle.dates.proofs.read_day.Tie as tie
@@ -19,11 +19,11 @@ midnight-requires : tie.Need-midnight-requires
 midnight-requires c κs = search rules
 
 returns : tie.Need-returns
-unfolding dayText
+unfolding day_text
 returns c =
     let t = c.before.before in
     taken _ _ t.before.like.ensures t.if1.true
-    (c.midnight.ensures ∙ ap (λ (y : ℕ). midnight (lastOfYear y)) c.before.year-in.ensures.0)
+    (c.midnight.ensures ∙ ap (λ (y : ℕ). midnight (last_of_year y)) c.before.year-in.ensures.0)
 
 slice-aggregate-like-2 : tie.Need-slice-aggregate-like-2
 slice-aggregate-like-2 c = search rules
@@ -41,12 +41,12 @@ month-end-requires : tie.Need-month-end-requires
 month-end-requires c κs = search rules
 
 returns-2 : tie.Need-returns-2
-unfolding dayText
+unfolding day_text
 returns-2 c =
     let t = c.before.before.before in let p1 = t.before.before.before in
     passed _ _ p1.before.like.ensures p1.if1.false
     (taken _ _ t.before.like2.ensures t.if2.true
-    (c.month-end.ensures ∙ (λ i. midnight (lastOfMonth (c.before.before.year-in2.ensures.0 i) (c.before.two_digits.ensures.0 i)))))
+    (c.month-end.ensures ∙ (λ i. midnight (last_of_month (c.before.before.year-in2.ensures.0 i) (c.before.two_digits.ensures.0 i)))))
 
 slice-aggregate-like-3 : tie.Need-slice-aggregate-like-3
 slice-aggregate-like-3 c = search rules
@@ -61,7 +61,7 @@ midnight-requires-2 : tie.Need-midnight-requires-2
 midnight-requires-2 c κs = search rules
 
 returns-3 : tie.Need-returns-3
-unfolding dayText
+unfolding day_text
 returns-3 c =
     let t = c.before.before in let p2 = t.before.before.before in let p1 = p2.before.before.before in
     passed _ _ p1.before.like.ensures p1.if1.false
@@ -70,7 +70,7 @@ returns-3 c =
     (c.midnight2.ensures ∙ ap midnight c.before.date-in.ensures)))
 
 returns-4 : tie.Need-returns-4
-unfolding dayText
+unfolding day_text
 returns-4 c =
     let p2 = c.before.before.before in let p1 = p2.before.before.before in
     passed _ _ p1.before.like.ensures p1.if1.false

@@ -1,4 +1,4 @@
-use Rattle.eval.proofs.Whole.{answer-refused, answer-written}
+use Rattle.eval.proofs.Whole.{answer_refused, answer_written}
 use borrow.Author.Rules.{rules}
 use Rattle.eval.proofs.evaluate.Statement.{statement}
 use Rattle.eval.proofs.evaluate.Tie as tie
@@ -37,7 +37,7 @@ same-length-2 : tie.Need-same-length-2
 same-length-2 c = search rules
 
 returns : tie.Need-returns
-returns c = answer-refused c.before.before.before.before.before.before.before.before.before.before.before.before.before.before.value.ensures c.before.before.before.before.before.before.before.before.before.before.refusal.given.0.0 c.before.before.before.before.before.before.before.before.before.before.refusal.given.0.1.0 _ c.refused.result c.before.before.before.before.before.before.before.before.before.before.refusal.given.1 c.before.before.before.before.before.before.before.clear-from.ensures c.before.before.before.clear-from2.ensures c.refused.ensures
+returns c = answer_refused c.before.before.before.before.before.before.before.before.before.before.before.before.before.before.value.ensures c.before.before.before.before.before.before.before.before.before.before.refusal.given.0.0 c.before.before.before.before.before.before.before.before.before.before.refusal.given.0.1.0 _ c.refused.result c.before.before.before.before.before.before.before.before.before.before.refusal.given.1 c.before.before.before.before.before.before.before.clear-from.ensures c.before.before.before.clear-from2.ensures c.refused.ensures
 
 same-length-3 : tie.Need-same-length-3
 same-length-3 c = search rules
@@ -46,7 +46,7 @@ same-length-4 : tie.Need-same-length-4
 same-length-4 c = search rules
 
 returns-2 : tie.Need-returns-2
-returns-2 c = answer-written c.before.before.before.before.before.before.before.before.before.before.before.before.before.before.before.value.ensures c.before.before.before.before.before.before.before.before.before.before.before.h.given.0.0 c.before.before.before.before.before.before.before.before.before.before.before.h.given.0.1.0 _ c.before.before.before.before.before.before.before.write.result c.written.result c.before.before.before.before.before.before.before.before.before.before.before.h.given.1 c.before.before.before.clear-from3.ensures c.before.before.before.before.before.before.before.write.ensures c.written.ensures
+returns-2 c = answer_written c.before.before.before.before.before.before.before.before.before.before.before.before.before.before.before.value.ensures c.before.before.before.before.before.before.before.before.before.before.before.h.given.0.0 c.before.before.before.before.before.before.before.before.before.before.before.h.given.0.1.0 _ c.before.before.before.before.before.before.before.write.result c.written.result c.before.before.before.before.before.before.before.before.before.before.before.h.given.1 c.before.before.before.clear-from3.ensures c.before.before.before.before.before.before.before.write.ensures c.written.ensures
 
 pub evaluate-spec : {M : Type 1} → statement M
 evaluate-spec =

@@ -1,5 +1,5 @@
 use mathlib.Core.Path.{sym, ◌∙◌, refl}
-use Rattle.jehvrukam.proofs.TwoTexts.{check-rule-short, check-sheet-short, checked}
+use Rattle.jehvrukam.proofs.TwoTexts.{check_rule_short, check_sheet_short, checked}
 use borrow.Author.Rules.{rules}
 use Rattle.jehvrukam.proofs.jehvrukam_check.Statement.{statement}
 use Rattle.jehvrukam.proofs.jehvrukam_check.Tie as tie
@@ -18,7 +18,7 @@ same-length-2 c = refl
 
 -- src/lib.rt:56:9
 returns : tie.Need-returns
-returns c = check-rule-short _ _ _ _ _ _ _ (sym c.before.is-short.ensures ∙ c.if1.true)
+returns c = check_rule_short _ _ _ _ _ _ _ (sym c.before.is-short.ensures ∙ c.if1.true)
 
 -- src/lib.rt:58:8
 is-short-requires-2 : tie.Need-is-short-requires-2
@@ -42,7 +42,7 @@ same-length-6 c = refl
 
 -- src/lib.rt:59:9
 returns-2 : tie.Need-returns-2
-returns-2 c = check-sheet-short _ _ _ _ _ _ _ (sym c.before.before.before.before.before.is-short.ensures ∙ c.before.before.before.before.if1.false) (sym c.before.is-short2.ensures ∙ c.if2.true)
+returns-2 c = check_sheet_short _ _ _ _ _ _ _ (sym c.before.before.before.before.before.is-short.ensures ∙ c.before.before.before.before.if1.false) (sym c.before.is-short2.ensures ∙ c.if2.true)
 
 -- src/lib.rt:61:9
 check-texts-requires : tie.Need-check-texts-requires

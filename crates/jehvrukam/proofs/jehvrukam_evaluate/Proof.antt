@@ -1,5 +1,5 @@
 use mathlib.Core.Path.{sym, ◌∙◌, refl}
-use Rattle.jehvrukam.proofs.Entries.{cannot, rule-short, record-short, evaluated}
+use Rattle.jehvrukam.proofs.Entries.{cannot, rule_short, record_short, evaluated}
 use borrow.Author.Rules.{rules}
 use Rattle.jehvrukam.proofs.jehvrukam_evaluate.Statement.{statement}
 use Rattle.jehvrukam.proofs.jehvrukam_evaluate.Tie as tie
@@ -34,7 +34,7 @@ same-length-4 c = refl
 
 -- src/lib.rt:60:9
 returns-2 : tie.Need-returns-2
-returns-2 c = rule-short _ _ c.before.before.before.before.before.before.before.before.before.before.before.before.before.before.before.args.limit _ _ _ _ _ _ _ (sym c.before.before.before.before.before.cannot-run.ensures ∙ c.before.before.before.before.if1.false) (sym c.before.is-short.ensures ∙ c.if2.true)
+returns-2 c = rule_short _ _ c.before.before.before.before.before.before.before.before.before.before.before.before.before.before.before.args.limit _ _ _ _ _ _ _ (sym c.before.before.before.before.before.cannot-run.ensures ∙ c.before.before.before.before.if1.false) (sym c.before.is-short.ensures ∙ c.if2.true)
 
 -- src/lib.rt:62:8
 is-short-requires-2 : tie.Need-is-short-requires-2
@@ -62,7 +62,7 @@ same-length-9 c = refl
 
 -- src/lib.rt:63:9
 returns-3 : tie.Need-returns-3
-returns-3 c = record-short _ _ c.before.before.before.before.before.before.before.before.before.before.before.before.before.before.before.before.before.before.before.args.limit _ _ _ _ _ _ _ (sym c.before.before.before.before.before.before.before.before.before.cannot-run.ensures ∙ c.before.before.before.before.before.before.before.before.if1.false) (sym c.before.before.before.before.before.is-short.ensures ∙ c.before.before.before.before.if2.false) (sym c.before.is-short2.ensures ∙ c.if3.true)
+returns-3 c = record_short _ _ c.before.before.before.before.before.before.before.before.before.before.before.before.before.before.before.before.before.before.before.args.limit _ _ _ _ _ _ _ (sym c.before.before.before.before.before.before.before.before.before.cannot-run.ensures ∙ c.before.before.before.before.before.before.before.before.if1.false) (sym c.before.before.before.before.before.is-short.ensures ∙ c.before.before.before.before.if2.false) (sym c.before.is-short2.ensures ∙ c.if3.true)
 
 -- src/lib.rt:65:9
 judge-requires : tie.Need-judge-requires

@@ -1,5 +1,5 @@
 use mathlib.Core.Path.{sym, ◌∙◌, refl}
-use Rattle.jehvrukam.proofs.Entries.{checked-cannot, checked-rule-short, checked-sheet-short, checked-record-short, evaluated-checked}
+use Rattle.jehvrukam.proofs.Entries.{checked_cannot, checked_rule_short, checked_sheet_short, checked_record_short, evaluated_checked}
 use borrow.Author.Rules.{rules}
 use Rattle.jehvrukam.proofs.jehvrukam_evaluate_checked.Statement.{statement}
 use Rattle.jehvrukam.proofs.jehvrukam_evaluate_checked.Tie as tie
@@ -14,7 +14,7 @@ same_length c = refl
 
 -- src/lib.rt:192:9
 returns : tie.Need-returns
-returns c = checked-cannot _ _ _ c.before.before.before.before.before.before.before.before.before.before.before.before.before.before.args.limit _ _ _ _ _ _ _ _ _ (sym c.before.cannot-run.ensures ∙ c.if1.true)
+returns c = checked_cannot _ _ _ c.before.before.before.before.before.before.before.before.before.before.before.before.before.before.args.limit _ _ _ _ _ _ _ _ _ (sym c.before.cannot-run.ensures ∙ c.if1.true)
 
 -- src/lib.rt:194:8
 is-short-requires : tie.Need-is-short-requires
@@ -34,7 +34,7 @@ same-length-4 c = refl
 
 -- src/lib.rt:195:9
 returns-2 : tie.Need-returns-2
-returns-2 c = checked-rule-short _ _ _ c.before.before.before.before.before.before.before.before.before.before.before.before.before.before.before.before.before.before.args.limit _ _ _ _ _ _ _ _ _ (sym c.before.before.before.before.before.cannot-run.ensures ∙ c.before.before.before.before.if1.false) (sym c.before.is-short.ensures ∙ c.if2.true)
+returns-2 c = checked_rule_short _ _ _ c.before.before.before.before.before.before.before.before.before.before.before.before.before.before.before.before.before.before.args.limit _ _ _ _ _ _ _ _ _ (sym c.before.before.before.before.before.cannot-run.ensures ∙ c.before.before.before.before.if1.false) (sym c.before.is-short.ensures ∙ c.if2.true)
 
 -- src/lib.rt:197:8
 is-short-requires-2 : tie.Need-is-short-requires-2
@@ -62,7 +62,7 @@ same-length-9 c = refl
 
 -- src/lib.rt:198:9
 returns-3 : tie.Need-returns-3
-returns-3 c = checked-sheet-short _ _ _ c.before.before.before.before.before.before.before.before.before.before.before.before.before.before.before.before.before.before.before.before.before.before.args.limit _ _ _ _ _ _ _ _ _ (sym c.before.before.before.before.before.before.before.before.before.cannot-run.ensures ∙ c.before.before.before.before.before.before.before.before.if1.false) (sym c.before.before.before.before.before.is-short.ensures ∙ c.before.before.before.before.if2.false) (sym c.before.is-short2.ensures ∙ c.if3.true)
+returns-3 c = checked_sheet_short _ _ _ c.before.before.before.before.before.before.before.before.before.before.before.before.before.before.before.before.before.before.before.before.before.before.args.limit _ _ _ _ _ _ _ _ _ (sym c.before.before.before.before.before.before.before.before.before.cannot-run.ensures ∙ c.before.before.before.before.before.before.before.before.if1.false) (sym c.before.before.before.before.before.is-short.ensures ∙ c.before.before.before.before.if2.false) (sym c.before.is-short2.ensures ∙ c.if3.true)
 
 -- src/lib.rt:200:8
 is-short-requires-3 : tie.Need-is-short-requires-3
@@ -98,7 +98,7 @@ same-length-16 c = refl
 
 -- src/lib.rt:201:9
 returns-4 : tie.Need-returns-4
-returns-4 c = checked-record-short _ _ _ c.before.before.before.before.before.before.before.before.before.before.before.before.before.before.before.before.before.before.before.before.before.before.before.before.before.before.args.limit _ _ _ _ _ _ _ _ _ (sym c.before.before.before.before.before.before.before.before.before.before.before.before.before.cannot-run.ensures ∙ c.before.before.before.before.before.before.before.before.before.before.before.before.if1.false) (sym c.before.before.before.before.before.before.before.before.before.is-short.ensures ∙ c.before.before.before.before.before.before.before.before.if2.false) (sym c.before.before.before.before.before.is-short2.ensures ∙ c.before.before.before.before.if3.false) (sym c.before.is-short3.ensures ∙ c.if4.true)
+returns-4 c = checked_record_short _ _ _ c.before.before.before.before.before.before.before.before.before.before.before.before.before.before.before.before.before.before.before.before.before.before.before.before.before.before.args.limit _ _ _ _ _ _ _ _ _ (sym c.before.before.before.before.before.before.before.before.before.before.before.before.before.cannot-run.ensures ∙ c.before.before.before.before.before.before.before.before.before.before.before.before.if1.false) (sym c.before.before.before.before.before.before.before.before.before.is-short.ensures ∙ c.before.before.before.before.before.before.before.before.if2.false) (sym c.before.before.before.before.before.is-short2.ensures ∙ c.before.before.before.before.if3.false) (sym c.before.is-short3.ensures ∙ c.if4.true)
 
 -- src/lib.rt:203:9
 judge-requires : tie.Need-judge-requires
@@ -158,7 +158,7 @@ same-length-24 c = c.before.before.before.before.before.settle-work.auto.1.1.0 �
 
 -- src/lib.rt:168:1
 returns-5 : tie.Need-returns-5
-returns-5 c = evaluated-checked _ _ _ c.before.before.before.before.before.before.before.before.before.before.before.before.before.before.before.before.before.before.before.before.before.before.before.before.before.before.before.before.before.before.before.before.before.before.before.before.before.before.before.before.before.before.before.before.before.before.before.before.before.before.before.before.before.before.before.before.before.before.before.before.before.before.before.before.before.before.before.before.before.before.before.before.before.before.before.before.before.before.before.before.args.limit _ _ _ _ _ _ _ _ _ (sym c.before.before.before.before.before.before.before.before.before.before.before.before.before.before.before.before.before.before.before.before.before.before.before.before.before.before.before.before.before.before.before.before.before.before.before.before.before.before.before.before.before.before.before.before.before.before.before.before.before.before.before.before.before.before.before.before.before.before.before.before.before.before.before.before.before.before.before.cannot-run.ensures ∙ c.before.before.before.before.before.before.before.before.before.before.before.before.before.before.before.before.before.before.before.before.before.before.before.before.before.before.before.before.before.before.before.before.before.before.before.before.before.before.before.before.before.before.before.before.before.before.before.before.before.before.before.before.before.before.before.before.before.before.before.before.before.before.before.before.before.before.if1.false) (sym c.before.before.before.before.before.before.before.before.before.before.before.before.before.before.before.before.before.before.before.before.before.before.before.before.before.before.before.before.before.before.before.before.before.before.before.before.before.before.before.before.before.before.before.before.before.before.before.before.before.before.before.before.before.before.before.before.before.before.before.before.before.before.before.is-short.ensures ∙ c.before.before.before.before.before.before.before.before.before.before.before.before.before.before.before.before.before.before.before.before.before.before.before.before.before.before.before.before.before.before.before.before.before.before.before.before.before.before.before.before.before.before.before.before.before.before.before.before.before.before.before.before.before.before.before.before.before.before.before.before.before.before.if2.false) (sym c.before.before.before.before.before.before.before.before.before.before.before.before.before.before.before.before.before.before.before.before.before.before.before.before.before.before.before.before.before.before.before.before.before.before.before.before.before.before.before.before.before.before.before.before.before.before.before.before.before.before.before.before.before.before.before.before.before.before.before.is-short2.ensures ∙ c.before.before.before.before.before.before.before.before.before.before.before.before.before.before.before.before.before.before.before.before.before.before.before.before.before.before.before.before.before.before.before.before.before.before.before.before.before.before.before.before.before.before.before.before.before.before.before.before.before.before.before.before.before.before.before.before.before.before.if3.false) (sym c.before.before.before.before.before.before.before.before.before.before.before.before.before.before.before.before.before.before.before.before.before.before.before.before.before.before.before.before.before.before.before.before.before.before.before.before.before.before.before.before.before.before.before.before.before.before.before.before.before.before.before.before.before.before.before.is-short3.ensures ∙ c.before.before.before.before.before.before.before.before.before.before.before.before.before.before.before.before.before.before.before.before.before.before.before.before.before.before.before.before.before.before.before.before.before.before.before.before.before.before.before.before.before.before.before.before.before.before.before.before.before.before.before.before.before.before.if4.false) c.before.before.before.before.before.before.before.before.before.before.before.before.before.before.before.before.before.before.before.before.before.before.before.before.before.before.before.before.before.before.before.before.before.before.before.before.before.before.before.before.before.before.before.before.before.judge.result c.before.before.before.before.before.before.before.before.before.before.before.before.before.before.before.before.before.before.before.before.before.before.before.before.before.before.before.before.before.before.before.before.before.before.before.before.before.before.before.before.before.before.before.before.before.judge.ensures c.before.before.before.before.before.before.before.before.before.before.before.before.before.before.before.before.before.before.before.before.before.before.before.before.before.before.settle-text.ensures c.before.before.before.before.before.before.before.before.before.before.before.before.before.before.before.before.before.before.before.settle-text2.ensures c.before.before.before.before.before.before.before.before.before.before.before.before.settle-text3.ensures c.before.before.before.before.before.settle-work.ensures c.yes_or_no.ensures
+returns-5 c = evaluated_checked _ _ _ c.before.before.before.before.before.before.before.before.before.before.before.before.before.before.before.before.before.before.before.before.before.before.before.before.before.before.before.before.before.before.before.before.before.before.before.before.before.before.before.before.before.before.before.before.before.before.before.before.before.before.before.before.before.before.before.before.before.before.before.before.before.before.before.before.before.before.before.before.before.before.before.before.before.before.before.before.before.before.before.before.args.limit _ _ _ _ _ _ _ _ _ (sym c.before.before.before.before.before.before.before.before.before.before.before.before.before.before.before.before.before.before.before.before.before.before.before.before.before.before.before.before.before.before.before.before.before.before.before.before.before.before.before.before.before.before.before.before.before.before.before.before.before.before.before.before.before.before.before.before.before.before.before.before.before.before.before.before.before.before.before.cannot-run.ensures ∙ c.before.before.before.before.before.before.before.before.before.before.before.before.before.before.before.before.before.before.before.before.before.before.before.before.before.before.before.before.before.before.before.before.before.before.before.before.before.before.before.before.before.before.before.before.before.before.before.before.before.before.before.before.before.before.before.before.before.before.before.before.before.before.before.before.before.before.if1.false) (sym c.before.before.before.before.before.before.before.before.before.before.before.before.before.before.before.before.before.before.before.before.before.before.before.before.before.before.before.before.before.before.before.before.before.before.before.before.before.before.before.before.before.before.before.before.before.before.before.before.before.before.before.before.before.before.before.before.before.before.before.before.before.before.before.is-short.ensures ∙ c.before.before.before.before.before.before.before.before.before.before.before.before.before.before.before.before.before.before.before.before.before.before.before.before.before.before.before.before.before.before.before.before.before.before.before.before.before.before.before.before.before.before.before.before.before.before.before.before.before.before.before.before.before.before.before.before.before.before.before.before.before.before.if2.false) (sym c.before.before.before.before.before.before.before.before.before.before.before.before.before.before.before.before.before.before.before.before.before.before.before.before.before.before.before.before.before.before.before.before.before.before.before.before.before.before.before.before.before.before.before.before.before.before.before.before.before.before.before.before.before.before.before.before.before.before.before.is-short2.ensures ∙ c.before.before.before.before.before.before.before.before.before.before.before.before.before.before.before.before.before.before.before.before.before.before.before.before.before.before.before.before.before.before.before.before.before.before.before.before.before.before.before.before.before.before.before.before.before.before.before.before.before.before.before.before.before.before.before.before.before.before.if3.false) (sym c.before.before.before.before.before.before.before.before.before.before.before.before.before.before.before.before.before.before.before.before.before.before.before.before.before.before.before.before.before.before.before.before.before.before.before.before.before.before.before.before.before.before.before.before.before.before.before.before.before.before.before.before.before.before.before.is-short3.ensures ∙ c.before.before.before.before.before.before.before.before.before.before.before.before.before.before.before.before.before.before.before.before.before.before.before.before.before.before.before.before.before.before.before.before.before.before.before.before.before.before.before.before.before.before.before.before.before.before.before.before.before.before.before.before.before.before.if4.false) c.before.before.before.before.before.before.before.before.before.before.before.before.before.before.before.before.before.before.before.before.before.before.before.before.before.before.before.before.before.before.before.before.before.before.before.before.before.before.before.before.before.before.before.before.before.judge.result c.before.before.before.before.before.before.before.before.before.before.before.before.before.before.before.before.before.before.before.before.before.before.before.before.before.before.before.before.before.before.before.before.before.before.before.before.before.before.before.before.before.before.before.before.before.judge.ensures c.before.before.before.before.before.before.before.before.before.before.before.before.before.before.before.before.before.before.before.before.before.before.before.before.before.before.settle-text.ensures c.before.before.before.before.before.before.before.before.before.before.before.before.before.before.before.before.before.before.before.settle-text2.ensures c.before.before.before.before.before.before.before.before.before.before.before.before.settle-text3.ensures c.before.before.before.before.before.settle-work.ensures c.yes_or_no.ensures
 
 pub jehvrukam-evaluate-checked-spec : {M : Type 1} → statement M
 jehvrukam-evaluate-checked-spec =

@@ -1,5 +1,5 @@
 use mathlib.Core.Path.{sym, ◌∙◌, refl}
-use Rattle.jehvrukam.proofs.TwoTexts.{fits-sheet-short, fits-record-short, fitted}
+use Rattle.jehvrukam.proofs.TwoTexts.{fits_sheet_short, fits_record_short, fitted}
 use borrow.Author.Rules.{rules}
 use Rattle.jehvrukam.proofs.jehvrukam_fits.Statement.{statement}
 use Rattle.jehvrukam.proofs.jehvrukam_fits.Tie as tie
@@ -18,7 +18,7 @@ same-length-2 c = refl
 
 -- src/lib.rt:96:9
 returns : tie.Need-returns
-returns c = fits-sheet-short _ _ _ _ _ _ _ (sym c.before.is-short.ensures ∙ c.if1.true)
+returns c = fits_sheet_short _ _ _ _ _ _ _ (sym c.before.is-short.ensures ∙ c.if1.true)
 
 -- src/lib.rt:98:8
 is-short-requires-2 : tie.Need-is-short-requires-2
@@ -42,7 +42,7 @@ same-length-6 c = refl
 
 -- src/lib.rt:99:9
 returns-2 : tie.Need-returns-2
-returns-2 c = fits-record-short _ _ _ _ _ _ _ (sym c.before.before.before.before.before.is-short.ensures ∙ c.before.before.before.before.if1.false) (sym c.before.is-short2.ensures ∙ c.if2.true)
+returns-2 c = fits_record_short _ _ _ _ _ _ _ (sym c.before.before.before.before.before.is-short.ensures ∙ c.before.before.before.before.if1.false) (sym c.before.is-short2.ensures ∙ c.if2.true)
 
 -- src/lib.rt:101:9
 fit-texts-requires : tie.Need-fit-texts-requires

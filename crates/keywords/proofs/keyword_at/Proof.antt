@@ -1,5 +1,5 @@
 use Rattle.model.specs.Shape.{keywords}
-use Rattle.bytes.specs.Laws.Names.{no-entry}
+use Rattle.octets.specs.Laws.Names.{no_entry}
 use Rattle.keywords.proofs.keyword_at.Statement.{statement}
 use Rattle.keywords.proofs.keyword_at.Tie as tie
 
@@ -39,4 +39,4 @@ keyword-at-spec =
     (λ c. rw (c.exactly5.ensures, c.before.match.keys17))
     (λ c. rw c.match.keys18)
     (λ c. rw c.match.keys19)
-    (λ c. no-entry keywords c.before.args.i c.match.rest))
+    (λ c. no_entry keywords c.before.args.i c.match.rest))

@@ -2,8 +2,8 @@ use mathlib.Core.List.{[], ◌∷◌}
 use mathlib.Core.Path.{sym, ap, ◌∙◌}
 use borrow.Author.Rules.{rules}
 use lib.ListN.{length}
-use Rattle.model.specs.Shape.{keywords, keywordNamed}
-use Rattle.keywords.specs.Laws.Keyed.{one_byte, two_bytes, by_length, not-keyed}
+use Rattle.model.specs.Shape.{keywords, keyword_named}
+use Rattle.keywords.specs.Laws.Keyed.{one_byte, two_bytes, by_length, not_keyed}
 use Rattle.keywords.proofs.keyword_named.Statement.{statement}
 use Rattle.keywords.proofs.keyword_named.Tie as tie
 
@@ -65,10 +65,10 @@ spelled-requires-6 : tie.Need-spelled-requires-6
 spelled-requires-6 c κs = search rules
 
 returns : tie.Need-returns
-returns c = c.of-one-byte.ensures ∙ ap keywordNamed (sym (one_byte c.before.before.before.before.args.name.now c.before.before.match.keys1))
+returns c = c.of-one-byte.ensures ∙ ap keyword_named (sym (one_byte c.before.before.before.before.args.name.now c.before.before.match.keys1))
 
 returns-2 : tie.Need-returns-2
-returns-2 c = c.of-two-bytes.ensures ∙ ap keywordNamed (sym (two_bytes c.before.before.before.before.before.args.name.now c.before.before.before.match.keys2))
+returns-2 c = c.of-two-bytes.ensures ∙ ap keyword_named (sym (two_bytes c.before.before.before.before.before.args.name.now c.before.before.before.match.keys2))
 
 returns-3 : tie.Need-returns-3
 returns-3 c = search rules
@@ -95,7 +95,7 @@ returns-10 : tie.Need-returns-10
 returns-10 c = c.spelled6.ensures ∙ by_length 15 c.before.before.before.before.args.name.now c.before.before.match.keys10
 
 returns-11 : tie.Need-returns-11
-returns-11 c = not-keyed length (15 ∷ 14 ∷ 10 ∷ 9 ∷ 8 ∷ 6 ∷ 5 ∷ 3 ∷ 2 ∷ 1 ∷ []) c.before.before.args.name.now keywords tt c.match.rest
+returns-11 c = not_keyed length (15 ∷ 14 ∷ 10 ∷ 9 ∷ 8 ∷ 6 ∷ 5 ∷ 3 ∷ 2 ∷ 1 ∷ []) c.before.before.args.name.now keywords tt c.match.rest
 
 pub keyword-named-spec : {M : Type 1} → statement M
 keyword-named-spec =

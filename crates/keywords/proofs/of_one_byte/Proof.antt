@@ -3,14 +3,14 @@ use mathlib.Core.Path.{refl, ◌∙◌}
 use lib.ListN.{length}
 use Rattle.model.specs.Bytes.{ascii}
 use Rattle.model.specs.Shape.{keywords}
-use Rattle.keywords.specs.Laws.Keyed.{first, keyed, by_length, not-keyed}
+use Rattle.keywords.specs.Laws.Keyed.{first, keyed, by_length, not_keyed}
 use Rattle.keywords.proofs.of_one_byte.Statement.{statement}
 use Rattle.keywords.proofs.of_one_byte.Tie as tie
 
 returns-5 : tie.Need-returns-5
 returns-5 c =
     let s = c.before.args.a ∷ [] in
-    not-keyed first (ascii "!<>+") s (keyed length 1 keywords) tt c.match.rest ∙ by_length 1 s refl
+    not_keyed first (ascii "!<>+") s (keyed length 1 keywords) tt c.match.rest ∙ by_length 1 s refl
 
 pub of-one-byte-spec : {M : Type 1} → statement M
 of-one-byte-spec =

@@ -3,7 +3,7 @@ use borrow.Author.Rules.{rules}
 use lib.ListN.{length}
 use Rattle.model.specs.Bytes.{ascii, byte}
 use Rattle.model.specs.Shape.{keywords}
-use Rattle.keywords.specs.Laws.Keyed.{first, keyed, by_length, by_first, not-keyed}
+use Rattle.keywords.specs.Laws.Keyed.{first, keyed, by_length, by_first, not_keyed}
 use Rattle.keywords.proofs.of_six_bytes.Statement.{statement}
 use Rattle.keywords.proofs.of_six_bytes.Tie as tie
 
@@ -25,7 +25,7 @@ returns-2 c = c.spelled2.ensures ∙ by_first 6 (byte "b") c.before.before.befor
 returns-3 : tie.Need-returns-3
 returns-3 c =
     let s = c.before.before.before.args.name.now in
-    not-keyed first (ascii "br") s (keyed length 6 keywords) tt c.match.rest ∙ by_length 6 s c.before.before.before.requires
+    not_keyed first (ascii "br") s (keyed length 6 keywords) tt c.match.rest ∙ by_length 6 s c.before.before.before.requires
 
 pub of-six-bytes-spec : {M : Type 1} → statement M
 of-six-bytes-spec =

@@ -3,7 +3,7 @@ use borrow.Author.Rules.{rules}
 use lib.ListN.{length}
 use Rattle.model.specs.Bytes.{ascii, byte}
 use Rattle.model.specs.Shape.{keywords}
-use Rattle.keywords.specs.Laws.Keyed.{first, keyed, by_length, by_first, not-keyed}
+use Rattle.keywords.specs.Laws.Keyed.{first, keyed, by_length, by_first, not_keyed}
 use Rattle.keywords.proofs.of_three_bytes.Statement.{statement}
 use Rattle.keywords.proofs.of_three_bytes.Tie as tie
 
@@ -31,7 +31,7 @@ returns-3 c = c.spelled3.ensures ∙ by_first 3 (byte "a") c.before.before.befor
 returns-4 : tie.Need-returns-4
 returns-4 c =
     let s = c.before.before.before.args.name.now in
-    not-keyed first (ascii "a=v") s (keyed length 3 keywords) tt c.match.rest ∙ by_length 3 s c.before.before.before.requires
+    not_keyed first (ascii "a=v") s (keyed length 3 keywords) tt c.match.rest ∙ by_length 3 s c.before.before.before.requires
 
 pub of-three-bytes-spec : {M : Type 1} → statement M
 of-three-bytes-spec =

@@ -5,15 +5,15 @@ use borrow.Author.Tests.{ne_eqb}
 use lib.ListN.{length}
 use Rattle.model.specs.Bytes.{ascii, byte}
 use Rattle.model.specs.Shape.{keywords}
-use Rattle.keywords.specs.Laws.Keyed.{first, second, keyed, found-keyed, by_length, by_first, not-keyed}
+use Rattle.keywords.specs.Laws.Keyed.{first, second, keyed, found_keyed, by_length, by_first, not_keyed}
 use Rattle.keywords.proofs.of_two_bytes.Statement.{statement}
 use Rattle.keywords.proofs.of_two_bytes.Tie as tie
 
 returns-3 : tie.Need-returns-3
 returns-3 c =
     let s = c.before.before.args.a ∷ c.before.before.args.b ∷ [] in
-    not-keyed first (ascii "<>") s (keyed second (byte "=") (keyed length 2 keywords)) tt c.match.rest
-    ∙ found-keyed second (byte "=") s (keyed length 2 keywords) c.before.if1.true ∙ by_length 2 s refl
+    not_keyed first (ascii "<>") s (keyed second (byte "=") (keyed length 2 keywords)) tt c.match.rest
+    ∙ found_keyed second (byte "=") s (keyed length 2 keywords) c.before.if1.true ∙ by_length 2 s refl
 
 returns-4 : tie.Need-returns-4
 returns-4 c =
@@ -24,7 +24,7 @@ returns-4 c =
 returns-7 : tie.Need-returns-7
 returns-7 c =
     let s = c.before.before.before.args.a ∷ c.before.before.before.args.b ∷ [] in
-    not-keyed second (ascii "nf") s (keyed first (byte "i") (keyed length 2 keywords)) tt c.match2.rest
+    not_keyed second (ascii "nf") s (keyed first (byte "i") (keyed length 2 keywords)) tt c.match2.rest
     ∙ by_first 2 (byte "i") s refl c.before.if2.false
 
 pub of-two-bytes-spec : {M : Type 1} → statement M

@@ -1,5 +1,5 @@
 use Rattle.model.specs.Shape.{units}
-use Rattle.bytes.specs.Laws.Names.{no-entry}
+use Rattle.octets.specs.Laws.Names.{no_entry}
 use Rattle.keywords.proofs.unit_at.Statement.{statement}
 use Rattle.keywords.proofs.unit_at.Tie as tie
 
@@ -11,4 +11,4 @@ unit-at-spec =
     (λ c. rw c.match.keys2)
     (λ c. rw c.match.keys3)
     (λ c. rw c.match.keys4)
-    (λ c. no-entry units c.before.args.i c.match.rest))
+    (λ c. no_entry units c.before.args.i c.match.rest))

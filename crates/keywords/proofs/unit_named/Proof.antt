@@ -1,6 +1,6 @@
 use mathlib.Core.Path.{refl}
 use Rattle.model.specs.Shape.{units}
-use Rattle.bytes.specs.Laws.Names.{answered-at}
+use Rattle.octets.specs.Laws.Names.{answered_at}
 use borrow.Author.Rules.{rules}
 use Rattle.keywords.proofs.unit_named.Statement.{statement}
 use Rattle.keywords.proofs.unit_named.Tie as tie
@@ -21,10 +21,10 @@ unit-at-requires : tie.Need-unit-at-requires
 unit-at-requires c κs = search rules
 
 returns : tie.Need-returns
-returns c = answered-at units c.before.before.before.before.before.before.before.args.name.now refl refl c.before.before.position-of.ensures c.enum_told.given.1 refl
+returns c = answered_at units c.before.before.before.before.before.before.before.args.name.now refl refl c.before.before.position-of.ensures c.enum_told.given.1 refl
 
 returns-2 : tie.Need-returns-2
-returns-2 c = answered-at units c.before.before.before.before.before.before.before.before.before.args.name.now refl refl c.before.before.before.before.position-of.ensures c.before.before.i.given.1 c.unit-at.ensures
+returns-2 c = answered_at units c.before.before.before.before.before.before.before.before.before.args.name.now refl refl c.before.before.before.before.position-of.ensures c.before.before.i.given.1 c.unit-at.ensures
 
 pub unit-named-spec : {M : Type 1} → statement M
 unit-named-spec =

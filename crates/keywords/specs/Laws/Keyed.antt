@@ -4,10 +4,10 @@ use Rattle.std.proofs.Common.{sym, ap, ◌∙◌, arith, eqb-true}
 use Rattle.std.proofs.Math.Option.{Option, none, some}
 use Rattle.std.proofs.lemmas.Bool.{eqb-false}
 use types.Run.{OneOf}
-use Rattle.model.specs.Bytes.{Bytes, sameBytes}
+use Rattle.model.specs.Bytes.{Bytes, same_bytes}
 use Rattle.model.specs.Laws.Logic.{bytes→≡, and_l, and_r}
 use Rattle.model.specs.Lists.{find, any, all}
-use Rattle.model.specs.Shape.{keywords, keywordNamed}
+use Rattle.model.specs.Shape.{keywords, keyword_named}
 
 -- A name's first byte, and its second.
 abbrev pub first : Bytes → ℕ
@@ -31,30 +31,30 @@ keyed key k [] = []
 keyed key k (e ∷ l) = cond (eqb (key e.0) k) (e ∷ keyed key k l) (keyed key k l)
 
 -- Names with different keys are not equal.
-unlike : (key : Bytes → ℕ) (s t : Bytes) → (key s ≡ key t → ⊥) → sameBytes s t ≡ false
-unlike key s t f = go (sameBytes s t) refl
+unlike : (key : Bytes → ℕ) (s t : Bytes) → (key s ≡ key t → ⊥) → same_bytes s t ≡ false
+unlike key s t f = go (same_bytes s t) refl
   where
-    go : (b : Bool) → sameBytes s t ≡ b → b ≡ false
+    go : (b : Bool) → same_bytes s t ≡ b → b ≡ false
     go true e = absurd (f (ap key (bytes→≡ s t (rw e tt))))
     go false e = refl
 
 -- A name is found exactly where it is found among those of its key.
-pub found-keyed : {A : Type 0} (key : Bytes → ℕ) (k : ℕ) (s : Bytes) (l : List (Bytes × A)) → key s ≡ k → find (sameBytes s) (keyed key k l) ≡ find (sameBytes s) l
-found-keyed key k s [] h = refl
-found-keyed key k s (e ∷ l) h = go (eqb (key e.0) k) refl (found-keyed key k s l h)
+pub found_keyed : {A : Type 0} (key : Bytes → ℕ) (k : ℕ) (s : Bytes) (l : List (Bytes × A)) → key s ≡ k → find (same_bytes s) (keyed key k l) ≡ find (same_bytes s) l
+found_keyed key k s [] h = refl
+found_keyed key k s (e ∷ l) h = go (eqb (key e.0) k) refl (found_keyed key k s l h)
   where
-    go : (b : Bool) → eqb (key e.0) k ≡ b → find (sameBytes s) (keyed key k l) ≡ find (sameBytes s) l
-        → find (sameBytes s) (cond b (e ∷ keyed key k l) (keyed key k l)) ≡ cond (sameBytes s e.0) (some e.1) (find (sameBytes s) l)
+    go : (b : Bool) → eqb (key e.0) k ≡ b → find (same_bytes s) (keyed key k l) ≡ find (same_bytes s) l
+        → find (same_bytes s) (cond b (e ∷ keyed key k l) (keyed key k l)) ≡ cond (same_bytes s e.0) (some e.1) (find (same_bytes s) l)
     go true t f = rw f
     go false t f = rw (unlike key s e.0 (λ g. eqb-false (key e.0) k t (sym g ∙ h))) f
 
 -- ---- keywords
 -- By length; by length and first byte.
-pub by_length : (n : ℕ) (s : Bytes) → length s ≡ n → find (sameBytes s) (keyed length n keywords) ≡ keywordNamed s
-by_length n s h = found-keyed length n s keywords h
+pub by_length : (n : ℕ) (s : Bytes) → length s ≡ n → find (same_bytes s) (keyed length n keywords) ≡ keyword_named s
+by_length n s h = found_keyed length n s keywords h
 
-pub by_first : (n k : ℕ) (s : Bytes) → length s ≡ n → first s ≡ k → find (sameBytes s) (keyed first k (keyed length n keywords)) ≡ keywordNamed s
-by_first n k s h e = found-keyed first k s (keyed length n keywords) e ∙ by_length n s h
+pub by_first : (n k : ℕ) (s : Bytes) → length s ≡ n → first s ≡ k → find (same_bytes s) (keyed first k (keyed length n keywords)) ≡ keyword_named s
+by_first n k s h e = found_keyed first k s (keyed length n keywords) e ∙ by_length n s h
 
 -- ---- keys that no name of the table has
 -- The number k is none of these, the last first, as the last arm of a `match` on a number is told.
@@ -70,8 +70,8 @@ not_in (j ∷ js) {k} i h t e = go (eqb i j) refl t (λ u. not_in js i h.0 u e)
     go true q u f = h.1 (e ∙ eqb-true i j q)
     go false q u f = f u
 
-pub not-keyed : {A : Type 0} (key : Bytes → ℕ) (js : List ℕ) (s : Bytes) (l : List (Bytes × A)) → T (all (λ (e : Bytes × A). any (eqb (key e.0)) js) l) → NoneIn js (key s) → none ≡ find (sameBytes s) l
-not-keyed key js s [] t h = refl
-not-keyed key js s (e ∷ l) t h =
+pub not_keyed : {A : Type 0} (key : Bytes → ℕ) (js : List ℕ) (s : Bytes) (l : List (Bytes × A)) → T (all (λ (e : Bytes × A). any (eqb (key e.0)) js) l) → NoneIn js (key s) → none ≡ find (same_bytes s) l
+not_keyed key js s [] t h = refl
+not_keyed key js s (e ∷ l) t h =
     let here = any (eqb (key e.0)) js in
-    rw (unlike key s e.0 (not_in js (key e.0) h (and_l here _ t))) (not-keyed key js s l (and_r here _ t) h)
+    rw (unlike key s e.0 (not_in js (key e.0) h (and_l here _ t))) (not_keyed key js s l (and_r here _ t) h)

@@ -2,17 +2,17 @@
 use Rattle.std.specs.Prelude.{◌≡◌, Bool, true, false, cond, not, T}
 use Rattle.std.proofs.Common.{sym, ◌∙◌, ap}
 use Rattle.std.proofs.lemmas.Bool.{not-true, not-false}
-use Rattle.model.specs.Laws.Logic.{true→T}
+use Rattle.model.specs.Laws.Logic.{true→t}
 
 -- A test that the code negates.
-pub answered-true : {r b : Bool} → r ≡ b → not r ≡ false → b ≡ true
-answered-true {r} e n = sym e ∙ not-false r n
+pub answered_true : {r b : Bool} → r ≡ b → not r ≡ false → b ≡ true
+answered_true {r} e n = sym e ∙ not-false r n
 
-pub answered-false : {r b : Bool} → r ≡ b → not r ≡ true → b ≡ false
-answered-false {r} e n = sym e ∙ not-true r n
+pub answered_false : {r b : Bool} → r ≡ b → not r ≡ true → b ≡ false
+answered_false {r} e n = sym e ∙ not-true r n
 
 pub answered : {r b : Bool} → r ≡ b → r ≡ true → T b
-answered e t = true→T _ (sym e ∙ t)
+answered e t = true→t _ (sym e ∙ t)
 
 -- The first branch is taken, or passed by.
 pub taken : {A : Type 0} {r b : Bool} (x y : A) {z : A} → r ≡ b → r ≡ true → z ≡ x → z ≡ cond b x y

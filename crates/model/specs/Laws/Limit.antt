@@ -4,8 +4,8 @@ use Rattle.std.proofs.Common.{sym, subst, ◌∙◌, add-zero, le_of_suc-le-suc,
 use Rattle.std.proofs.Math.Path.{ap, fun_ext}
 use Rattle.std.proofs.Math.Decide.{dec_le}
 use Rattle.model.specs.Eval.{run, Outcome, value, refusal, outcome}
-use Rattle.model.specs.Laws.Induction.{Closed, holds-of-eval}
-use Rattle.model.specs.Refusal.{Fault, fault, outOfSteps}
+use Rattle.model.specs.Laws.Induction.{Closed, holds_of_eval}
+use Rattle.model.specs.Refusal.{Fault, fault, out_of_steps}
 use Rattle.model.specs.Rule.{Rule}
 use Rattle.model.specs.Run.{Name, Ended, got, failed, Run, steps, log, return, refused, begin, continue, ◌>>=◌}
 use Rattle.model.specs.Value.{Value}
@@ -29,67 +29,67 @@ cut o (x ∷ t) = begin x (cut o t)
 abbrev pub Cut : {A : Type 0} → Run A → Type 0
 Cut {A} m = (o : End A) × (t : List Name) × (m ≡ cut o t)
 
-pub log-nil : {A : Type 0} (r : Ended A) → log [] r ≡ r
-log-nil (got a n t) = refl
-log-nil (failed e t) = refl
+pub log_nil : {A : Type 0} (r : Ended A) → log [] r ≡ r
+log_nil (got a n t) = refl
+log_nil (failed e t) = refl
 
-log-cons : {A : Type 0} (x : Name) (t : List Name) (r : Ended A) → log (x ∷ t) r ≡ log (x ∷ []) (log t r)
-log-cons x t (got a n u) = refl
-log-cons x t (failed e u) = refl
+log_cons : {A : Type 0} (x : Name) (t : List Name) (r : Ended A) → log (x ∷ t) r ≡ log (x ∷ []) (log t r)
+log_cons x t (got a n u) = refl
+log_cons x t (failed e u) = refl
 
-continue-log : {A B : Type 0} (x : Name) (r : Ended A) (f : A → Run B) → continue (log (x ∷ []) r) f ≡ log (x ∷ []) (continue r f)
-continue-log x (got a n t) f = log-cons x t (f a n)
-continue-log x (failed e t) f = refl
+continue_log : {A B : Type 0} (x : Name) (r : Ended A) (f : A → Run B) → continue (log (x ∷ []) r) f ≡ log (x ∷ []) (continue r f)
+continue_log x (got a n t) f = log_cons x t (f a n)
+continue_log x (failed e t) f = refl
 
-bind-return : {A B : Type 0} (a : A) (f : A → Run B) → (return a >>= f) ≡ f a
-bind-return a f = fun_ext (λ n. log-nil (f a n))
+bind_return : {A B : Type 0} (a : A) (f : A → Run B) → (return a >>= f) ≡ f a
+bind_return a f = fun_ext (λ n. log_nil (f a n))
 
-bind-begin : {A B : Type 0} (x : Name) (m : Run A) (f : A → Run B) → (begin x m >>= f) ≡ begin x (m >>= f)
-bind-begin x m f = fun_ext go
+bind_begin : {A B : Type 0} (x : Name) (m : Run A) (f : A → Run B) → (begin x m >>= f) ≡ begin x (m >>= f)
+bind_begin x m f = fun_ext go
   where
     go : (n : ℕ) → (begin x m >>= f) n ≡ begin x (m >>= f) n
     go zero = refl
-    go (suc n) = continue-log x (m n) f
+    go (suc n) = continue_log x (m n) f
 
 -- The second run follows on the first one's names, where that one gives a value.
-bind-ends : {A B : Type 0} (a : A) (t : List Name) (f : A → Run B) (o : End B) (u : List Name) → f a ≡ cut o u → (cut (ends a) t >>= f) ≡ cut o (t ++ u)
-bind-ends a [] f o u h = bind-return a f ∙ h
-bind-ends a (x ∷ t) f o u h = bind-begin x (cut (ends a) t) f ∙ ap (begin x) (bind-ends a t f o u h)
+bind_ends : {A B : Type 0} (a : A) (t : List Name) (f : A → Run B) (o : End B) (u : List Name) → f a ≡ cut o u → (cut (ends a) t >>= f) ≡ cut o (t ++ u)
+bind_ends a [] f o u h = bind_return a f ∙ h
+bind_ends a (x ∷ t) f o u h = bind_begin x (cut (ends a) t) f ∙ ap (begin x) (bind_ends a t f o u h)
 
-bind-faulty : {A B : Type 0} (e : Fault) (t : List Name) (f : A → Run B) → (cut (faulty e) t >>= f) ≡ cut (faulty e) t
-bind-faulty e [] f = refl
-bind-faulty e (x ∷ t) f = bind-begin x (cut (faulty e) t) f ∙ ap (begin x) (bind-faulty e t f)
+bind_faulty : {A B : Type 0} (e : Fault) (t : List Name) (f : A → Run B) → (cut (faulty e) t >>= f) ≡ cut (faulty e) t
+bind_faulty e [] f = refl
+bind_faulty e (x ∷ t) f = bind_begin x (cut (faulty e) t) f ∙ ap (begin x) (bind_faulty e t f)
 
-cut-bind : {A B : Type 0} {m : Run A} {f : A → Run B} → Cut m → ((a : A) → Cut (f a)) → Cut (m >>= f)
-cut-bind {A} {m} {f} h k = go h.0 h.2
+cut_bind : {A B : Type 0} {m : Run A} {f : A → Run B} → Cut m → ((a : A) → Cut (f a)) → Cut (m >>= f)
+cut_bind {A} {m} {f} h k = go h.0 h.2
   where
     go : (o : End A) → m ≡ cut o h.1 → Cut (m >>= f)
-    go (ends a) e = ((k a).0, h.1 ++ (k a).1, ap (λ l. l >>= f) e ∙ bind-ends a h.1 f (k a).0 (k a).1 (k a).2)
-    go (faulty x) e = (faulty x, h.1, ap (λ l. l >>= f) e ∙ bind-faulty x h.1 f)
+    go (ends a) e = ((k a).0, h.1 ++ (k a).1, ap (λ l. l >>= f) e ∙ bind_ends a h.1 f (k a).0 (k a).1 (k a).2)
+    go (faulty x) e = (faulty x, h.1, ap (λ l. l >>= f) e ∙ bind_faulty x h.1 f)
 
-cut-closed : Closed (λ A m l. Cut m) (λ p. Unit {0})
-cut-closed = record {
+cut_closed : Closed (λ A m l. Cut m) (λ p. Unit {0})
+cut_closed = record {
   returns = λ a. (ends a, [], refl);
   refuses = λ e. (faulty e, [], refl);
   begins = λ p h k. (k.0, p ∷ k.1, ap (begin p) k.2);
-  chains = cut-bind;
+  chains = cut_bind;
 }
 
-pub cut-run : (r : Rule) (c : Value) → Cut (run r c)
-cut-run r c = holds-of-eval cut-closed r [] c (λ q s e. tt)
+pub cut_run : (r : Rule) (c : Value) → Cut (run r c)
+cut_run r c = holds_of_eval cut_closed r [] c (λ q s e. tt)
 
 -- ---- what the limit does
 abbrev pub end_of : End Value → Outcome
 end_of (ends v) = value v
 end_of (faulty e) = refusal (fault e)
 
-log-outcome : (x : Name) (r : Ended Value) → outcome (log (x ∷ []) r) ≡ outcome r
-log-outcome x (got v n t) = refl
-log-outcome x (failed e t) = refl
+log_outcome : (x : Name) (r : Ended Value) → outcome (log (x ∷ []) r) ≡ outcome r
+log_outcome x (got v n t) = refl
+log_outcome x (failed e t) = refl
 
-log-steps : (x : Name) (r : Ended Value) → steps (log (x ∷ []) r) ≡ suc (steps r)
-log-steps x (got v n t) = refl
-log-steps x (failed e t) = refl
+log_steps : (x : Name) (r : Ended Value) → steps (log (x ∷ []) r) ≡ suc (steps r)
+log_steps x (got v n t) = refl
+log_steps x (failed e t) = refl
 
 -- Steps enough: the run comes to its end, with a step for each name.
 enough : (o : End Value) (t : List Name) (n : ℕ) → length t ≤ n → (outcome (cut o t n) ≡ end_of o) × (steps (cut o t n) ≡ length t)
@@ -98,58 +98,58 @@ enough (faulty e) [] n h = (refl, refl)
 enough o (x ∷ t) zero h = absurd (not-suc-le-zero h)
 enough o (x ∷ t) (suc n) h =
     let e = enough o t n (le_of_suc-le-suc h) in
-    (log-outcome x (cut o t n) ∙ e.0, log-steps x (cut o t n) ∙ ap suc e.1)
+    (log_outcome x (cut o t n) ∙ e.0, log_steps x (cut o t n) ∙ ap suc e.1)
 
 -- Too few: refusal 10, with a step for each that there was.
-short : (o : End Value) (t : List Name) (n : ℕ) → n < length t → (outcome (cut o t n) ≡ refusal outOfSteps) × (steps (cut o t n) ≡ n)
+short : (o : End Value) (t : List Name) (n : ℕ) → n < length t → (outcome (cut o t n) ≡ refusal out_of_steps) × (steps (cut o t n) ≡ n)
 short o [] n h = absurd (not-suc-le-zero h)
 short o (x ∷ t) zero h = (refl, refl)
 short o (x ∷ t) (suc n) h =
     let e = short o t n (le_of_suc-le-suc h) in
-    (log-outcome x (cut o t n) ∙ e.0, log-steps x (cut o t n) ∙ ap suc e.1)
+    (log_outcome x (cut o t n) ∙ e.0, log_steps x (cut o t n) ∙ ap suc e.1)
 
 -- The steps taken, and left where there is a value, against the steps there were.
 abbrev Counts : ℕ → Ended Value → Type 0
 Counts n (got v k t) = k + length t ≡ n
 Counts n (failed (fault e) t) = length t ≤ n
-Counts n (failed outOfSteps t) = length t ≡ n
+Counts n (failed out_of_steps t) = length t ≡ n
 
-log-counts : (n : ℕ) (x : Name) (r : Ended Value) → Counts n r → Counts (suc n) (log (x ∷ []) r)
-log-counts n x (got v k t) h = omega arith
-log-counts n x (failed (fault e) t) h = omega arith
-log-counts n x (failed outOfSteps t) h = ap suc h
+log_counts : (n : ℕ) (x : Name) (r : Ended Value) → Counts n r → Counts (suc n) (log (x ∷ []) r)
+log_counts n x (got v k t) h = omega arith
+log_counts n x (failed (fault e) t) h = omega arith
+log_counts n x (failed out_of_steps t) h = ap suc h
 
 counts : (o : End Value) (t : List Name) (n : ℕ) → Counts n (cut o t n)
 counts (ends v) [] n = add-zero n
 counts (faulty e) [] n = omega arith
 counts o (x ∷ t) zero = refl
-counts o (x ∷ t) (suc n) = log-counts n x (cut o t n) (counts o t n)
+counts o (x ∷ t) (suc n) = log_counts n x (cut o t n) (counts o t n)
 
 -- ---- the laws, of the run of a rule on a record
 module _ (r : Rule) (c : Value) where
   -- Its end, and the names of its steps, where no limit stops it.
   whole : End Value
-  whole = (cut-run r c).0
+  whole = (cut_run r c).0
 
   names : List Name
-  names = (cut-run r c).1
+  names = (cut_run r c).1
 
   run_is : (n : ℕ) → run r c n ≡ cut whole names n
   unfolding whole names
-  run_is n = ap (λ m. m n) (cut-run r c).2
+  run_is n = ap (λ m. m n) (cut_run r c).2
 
-  run-enough : (n : ℕ) → length names ≤ n → (outcome (run r c n) ≡ end_of whole) × (steps (run r c n) ≡ length names)
-  run-enough n h = rw (run_is n) (enough whole names n h)
+  run_enough : (n : ℕ) → length names ≤ n → (outcome (run r c n) ≡ end_of whole) × (steps (run r c n) ≡ length names)
+  run_enough n h = rw (run_is n) (enough whole names n h)
 
-  run_short : (n : ℕ) → n < length names → (outcome (run r c n) ≡ refusal outOfSteps) × (steps (run r c n) ≡ n)
+  run_short : (n : ℕ) → n < length names → (outcome (run r c n) ≡ refusal out_of_steps) × (steps (run r c n) ≡ n)
   run_short n h = rw (run_is n) (short whole names n h)
 
-  run-counts : (n : ℕ) → Counts n (run r c n)
-  run-counts n = rw (run_is n) (counts whole names n)
+  run_counts : (n : ℕ) → Counts n (run r c n)
+  run_counts n = rw (run_is n) (counts whole names n)
 
   -- A run that does not end in 10 had steps enough.
-  had-enough : (n : ℕ) → ¬ (outcome (run r c n) ≡ refusal outOfSteps) → length names ≤ n
-  had-enough n no-ten = go (dec_le (length names) n)
+  had_enough : (n : ℕ) → ¬ (outcome (run r c n) ≡ refusal out_of_steps) → length names ≤ n
+  had_enough n no-ten = go (dec_le (length names) n)
     where
       go : Dec (length names ≤ n) → length names ≤ n
       go (yes h) = h
@@ -157,33 +157,33 @@ module _ (r : Rule) (c : Value) where
 
   -- 02, P14: "if a run with a permitted limit ends with s steps in anything but 10, then, all else equal, every permitted limit of s or more gives
   -- the same value or refusal and s,
-  pub same_end : (n m : ℕ) → ¬ (outcome (run r c n) ≡ refusal outOfSteps) → steps (run r c n) ≤ m → (outcome (run r c m) ≡ outcome (run r c n)) × (steps (run r c m) ≡ steps (run r c n))
+  pub same_end : (n m : ℕ) → ¬ (outcome (run r c n) ≡ refusal out_of_steps) → steps (run r c n) ≤ m → (outcome (run r c m) ≡ outcome (run r c n)) × (steps (run r c m) ≡ steps (run r c n))
   same_end n m no-ten h =
-      let e = run-enough n (had-enough n no-ten) in
-      let f = run-enough m (rw e.1 at h) in
+      let e = run_enough n (had_enough n no-ten) in
+      let f = run_enough m (rw e.1 at h) in
       (f.0 ∙ sym e.0, f.1 ∙ sym e.1)
 
   -- and every limit below s gives 10."
-  pub same-end-below : (n m : ℕ) → ¬ (outcome (run r c n) ≡ refusal outOfSteps) → m < steps (run r c n) → (outcome (run r c m) ≡ refusal outOfSteps) × (steps (run r c m) ≡ m)
-  same-end-below n m no-ten h = run_short m (rw (run-enough n (had-enough n no-ten)).1 at h)
+  pub same_end_below : (n m : ℕ) → ¬ (outcome (run r c n) ≡ refusal out_of_steps) → m < steps (run r c n) → (outcome (run r c m) ≡ refusal out_of_steps) × (steps (run r c m) ≡ m)
+  same_end_below n m no-ten h = run_short m (rw (run_enough n (had_enough n no-ten)).1 at h)
 
   -- 01: "Refusal 10 reports the limit"
-  pub out-of-steps-reports-limit : (n : ℕ) → outcome (run r c n) ≡ refusal outOfSteps → steps (run r c n) ≡ n
-  out-of-steps-reports-limit n = go (run r c n) (run-counts n)
+  pub out_of_steps_reports_limit : (n : ℕ) → outcome (run r c n) ≡ refusal out_of_steps → steps (run r c n) ≡ n
+  out_of_steps_reports_limit n = go (run r c n) (run_counts n)
     where
-      go : (e : Ended Value) → Counts n e → outcome e ≡ refusal outOfSteps → steps e ≡ n
+      go : (e : Ended Value) → Counts n e → outcome e ≡ refusal out_of_steps → steps e ≡ n
       go (got v k t) h e = cc
       go (failed (fault f) t) h e = cc
-      go (failed outOfSteps t) h e = h
+      go (failed out_of_steps t) h e = h
 
-  pub steps-within-limit : (n : ℕ) → steps (run r c n) ≤ n
-  steps-within-limit n = go (run r c n) (run-counts n)
+  pub steps_within_limit : (n : ℕ) → steps (run r c n) ≤ n
+  steps_within_limit n = go (run r c n) (run_counts n)
     where
       go : (e : Ended Value) → Counts n e → steps e ≤ n
       go (got v k t) h = omega arith
       go (failed (fault f) t) h = h
-      go (failed outOfSteps t) h = omega arith
+      go (failed out_of_steps t) h = omega arith
 
   -- Of a run that gives a value with k steps left.
-  pub steps-and-left : (n k : ℕ) (v : Value) (t : List Name) → run r c n ≡ got v k t → k + steps (run r c n) ≡ n
-  steps-and-left n k v t e = rw e (subst (Counts n) e (run-counts n))
+  pub steps_and_left : (n k : ℕ) (v : Value) (t : List Name) → run r c n ≡ got v k t → k + steps (run r c n) ≡ n
+  steps_and_left n k v t e = rw e (subst (Counts n) e (run_counts n))

@@ -5,8 +5,8 @@ use Rattle.std.proofs.Math.Bool.{or-false}
 use Rattle.std.specs.Bool.{beq}
 use Rattle.std.proofs.lemmas.Bool.{false≢true}
 use Rattle.std.proofs.Math.Dec.{eqb_refl}
-use Rattle.model.specs.Bytes.{Bytes, sameBytes}
-use Rattle.model.specs.Value.{Scalar, null, boolean, integer, string, sameInteger, sameScalar}
+use Rattle.model.specs.Bytes.{Bytes, same_bytes}
+use Rattle.model.specs.Value.{Scalar, null, boolean, integer, string, same_integer, same_scalar}
 
 pub and_l : (a b : Bool) → T (a && b) → T a
 and_l true b h = tt
@@ -24,9 +24,9 @@ pub and_i : (a b : Bool) → T a → T b → T (a && b)
 and_i true b x y = y
 and_i false b x y = x
 
-pub or-e : {X : Type 0} (a b : Bool) → (T a → X) → (T b → X) → T (a || b) → X
-or-e true b f g h = f tt
-or-e false b f g h = g h
+pub or_e : {X : Type 0} (a b : Bool) → (T a → X) → (T b → X) → T (a || b) → X
+or_e true b f g h = f tt
+or_e false b f g h = g h
 
 pub or_l : (a b : Bool) → T a → T (a || b)
 or_l true b h = tt
@@ -36,37 +36,37 @@ pub or_r : (a b : Bool) → T b → T (a || b)
 or_r true b h = tt
 or_r false b h = h
 
-pub or-f : (a : Bool) → T (a || false) → T a
-or-f true h = tt
-or-f false h = h
+pub or_f : (a : Bool) → T (a || false) → T a
+or_f true h = tt
+or_f false h = h
 
-pub or-false-l : (a b : Bool) → a || b ≡ false → a ≡ false
-or-false-l true b e = e
-or-false-l false b e = refl
+pub or_false_l : (a b : Bool) → a || b ≡ false → a ≡ false
+or_false_l true b e = e
+or_false_l false b e = refl
 
-pub or-false-r : (a b : Bool) → a || b ≡ false → b ≡ false
-or-false-r true b e = cc
-or-false-r false b e = e
+pub or_false_r : (a b : Bool) → a || b ≡ false → b ≡ false
+or_false_r true b e = cc
+or_false_r false b e = e
 
 pub T→true : (b : Bool) → T b → b ≡ true
 T→true true h = refl
 T→true false h = absurd h
 
-pub true→T : (b : Bool) → b ≡ true → T b
-true→T true e = tt
-true→T false e = absurd (false≢true e)
+pub true→t : (b : Bool) → b ≡ true → T b
+true→t true e = tt
+true→t false e = absurd (false≢true e)
 
 -- ---- tests that are equal
-pub and-left-comm : (a b c : Bool) → a && (b && c) ≡ b && (a && c)
-and-left-comm true b c = refl
-and-left-comm false true c = refl
-and-left-comm false false c = refl
+pub and_left_comm : (a b c : Bool) → a && (b && c) ≡ b && (a && c)
+and_left_comm true b c = refl
+and_left_comm false true c = refl
+and_left_comm false false c = refl
 
-pub or-mix : (a b c d : Bool) → (a || b) || (c || d) ≡ (a || c) || (b || d)
-or-mix true b c d = refl
-or-mix false true true d = refl
-or-mix false true false d = refl
-or-mix false false c d = refl
+pub or_mix : (a b c d : Bool) → (a || b) || (c || d) ≡ (a || c) || (b || d)
+or_mix true b c d = refl
+or_mix false true true d = refl
+or_mix false true false d = refl
+or_mix false false c d = refl
 
 -- Of two tests of which one rules the other out, one after the other.
 pub or_else : (a b c : Bool) → (T b → a ≡ false) → a || (b && c) ≡ cond b c a
@@ -79,25 +79,25 @@ same_test true b f g = sym (T→true b (f tt))
 same_test false b f g = sym (g refl)
 
 -- ---- equality: the tests hold exactly of equal things
-pub bytes→≡ : (s t : Bytes) → T (sameBytes s t) → s ≡ t
+pub bytes→≡ : (s t : Bytes) → T (same_bytes s t) → s ≡ t
 bytes→≡ [] [] h = refl
 bytes→≡ [] (y ∷ t) h = absurd h
 bytes→≡ (x ∷ s) [] h = absurd h
 bytes→≡ (x ∷ s) (y ∷ t) h = ap₂ ◌∷◌ (eqb→eq x y (and_l (eqb x y) _ h)) (bytes→≡ s t (and_r (eqb x y) _ h))
 
-pub bytes-refl : (s : Bytes) → T (sameBytes s s)
-bytes-refl [] = tt
-bytes-refl (x ∷ s) = and_i (eqb x x) _ (eqb_refl x) (bytes-refl s)
+pub bytes_refl : (s : Bytes) → T (same_bytes s s)
+bytes_refl [] = tt
+bytes_refl (x ∷ s) = and_i (eqb x x) _ (eqb_refl x) (bytes_refl s)
 
-integer→≡ : (y z : ℤ) → T (sameInteger y z) → y ≡ z
+integer→≡ : (y z : ℤ) → T (same_integer y z) → y ≡ z
 integer→≡ (pos m) (pos n) h = ap pos (eqb→eq m n h)
 integer→≡ (pos m) (negsuc n) h = absurd h
 integer→≡ (negsuc m) (pos n) h = absurd h
 integer→≡ (negsuc m) (negsuc n) h = ap negsuc (eqb→eq m n h)
 
-integer-refl : (z : ℤ) → T (sameInteger z z)
-integer-refl (pos m) = eqb_refl m
-integer-refl (negsuc m) = eqb_refl m
+integer_refl : (z : ℤ) → T (same_integer z z)
+integer_refl (pos m) = eqb_refl m
+integer_refl (negsuc m) = eqb_refl m
 
 beq→≡ : (a b : Bool) → T (beq a b) → a ≡ b
 beq→≡ true true h = refl
@@ -105,12 +105,12 @@ beq→≡ true false h = absurd h
 beq→≡ false true h = absurd h
 beq→≡ false false h = refl
 
-beq-refl : (a : Bool) → T (beq a a)
-beq-refl true = tt
-beq-refl false = tt
+beq_refl : (a : Bool) → T (beq a a)
+beq_refl true = tt
+beq_refl false = tt
 
 -- 01, `===`: "true when kind and content are equal"
-pub scalar→≡ : (x y : Scalar) → T (sameScalar x y) → x ≡ y
+pub scalar→≡ : (x y : Scalar) → T (same_scalar x y) → x ≡ y
 scalar→≡ null null h = refl
 scalar→≡ null (boolean b) h = absurd h
 scalar→≡ null (integer z) h = absurd h
@@ -128,11 +128,11 @@ scalar→≡ (string r) (boolean b) h = absurd h
 scalar→≡ (string r) (integer z) h = absurd h
 scalar→≡ (string r) (string s) h = ap string (bytes→≡ r s h)
 
-pub scalar-refl : (x : Scalar) → T (sameScalar x x)
-scalar-refl null = tt
-scalar-refl (boolean a) = beq-refl a
-scalar-refl (integer z) = integer-refl z
-scalar-refl (string s) = bytes-refl s
+pub scalar_refl : (x : Scalar) → T (same_scalar x x)
+scalar_refl null = tt
+scalar_refl (boolean a) = beq_refl a
+scalar_refl (integer z) = integer_refl z
+scalar_refl (string s) = bytes_refl s
 
 -- Two different constructors are not equal: `clash cc`, where `cc` finds 0 ≡ 1 from an equation between them.
 pub clash : {X : Type 0} → ◌≡◌ {A = ℕ} 0 1 → X

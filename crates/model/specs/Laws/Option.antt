@@ -4,39 +4,39 @@ use Rattle.std.proofs.Common.{subst}
 use Rattle.std.proofs.Math.Option.{Option, none, some, none-ne-some}
 use Rattle.model.specs.Option.{◌>>=◌, when}
 
-pub none-some : {A X : Type 0} {a : A} → none ≡ some a → X
-none-some {a} e = absurd (none-ne-some a e)
+pub none_some : {A X : Type 0} {a : A} → none ≡ some a → X
+none_some {a} e = absurd (none-ne-some a e)
 
 -- What follows from the values of the two links follows from that of the chain.
-pub bind-some : {A B X : Type 0} (o : Option A) (f : A → Option B) {b : B} → o >>= f ≡ some b → ((a : A) → o ≡ some a → f a ≡ some b → X) → X
-bind-some none f e k = none-some e
-bind-some (some a) f e k = k a refl e
+pub bind_some : {A B X : Type 0} (o : Option A) (f : A → Option B) {b : B} → o >>= f ≡ some b → ((a : A) → o ≡ some a → f a ≡ some b → X) → X
+bind_some none f e k = none_some e
+bind_some (some a) f e k = k a refl e
 
-pub when-some : {A : Type 0} (b : Bool) (o : Option A) {a : A} → when b o ≡ some a → (b ≡ true) × (o ≡ some a)
-when-some true o e = (refl, e)
-when-some false o e = none-some e
+pub when_some : {A : Type 0} (b : Bool) (o : Option A) {a : A} → when b o ≡ some a → (b ≡ true) × (o ≡ some a)
+when_some true o e = (refl, e)
+when_some false o e = none_some e
 
 -- ---- P holds of the value there is, if any
 abbrev pub All : {A : Type 0} → (A → Type 0) → Option A → Type 0
 All P none = Unit {0}
 All P (some a) = P a
 
-pub all-some : {A : Type 0} (P : A → Type 0) {o : Option A} {a : A} → All P o → o ≡ some a → P a
-all-some P h e = subst (All P) e h
+pub all_some : {A : Type 0} (P : A → Type 0) {o : Option A} {a : A} → All P o → o ≡ some a → P a
+all_some P h e = subst (All P) e h
 
-pub all-bind : {A B : Type 0} (P : A → Type 0) (Q : B → Type 0) (o : Option A) (f : A → Option B) → All P o → ((a : A) → P a → All Q (f a)) → All Q (o >>= f)
-all-bind P Q none f h k = tt
-all-bind P Q (some a) f h k = k a h
+pub all_bind : {A B : Type 0} (P : A → Type 0) (Q : B → Type 0) (o : Option A) (f : A → Option B) → All P o → ((a : A) → P a → All Q (f a)) → All Q (o >>= f)
+all_bind P Q none f h k = tt
+all_bind P Q (some a) f h k = k a h
 
 -- Whatever the value of the first link.
 pub all_then : {A B : Type 0} (Q : B → Type 0) (o : Option A) (f : A → Option B) → ((a : A) → All Q (f a)) → All Q (o >>= f)
 all_then Q none f h = tt
 all_then Q (some a) f h = h a
 
-pub all-when : {A : Type 0} (P : A → Type 0) (b : Bool) (o : Option A) → All P o → All P (when b o)
-all-when P true o h = h
-all-when P false o h = tt
+pub all_when : {A : Type 0} (P : A → Type 0) (b : Bool) (o : Option A) → All P o → All P (when b o)
+all_when P true o h = h
+all_when P false o h = tt
 
-pub all-cond : {A : Type 0} (P : A → Type 0) (b : Bool) (o p : Option A) → All P o → All P p → All P (cond b o p)
-all-cond P true o p h k = h
-all-cond P false o p h k = k
+pub all_cond : {A : Type 0} (P : A → Type 0) (b : Bool) (o p : Option A) → All P o → All P p → All P (cond b o p)
+all_cond P true o p h k = h
+all_cond P false o p h k = k

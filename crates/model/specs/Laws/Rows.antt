@@ -3,19 +3,19 @@ use Rattle.std.specs.Prelude.{◌≡◌, refl, List, [], ◌∷◌, ℕ, pos}
 use Rattle.std.proofs.Math.Option.{Option, some}
 use Prim.Native.String.{String}
 use Rattle.model.specs.Bytes.{ascii}
-use Rattle.model.specs.Calendar.{months, sumFirst, yearStart, dateOfDay}
-use Rattle.model.specs.DateText.{startsLike, dayText, dateText}
+use Rattle.model.specs.Calendar.{months, sum_first, year_start, date_of_day}
+use Rattle.model.specs.DateText.{starts_like, day_text, date_text}
 use Rattle.model.specs.Eval.{body}
-use Rattle.model.specs.InstantText.{instantText}
+use Rattle.model.specs.InstantText.{instant_text}
 use Rattle.model.specs.Judgement.{Answer, done, refuses, answer_of}
-use Rattle.model.specs.Limits.{maxInteger, maxSteps, maxTextBytes, maxValues, maxNesting}
+use Rattle.model.specs.Limits.{max_integer, max_steps, max_text_bytes, max_values, max_nesting}
 use Rattle.model.specs.Option.{◌>>=◌}
-use Rattle.model.specs.Refusal.{Refusal, evaluating, fault, wrongKind, outOfRange, outOfSteps}
+use Rattle.model.specs.Refusal.{Refusal, evaluating, fault, wrong_kind, out_of_range, out_of_steps}
 use Rattle.model.specs.Shape.{shape}
 use Rattle.model.specs.Shift.{shift}
-use Rattle.model.specs.Size.{valueCount, nesting}
-use Rattle.model.specs.Value.{Value, scalar, array, object, integer, string, Values, no_items, item, no-members, member}
-use Rattle.model.specs.Writing.{decimal, valueText}
+use Rattle.model.specs.Size.{value_count, nesting}
+use Rattle.model.specs.Value.{Value, scalar, array, object, integer, string, Values, no_items, item, no_members, member}
+use Rattle.model.specs.Writing.{decimal, value_text}
 
 -- ---- texts as values
 abbrev items : List Value → Values
@@ -27,91 +27,91 @@ abbrev pub arr : List Value → Value
 arr l = array (items l)
 
 abbrev pub op : String → List Value → Value
-op name l = object (member (ascii name) (arr l) no-members)
+op name l = object (member (ascii name) (arr l) no_members)
 
 abbrev pub str : String → Value
 str s = scalar (string (ascii s))
 
 abbrev pub var : String → Value
-var s = object (member (ascii "var") (str s) no-members)
+var s = object (member (ascii "var") (str s) no_members)
 
 abbrev pub int : ℕ → Value
 int n = scalar (integer (pos n))
 
 -- "record `{"a":1}`"
-abbrev pub row-record : Value
-row-record = object (member (ascii "a") (int 1) no-members)
+abbrev pub row_record : Value
+row_record = object (member (ascii "a") (int 1) no_members)
 
 -- ---- answers of a value that is a rule: a text, or a refusal, and the steps
 abbrev pub judged : Value → ℕ → Option Answer
 judged rule limit = do
   r ← shape rule
-  some (answer_of r row-record limit maxTextBytes)
+  some (answer_of r row_record limit max_text_bytes)
 
 abbrev pub gives : String → ℕ → Option Answer
-gives s n = some (record { result = done (ascii s); stepsBegun = n })
+gives s n = some (record { result = done (ascii s); steps_begun = n })
 
 abbrev pub denies : Refusal → ℕ → Option Answer
-denies e n = some (record { result = refuses e; stepsBegun = n })
+denies e n = some (record { result = refuses e; steps_begun = n })
 
 -- {"===":[{"var":"a"},1]}
-pub row-equal : judged (op "===" (var "a" ∷ int 1 ∷ [])) maxSteps ≡ gives "true" 3
-unfolding shape body valueText valueCount nesting maxSteps maxTextBytes maxValues maxNesting
-row-equal = refl
+pub row_equal : judged (op "===" (var "a" ∷ int 1 ∷ [])) max_steps ≡ gives "true" 3
+unfolding shape body value_text value_count nesting max_steps max_text_bytes max_values max_nesting
+row_equal = refl
 
 -- {"and":[0,{"+":["a",1]}]}
-pub row-and : judged (op "and" (int 0 ∷ op "+" (str "a" ∷ int 1 ∷ []) ∷ [])) maxSteps ≡ gives "0" 2
-unfolding shape body valueText valueCount nesting decimal maxSteps maxTextBytes maxValues maxNesting
-row-and = refl
+pub row_and : judged (op "and" (int 0 ∷ op "+" (str "a" ∷ int 1 ∷ []) ∷ [])) max_steps ≡ gives "0" 2
+unfolding shape body value_text value_count nesting decimal max_steps max_text_bytes max_values max_nesting
+row_and = refl
 
 -- {"!":[[]]}
-pub row-not : judged (op "!" (arr [] ∷ [])) maxSteps ≡ gives "true" 2
-unfolding shape body valueText valueCount nesting maxSteps maxTextBytes maxValues maxNesting
-row-not = refl
+pub row_not : judged (op "!" (arr [] ∷ [])) max_steps ≡ gives "true" 2
+unfolding shape body value_text value_count nesting max_steps max_text_bytes max_values max_nesting
+row_not = refl
 
 -- {">":[3,2,"x"]}
-pub row-greater : judged (op ">" (int 3 ∷ int 2 ∷ str "x" ∷ [])) maxSteps ≡ denies (evaluating (fault wrongKind)) 4
-unfolding shape body maxSteps
-row-greater = refl
+pub row_greater : judged (op ">" (int 3 ∷ int 2 ∷ str "x" ∷ [])) max_steps ≡ denies (evaluating (fault wrong_kind)) 4
+unfolding shape body max_steps
+row_greater = refl
 
 -- "Ending a three-operand comparison before the third kind is tested" is a slip: here the first pair fails already. {">":[1,2,"x"]}
-pub third-kind-tested : judged (op ">" (int 1 ∷ int 2 ∷ str "x" ∷ [])) maxSteps ≡ denies (evaluating (fault wrongKind)) 4
-unfolding shape body maxSteps
-third-kind-tested = refl
+pub third_kind_tested : judged (op ">" (int 1 ∷ int 2 ∷ str "x" ∷ [])) max_steps ≡ denies (evaluating (fault wrong_kind)) 4
+unfolding shape body max_steps
+third_kind_tested = refl
 
 -- {"+":[9007199254740991,1]}
-pub row-plus : judged (op "+" (int 9007199254740991 ∷ int 1 ∷ [])) maxSteps ≡ denies (evaluating (fault outOfRange)) 3
-unfolding shape body maxSteps maxInteger
-row-plus = refl
+pub row_plus : judged (op "+" (int 9007199254740991 ∷ int 1 ∷ [])) max_steps ≡ denies (evaluating (fault out_of_range)) 3
+unfolding shape body max_steps max_integer
+row_plus = refl
 
 -- {"reduce":[[1,2,3],{"+":[{"var":"current"},{"var":"accumulator"}]},0]}
-abbrev pub reduce-rule : Value
-reduce-rule = op "reduce" (arr (int 1 ∷ int 2 ∷ int 3 ∷ []) ∷ op "+" (var "current" ∷ var "accumulator" ∷ []) ∷ int 0 ∷ [])
+abbrev pub reduce_rule : Value
+reduce_rule = op "reduce" (arr (int 1 ∷ int 2 ∷ int 3 ∷ []) ∷ op "+" (var "current" ∷ var "accumulator" ∷ []) ∷ int 0 ∷ [])
 
-pub row-reduce : judged reduce-rule maxSteps ≡ gives "6" 15
-unfolding shape body valueText valueCount nesting decimal maxSteps maxTextBytes maxValues maxNesting maxInteger
-row-reduce = refl
+pub row_reduce : judged reduce_rule max_steps ≡ gives "6" 15
+unfolding shape body value_text value_count nesting decimal max_steps max_text_bytes max_values max_nesting max_integer
+row_reduce = refl
 
 -- "With limit 15 the reduce row still gives 6; with 14 it gives 10 and reports 14."
-pub row-reduce-15 : judged reduce-rule 15 ≡ gives "6" 15
-unfolding shape body valueText valueCount nesting decimal maxTextBytes maxValues maxNesting maxInteger
-row-reduce-15 = refl
+pub row_reduce_15 : judged reduce_rule 15 ≡ gives "6" 15
+unfolding shape body value_text value_count nesting decimal max_text_bytes max_values max_nesting max_integer
+row_reduce_15 = refl
 
-pub row-reduce-14 : judged reduce-rule 14 ≡ denies (evaluating outOfSteps) 14
-unfolding shape body maxInteger
-row-reduce-14 = refl
+pub row_reduce_14 : judged reduce_rule 14 ≡ denies (evaluating out_of_steps) 14
+unfolding shape body max_integer
+row_reduce_14 = refl
 
--- {"plusTime":["2020-01-31",1,"month"]}
-pub row-month : judged (op "plusTime" (str "2020-01-31" ∷ int 1 ∷ str "month" ∷ [])) maxSteps ≡ gives "\"2020-03-02T00:00:00.000Z\"" 2
-unfolding shape body dateText dayText startsLike shift dateOfDay yearStart months sumFirst instantText valueText valueCount nesting maxSteps maxTextBytes maxValues maxNesting
-row-month = refl
+-- {"plus_time":["2020-01-31",1,"month"]}
+pub row_month : judged (op "plus_time" (str "2020-01-31" ∷ int 1 ∷ str "month" ∷ [])) max_steps ≡ gives "\"2020-03-02T00:00:00.000Z\"" 2
+unfolding shape body date_text day_text starts_like shift date_of_day year_start months sum_first instant_text value_text value_count nesting max_steps max_text_bytes max_values max_nesting
+row_month = refl
 
--- {"plusTime":["2020-02-29",1,"year"]}
-pub row-year : judged (op "plusTime" (str "2020-02-29" ∷ int 1 ∷ str "year" ∷ [])) maxSteps ≡ gives "\"2021-03-01T00:00:00.000Z\"" 2
-unfolding shape body dateText dayText startsLike shift dateOfDay yearStart months sumFirst instantText valueText valueCount nesting maxSteps maxTextBytes maxValues maxNesting
-row-year = refl
+-- {"plus_time":["2020-02-29",1,"year"]}
+pub row_year : judged (op "plus_time" (str "2020-02-29" ∷ int 1 ∷ str "year" ∷ [])) max_steps ≡ gives "\"2021-03-01T00:00:00.000Z\"" 2
+unfolding shape body date_text day_text starts_like shift date_of_day year_start months sum_first instant_text value_text value_count nesting max_steps max_text_bytes max_values max_nesting
+row_year = refl
 
--- {"extractFromUVCI":["URN:UVCI",0]}
-pub row-uvci : judged (op "extractFromUVCI" (str "URN:UVCI" ∷ int 0 ∷ [])) maxSteps ≡ gives "null" 2
-unfolding shape body valueText valueCount nesting maxSteps maxTextBytes maxValues maxNesting
-row-uvci = refl
+-- {"extract_from_uvci":["URN:UVCI",0]}
+pub row_uvci : judged (op "extract_from_uvci" (str "URN:UVCI" ∷ int 0 ∷ [])) max_steps ≡ gives "null" 2
+unfolding shape body value_text value_count nesting max_steps max_text_bytes max_values max_nesting
+row_uvci = refl

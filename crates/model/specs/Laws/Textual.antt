@@ -3,101 +3,101 @@ use Rattle.std.specs.Prelude.{◌≡◌, refl, ◌++◌, suc, ◌+◌, max, T}
 use Rattle.std.proofs.Common.{ap, ap₂}
 use Rattle.model.specs.Bytes.{Bytes, ascii}
 use Rattle.model.specs.Laws.Logic.{and_l, and_r, and_i}
-use Rattle.model.specs.Size.{valueCount, itemsCount, membersCount, nesting, itemsNesting, membersNesting, isTooLarge}
-use Rattle.model.specs.Textual.{textual, textualItems, textualMembers}
-use Rattle.model.specs.Value.{Value, scalar, instant, array, object, Values, no_items, item, Members, no-members, member, instantFree, instantFreeItems, instantFreeMembers}
-use Rattle.model.specs.Writing.{stringText, valueText, itemsText, membersText}
+use Rattle.model.specs.Size.{value_count, items_count, members_count, nesting, items_nesting, members_nesting, is_too_large}
+use Rattle.model.specs.Textual.{textual, textual_items, textual_members}
+use Rattle.model.specs.Value.{Value, scalar, instant, array, object, Values, no_items, item, Members, no_members, member, instant_free, instant_free_items, instant_free_members}
+use Rattle.model.specs.Writing.{string_text, value_text, items_text, members_text}
 
 -- ---- the text
 mutual
-  unfolding textual valueText
+  unfolding textual value_text
 
-  pub textual-text : (v : Value) → valueText (textual v) ≡ valueText v
-  textual-text (scalar x) = refl
-  textual-text (instant t) = refl
-  textual-text (array vs) = ap (λ s. ascii "[" ++ (s ++ ascii "]")) (textual-items-text vs (ascii ""))
-  textual-text (object ms) = ap (λ s. ascii "{" ++ (s ++ ascii "}")) (textual-members-text ms (ascii ""))
+  pub textual_text : (v : Value) → value_text (textual v) ≡ value_text v
+  textual_text (scalar x) = refl
+  textual_text (instant t) = refl
+  textual_text (array vs) = ap (λ s. ascii "[" ++ (s ++ ascii "]")) (textual_items_text vs (ascii ""))
+  textual_text (object ms) = ap (λ s. ascii "{" ++ (s ++ ascii "}")) (textual_members_text ms (ascii ""))
 
-  textual-items-text : (vs : Values) (before : Bytes) → itemsText (textualItems vs) before ≡ itemsText vs before
-  textual-items-text no_items before = refl
-  textual-items-text (item v vs) before = ap₂ (λ s t. before ++ (s ++ t)) (textual-text v) (textual-items-text vs (ascii ","))
+  textual_items_text : (vs : Values) (before : Bytes) → items_text (textual_items vs) before ≡ items_text vs before
+  textual_items_text no_items before = refl
+  textual_items_text (item v vs) before = ap₂ (λ s t. before ++ (s ++ t)) (textual_text v) (textual_items_text vs (ascii ","))
 
-  textual-members-text : (ms : Members) (before : Bytes) → membersText (textualMembers ms) before ≡ membersText ms before
-  textual-members-text no-members before = refl
-  textual-members-text (member name v ms) before =
-      ap₂ (λ s t. before ++ (stringText name ++ (ascii ":" ++ (s ++ t)))) (textual-text v) (textual-members-text ms (ascii ","))
+  textual_members_text : (ms : Members) (before : Bytes) → members_text (textual_members ms) before ≡ members_text ms before
+  textual_members_text no_members before = refl
+  textual_members_text (member name v ms) before =
+      ap₂ (λ s t. before ++ (string_text name ++ (ascii ":" ++ (s ++ t)))) (textual_text v) (textual_members_text ms (ascii ","))
 
 -- ---- the size
 mutual
-  unfolding textual valueCount
+  unfolding textual value_count
 
-  pub textual-count : (v : Value) → valueCount (textual v) ≡ valueCount v
-  textual-count (scalar x) = refl
-  textual-count (instant t) = refl
-  textual-count (array vs) = ap suc (textual-items-count vs)
-  textual-count (object ms) = ap suc (textual-members-count ms)
+  pub textual_count : (v : Value) → value_count (textual v) ≡ value_count v
+  textual_count (scalar x) = refl
+  textual_count (instant t) = refl
+  textual_count (array vs) = ap suc (textual_items_count vs)
+  textual_count (object ms) = ap suc (textual_members_count ms)
 
-  textual-items-count : (vs : Values) → itemsCount (textualItems vs) ≡ itemsCount vs
-  textual-items-count no_items = refl
-  textual-items-count (item v vs) = ap₂ ◌+◌ (textual-count v) (textual-items-count vs)
+  textual_items_count : (vs : Values) → items_count (textual_items vs) ≡ items_count vs
+  textual_items_count no_items = refl
+  textual_items_count (item v vs) = ap₂ ◌+◌ (textual_count v) (textual_items_count vs)
 
-  textual-members-count : (ms : Members) → membersCount (textualMembers ms) ≡ membersCount ms
-  textual-members-count no-members = refl
-  textual-members-count (member name v ms) = ap₂ ◌+◌ (textual-count v) (textual-members-count ms)
+  textual_members_count : (ms : Members) → members_count (textual_members ms) ≡ members_count ms
+  textual_members_count no_members = refl
+  textual_members_count (member name v ms) = ap₂ ◌+◌ (textual_count v) (textual_members_count ms)
 
 mutual
   unfolding textual nesting
 
-  pub textual-nesting : (v : Value) → nesting (textual v) ≡ nesting v
-  textual-nesting (scalar x) = refl
-  textual-nesting (instant t) = refl
-  textual-nesting (array vs) = ap suc (textual-items-nesting vs)
-  textual-nesting (object ms) = ap suc (textual-members-nesting ms)
+  pub textual_nesting : (v : Value) → nesting (textual v) ≡ nesting v
+  textual_nesting (scalar x) = refl
+  textual_nesting (instant t) = refl
+  textual_nesting (array vs) = ap suc (textual_items_nesting vs)
+  textual_nesting (object ms) = ap suc (textual_members_nesting ms)
 
-  textual-items-nesting : (vs : Values) → itemsNesting (textualItems vs) ≡ itemsNesting vs
-  textual-items-nesting no_items = refl
-  textual-items-nesting (item v vs) = ap₂ max (textual-nesting v) (textual-items-nesting vs)
+  textual_items_nesting : (vs : Values) → items_nesting (textual_items vs) ≡ items_nesting vs
+  textual_items_nesting no_items = refl
+  textual_items_nesting (item v vs) = ap₂ max (textual_nesting v) (textual_items_nesting vs)
 
-  textual-members-nesting : (ms : Members) → membersNesting (textualMembers ms) ≡ membersNesting ms
-  textual-members-nesting no-members = refl
-  textual-members-nesting (member name v ms) = ap₂ max (textual-nesting v) (textual-members-nesting ms)
+  textual_members_nesting : (ms : Members) → members_nesting (textual_members ms) ≡ members_nesting ms
+  textual_members_nesting no_members = refl
+  textual_members_nesting (member name v ms) = ap₂ max (textual_nesting v) (textual_members_nesting ms)
 
-pub textual-too-large : (v : Value) → isTooLarge (textual v) ≡ isTooLarge v
-textual-too-large v = rw (textual-nesting v, textual-count v, textual-text v)
+pub textual_too_large : (v : Value) → is_too_large (textual v) ≡ is_too_large v
+textual_too_large v = rw (textual_nesting v, textual_count v, textual_text v)
 
 -- ---- instants
 -- It has none,
 mutual
-  unfolding textual instantFree
+  unfolding textual instant_free
 
-  pub textual-free : (v : Value) → T (instantFree (textual v))
-  textual-free (scalar x) = tt
-  textual-free (instant t) = tt
-  textual-free (array vs) = textual-items-free vs
-  textual-free (object ms) = textual-members-free ms
+  pub textual_free : (v : Value) → T (instant_free (textual v))
+  textual_free (scalar x) = tt
+  textual_free (instant t) = tt
+  textual_free (array vs) = textual_items_free vs
+  textual_free (object ms) = textual_members_free ms
 
-  textual-items-free : (vs : Values) → T (instantFreeItems (textualItems vs))
-  textual-items-free no_items = tt
-  textual-items-free (item v vs) = and_i (instantFree (textual v)) _ (textual-free v) (textual-items-free vs)
+  textual_items_free : (vs : Values) → T (instant_free_items (textual_items vs))
+  textual_items_free no_items = tt
+  textual_items_free (item v vs) = and_i (instant_free (textual v)) _ (textual_free v) (textual_items_free vs)
 
-  textual-members-free : (ms : Members) → T (instantFreeMembers (textualMembers ms))
-  textual-members-free no-members = tt
-  textual-members-free (member name v ms) = and_i (instantFree (textual v)) _ (textual-free v) (textual-members-free ms)
+  textual_members_free : (ms : Members) → T (instant_free_members (textual_members ms))
+  textual_members_free no_members = tt
+  textual_members_free (member name v ms) = and_i (instant_free (textual v)) _ (textual_free v) (textual_members_free ms)
 
 -- and where there was none nothing changed.
 mutual
-  unfolding textual instantFree
+  unfolding textual instant_free
 
-  pub textual-same : (v : Value) → T (instantFree v) → textual v ≡ v
-  textual-same (scalar x) h = refl
-  textual-same (instant t) h = absurd h
-  textual-same (array vs) h = ap array (textual-items-same vs h)
-  textual-same (object ms) h = ap object (textual-members-same ms h)
+  pub textual_same : (v : Value) → T (instant_free v) → textual v ≡ v
+  textual_same (scalar x) h = refl
+  textual_same (instant t) h = absurd h
+  textual_same (array vs) h = ap array (textual_items_same vs h)
+  textual_same (object ms) h = ap object (textual_members_same ms h)
 
-  textual-items-same : (vs : Values) → T (instantFreeItems vs) → textualItems vs ≡ vs
-  textual-items-same no_items h = refl
-  textual-items-same (item v vs) h = ap₂ item (textual-same v (and_l (instantFree v) _ h)) (textual-items-same vs (and_r (instantFree v) _ h))
+  textual_items_same : (vs : Values) → T (instant_free_items vs) → textual_items vs ≡ vs
+  textual_items_same no_items h = refl
+  textual_items_same (item v vs) h = ap₂ item (textual_same v (and_l (instant_free v) _ h)) (textual_items_same vs (and_r (instant_free v) _ h))
 
-  textual-members-same : (ms : Members) → T (instantFreeMembers ms) → textualMembers ms ≡ ms
-  textual-members-same no-members h = refl
-  textual-members-same (member name v ms) h = ap₂ (member name) (textual-same v (and_l (instantFree v) _ h)) (textual-members-same ms (and_r (instantFree v) _ h))
+  textual_members_same : (ms : Members) → T (instant_free_members ms) → textual_members ms ≡ ms
+  textual_members_same no_members h = refl
+  textual_members_same (member name v ms) h = ap₂ (member name) (textual_same v (and_l (instant_free v) _ h)) (textual_members_same ms (and_r (instant_free v) _ h))

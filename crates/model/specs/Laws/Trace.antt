@@ -5,7 +5,7 @@ use mathlib.Core.List.Memᴰ
 use mathlib.Core.List.{List, [], ◌∷◌, ◌++◌, reverse, Memᴰ}
 use Rattle.std.proofs.Math.Option.{some}
 use Rattle.model.specs.Eval.{run, body}
-use Rattle.model.specs.Laws.Induction.{Closed, holds-of-eval}
+use Rattle.model.specs.Laws.Induction.{Closed, holds_of_eval}
 use Rattle.model.specs.Place.{subrule}
 use Rattle.model.specs.Rule.{Rule}
 use Rattle.model.specs.Run.{Name, Place, Ended, got, failed, Run, trace, log, begin, continue}
@@ -25,24 +25,24 @@ module _ (N : Name → Type 0) where
   all_append : {t u : List Name} → All N t → All N u → All N (t ++ u)
   all_append {t} h k x m = ⊎_elim (h x) (k x) (Memᴰ.append_cases t m)
 
-  all-log : {A : Type 0} {t : List Name} (r : Ended A) → All N t → All N (trace r) → All N (trace (log t r))
-  all-log (got a n u) h k = all_append h k
-  all-log (failed e u) h k = all_append h k
+  all_log : {A : Type 0} {t : List Name} (r : Ended A) → All N t → All N (trace r) → All N (trace (log t r))
+  all_log (got a n u) h k = all_append h k
+  all_log (failed e u) h k = all_append h k
 
-  all-begin : {A : Type 0} (p : Name) (m : Run A) → N p → ((n : ℕ) → All N (trace (m n))) → (n : ℕ) → All N (trace (begin p m n))
-  all-begin p m h k zero = all_nil
-  all-begin p m h k (suc n) = all-log (m n) (all_one p h) (k n)
+  all_begin : {A : Type 0} (p : Name) (m : Run A) → N p → ((n : ℕ) → All N (trace (m n))) → (n : ℕ) → All N (trace (begin p m n))
+  all_begin p m h k zero = all_nil
+  all_begin p m h k (suc n) = all_log (m n) (all_one p h) (k n)
 
-  all-continue : {A B : Type 0} (r : Ended A) (f : A → Run B) → All N (trace r) → ((a : A) (n : ℕ) → All N (trace (f a n))) → All N (trace (continue r f))
-  all-continue (got a n t) f h k = all-log (f a n) h (k a n)
-  all-continue (failed e t) f h k = h
+  all_continue : {A B : Type 0} (r : Ended A) (f : A → Run B) → All N (trace r) → ((a : A) (n : ℕ) → All N (trace (f a n))) → All N (trace (continue r f))
+  all_continue (got a n t) f h k = all_log (f a n) h (k a n)
+  all_continue (failed e t) f h k = h
 
   pub all_closed : Closed (λ A m l. (n : ℕ) → All N (trace (m n))) N
   all_closed = record {
     returns = λ a n. all_nil;
     refuses = λ e n. all_nil;
-    begins = λ p {m} {l} h k. all-begin p m h k;
-    chains = λ {A} {B} {m} {l} {f} h k n. all-continue (m n) f (h n) k;
+    begins = λ p {m} {l} h k. all_begin p m h k;
+    chains = λ {A} {B} {m} {l} {f} h k n. all_continue (m n) f (h n) k;
   }
 
 -- The name is the place of a rule in r.
@@ -50,18 +50,18 @@ abbrev pub Stands : Rule → Name → Type 0
 Stands r x = (q : Place) × (s : Rule) × (x ≡ reverse q) × (subrule q r ≡ some s)
 
 -- 01: "A rule is named by its place"
-pub names-are-places : (r : Rule) (c : Value) (n : ℕ) (x : Name) → Memᴰ x (trace (run r c n)) → Stands r x
-names-are-places r c = holds-of-eval (all_closed (Stands r)) r [] c (λ q s e. (q, s, refl, e))
+pub names_are_places : (r : Rule) (c : Value) (n : ℕ) (x : Name) → Memᴰ x (trace (run r c n)) → Stands r x
+names_are_places r c = holds_of_eval (all_closed (Stands r)) r [] c (λ q s e. (q, s, refl, e))
 
 -- Where there is a step to take, the first one begins the root.
-pub root-first : (r : Rule) (c : Value) (n : ℕ) → (t : List Name) × (trace (run r c (suc n)) ≡ [] ∷ t)
-root-first r c n = go (body r [] c n)
+pub root_first : (r : Rule) (c : Value) (n : ℕ) → (t : List Name) × (trace (run r c (suc n)) ≡ [] ∷ t)
+root_first r c n = go (body r [] c n)
   where
     go : (e : Ended Value) → (t : List Name) × (trace (log ([] ∷ []) e) ≡ [] ∷ t)
     go (got v k t) = (t, refl)
     go (failed e t) = (t, refl)
 
 -- So the first name, where there is one, is the root's.
-pub first-is-root : (r : Rule) (c : Value) (n : ℕ) (x : Name) (t : List Name) → trace (run r c n) ≡ x ∷ t → x ≡ []
-first-is-root r c zero x t e = cc
-first-is-root r c (suc n) x t e = cc ((root-first r c n).1, e)
+pub first_is_root : (r : Rule) (c : Value) (n : ℕ) (x : Name) (t : List Name) → trace (run r c n) ≡ x ∷ t → x ≡ []
+first_is_root r c zero x t e = cc
+first_is_root r c (suc n) x t e = cc ((root_first r c n).1, e)

@@ -2,53 +2,53 @@
 -- (02, P12) has these facts checked again, and no other proof names its digits.
 use Rattle.std.specs.Prelude.{ℕ, ◌+◌, ◌*◌, ◌≤◌, ◌<◌}
 use Rattle.std.proofs.Common.{arith}
-use Rattle.model.specs.Limits.{maxTextBytes, maxValues, maxNesting, maxSteps, heapCells}
+use Rattle.model.specs.Limits.{max_text_bytes, max_values, max_nesting, max_steps, heap_cells}
 
 -- ---- places and counts of a text have room in a row, and those of the heap in a cell: 24 bits for a size or a count
-pub text-below : maxTextBytes < 16777216
-unfolding maxTextBytes
-text-below = omega arith
+pub text_below : max_text_bytes < 16777216
+unfolding max_text_bytes
+text_below = omega arith
 
-pub values-below : maxValues < 16777216
-unfolding maxValues
-values-below = omega arith
+pub values_below : max_values < 16777216
+unfolding max_values
+values_below = omega arith
 
 -- A link of the index of names has 17 bits.
-pub values-linked : 2 * maxValues ≤ 131072
-unfolding maxValues
-values-linked = omega arith
+pub values_linked : 2 * max_values ≤ 131072
+unfolding max_values
+values_linked = omega arith
 
-pub cells-below : heapCells < 16777216
-unfolding heapCells
-cells-below = omega arith
+pub cells_below : heap_cells < 16777216
+unfolding heap_cells
+cells_below = omega arith
 
 -- Nesting has no field: it is counted in a machine's number.
-pub nesting-below : maxNesting < 16777216
-unfolding maxNesting
-nesting-below = omega arith
+pub nesting_below : max_nesting < 16777216
+unfolding max_nesting
+nesting_below = omega arith
 
-pub text-small : {n : ℕ} → n ≤ maxTextBytes → n < 16777216
-text-small h = omega (arith, text-below)
+pub text_small : {n : ℕ} → n ≤ max_text_bytes → n < 16777216
+text_small h = omega (arith, text_below)
 
-pub values-small : {n : ℕ} → n ≤ maxValues → n < 16777216
-values-small h = omega (arith, values-below)
+pub values_small : {n : ℕ} → n ≤ max_values → n < 16777216
+values_small h = omega (arith, values_below)
 
 -- ---- the limits beside each other
 -- Two cells for each step, and for one step more: that of the rule around the whole one.
-pub steps-have-cells : 2 * maxSteps + 2 ≤ heapCells
-unfolding maxSteps heapCells
-steps-have-cells = omega arith
+pub steps_have_cells : 2 * max_steps + 2 ≤ heap_cells
+unfolding max_steps heap_cells
+steps_have_cells = omega arith
 
--- An array of one value more than a text may have, each of one byte, is no over-long text.
-pub values-have-bytes : 2 * maxValues < maxTextBytes
-unfolding maxValues maxTextBytes
-values-have-bytes = omega arith
+-- An array of one value more than a text may have, each of one byte, is no over_long text.
+pub values_have_bytes : 2 * max_values < max_text_bytes
+unfolding max_values max_text_bytes
+values_have_bytes = omega arith
 
 -- An array of one item is within the limits.
-pub two-values : 2 ≤ maxValues
-unfolding maxValues
-two-values = omega arith
+pub two_values : 2 ≤ max_values
+unfolding max_values
+two_values = omega arith
 
-pub one-deep : 1 ≤ maxNesting
-unfolding maxNesting
-one-deep = omega arith
+pub one_deep : 1 ≤ max_nesting
+unfolding max_nesting
+one_deep = omega arith

@@ -1,4 +1,4 @@
-use Rattle.name_index.specs.Laws.Entries.{room-slots, by_rows}
+use Rattle.name_index.specs.Laws.Entries.{room_slots, by_rows}
 use borrow.Author.Rules.{rules}
 use Rattle.name_index.proofs.enter.Statement.{statement}
 use Rattle.name_index.proofs.enter.Tie as tie

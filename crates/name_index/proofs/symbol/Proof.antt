@@ -1,5 +1,5 @@
 -- A byte of the name, or its end.
-use Rattle.name_index.proofs.Bits.{part-past, part_in}
+use Rattle.name_index.proofs.Bits.{part_past, part_in}
 use Prim.Native.Nat.{◌+◌}
 use mathlib.Core.Path.{sym}
 use native.Mathlib.Omega.{arith}
@@ -8,7 +8,7 @@ use Rattle.name_index.proofs.symbol.Statement.{statement}
 use Rattle.name_index.proofs.symbol.Tie as tie
 
 returns : tie.Need-returns
-returns c = (sym (part-past c.before.args.strings.now c.before.args.start c.before.args.len (omega arith) c.before.args.p (omega arith)), omega arith)
+returns c = (sym (part_past c.before.args.strings.now c.before.args.start c.before.args.len (omega arith) c.before.args.p (omega arith)), omega arith)
 
 add-result : tie.Need-overflow-add-result
 add-result c = search rules

@@ -1,5 +1,5 @@
 -- The bit of the symbol chooses the side.
-use Rattle.name_index.proofs.Bits.{turn-side}
+use Rattle.name_index.proofs.Bits.{turn_side}
 use Rattle.name_index.specs.Bits.{part}
 use borrow.Author.Rules.{rules}
 use Rattle.name_index.proofs.turn.Statement.{statement}
@@ -18,7 +18,7 @@ mul-result : tie.Need-overflow-mul-result
 mul-result c = search rules
 
 returns : tie.Need-returns
-returns c = turn-side (part c.before.before.args.strings.now c.before.before.args.start c.before.before.args.len) c.before.before.args.rank c.symbol.result c.symbol.ensures.0
+returns c = turn_side (part c.before.before.args.strings.now c.before.before.args.start c.before.before.args.len) c.before.before.args.rank c.symbol.result c.symbol.ensures.0
 
 pub turn_spec : {M : Type 1} → statement M
 turn_spec =

@@ -2,21 +2,21 @@
 use Rattle.std.specs.Prelude.{◌≡◌, List, [], ◌∷◌, ℕ, zero, suc, ◌≤◌, ◌<◌, length}
 use Rattle.std.proofs.Common.{ap, arith}
 use Rattle.model.specs.Bytes.{Bytes}
-use Rattle.syntax.specs.Layout.{tableBytes}
+use Rattle.syntax.specs.Layout.{table_bytes}
 use Rattle.table.specs.declared.node.Rows.{Rows}
 use Rattle.name_index.specs.declared.find.Found.{Found}
-use Rattle.name_index.specs.Contract.{firstNamed, Finds}
+use Rattle.name_index.specs.Contract.{first_named, Finds}
 use Rattle.name_index.specs.Table.{entries_at, IndexedObject}
 
 -- It finds the first member of the name; any that are of that name are one.
 pub found_first :
     {T B n : Bytes} {q : Rows} {r : Found}
-    → tableBytes ≤ length T
+    → table_bytes ≤ length T
     → IndexedObject T B q
     → 1 ≤ q.first
     → 0 < q.count
     → Finds T B q.first n r
-    → r ≡ firstNamed n (entries_at T B q.first q.count)
+    → r ≡ first_named n (entries_at T B q.first q.count)
 found_first {T} {B} {q} size o member some f =
     f.is (entries_at T B q.first q.count) member size o.indexed o.named o.between (λ e. none q.count some e)
   where

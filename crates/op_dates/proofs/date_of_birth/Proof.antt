@@ -1,6 +1,6 @@
 use borrow.Author.Rules.{rules}
 use mathlib.Core.Path.{refl}
-use Rattle.op_dates.proofs.Instants.{born-no-string, born}
+use Rattle.op_dates.proofs.Instants.{born_no_string, born}
 use Rattle.op_dates.proofs.date_of_birth.Statement.{statement}
 use Rattle.op_dates.proofs.date_of_birth.Tie as tie
 
@@ -8,7 +8,7 @@ enum-known-h : tie.Need-enum-known-h
 enum-known-h c = search rules
 
 returns : tie.Need-returns
-returns c = born-no-string c.match.keys2
+returns c = born_no_string c.match.keys2
 
 bytes-requires : tie.Need-bytes-requires
 bytes-requires c κs = search rules

@@ -1,7 +1,7 @@
 use borrow.Author.Rules.{rules}
 use mathlib.Core.Path.{refl}
-use Rattle.model.specs.Refusal.{badDate, outOfRange}
-use Rattle.op_dates.proofs.Instants.{shifts-no-string, shifts, shifts-refused}
+use Rattle.model.specs.Refusal.{bad_date, out_of_range}
+use Rattle.op_dates.proofs.Instants.{shifts_no_string, shifts, shifts_refused}
 use Rattle.op_dates.proofs.plus_time.Statement.{statement}
 use Rattle.op_dates.proofs.plus_time.Tie as tie
 
@@ -9,7 +9,7 @@ enum-known-h : tie.Need-enum-known-h
 enum-known-h c = search rules
 
 returns : tie.Need-returns
-returns c = shifts-no-string c.match.keys2
+returns c = shifts_no_string c.match.keys2
 
 bytes-requires : tie.Need-bytes-requires
 bytes-requires c κs = search rules
@@ -33,10 +33,10 @@ returns-2 : tie.Need-returns-2
 returns-2 c = shifts c.before.before.before.before.before.before.before.h.given.1 c.before.before.before.before.before.bytes.ensures c.before.before.before.before.read-date.ensures c.before.before.t.given.1 c.moved.ensures
 
 returns-3 : tie.Need-returns-3
-returns-3 c = shifts-refused c.before.before.before.before.before.h.given.1 c.before.before.before.bytes.ensures c.before.before.read-date.ensures badDate c.enum_told.given.1 refl refl
+returns-3 c = shifts_refused c.before.before.before.before.before.h.given.1 c.before.before.before.bytes.ensures c.before.before.read-date.ensures bad_date c.enum_told.given.1 refl refl
 
 returns-4 : tie.Need-returns-4
-returns-4 c = shifts-refused c.before.before.before.before.before.h.given.1 c.before.before.before.bytes.ensures c.before.before.read-date.ensures outOfRange c.enum-told2.given.1 refl refl
+returns-4 c = shifts_refused c.before.before.before.before.before.h.given.1 c.before.before.before.bytes.ensures c.before.before.read-date.ensures out_of_range c.enum-told2.given.1 refl refl
 
 pub plus-time-spec : {M : Type 1} → statement M
 plus-time-spec =

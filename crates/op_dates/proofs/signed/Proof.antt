@@ -1,5 +1,5 @@
 use borrow.Author.Rules.{rules}
-use Rattle.op_dates.proofs.Amounts.{amount-fits, amount-is}
+use Rattle.op_dates.proofs.Amounts.{amount_fits, amount_is}
 use Rattle.op_dates.proofs.signed.Statement.{statement}
 use Rattle.op_dates.proofs.signed.Tie as tie
 
@@ -16,10 +16,10 @@ cast-result-2 : tie.Need-overflow-cast-result-2
 cast-result-2 c = search rules
 
 sub-result : tie.Need-overflow-sub-result
-sub-result c = amount-fits c.args.biased
+sub-result c = amount_fits c.args.biased
 
 returns : tie.Need-returns
-returns c = amount-is c.args.biased
+returns c = amount_is c.args.biased
 
 pub signed-spec : {M : Type 1} → statement M
 signed-spec =

@@ -1,4 +1,4 @@
-use Rattle.op_lookup.proofs.Parts.{no_part, items-part, members-part, list-part, context-part}
+use Rattle.op_lookup.proofs.Parts.{no_part, items_part, members_part, list_part, context_part}
 use borrow.Author.Rules.{rules}
 use Rattle.op_lookup.proofs.part.Statement.{statement}
 use Rattle.op_lookup.proofs.part.Tie as tie
@@ -25,16 +25,16 @@ enum-told-4 : tie.Need-enum-told-4
 enum-told-4 c = search rules
 
 returns : tie.Need-returns
-returns c = rw c.before.before.before.before.h.given.1 (list-part c.before.enum_told.given.1 c.item-named.ensures)
+returns c = rw c.before.before.before.before.h.given.1 (list_part c.before.enum_told.given.1 c.item-named.ensures)
 
 returns-2 : tie.Need-returns-2
-returns-2 c = rw c.before.before.before.before.h.given.1 (context-part c.before.enum-told2.given.1 c.member.ensures)
+returns-2 c = rw c.before.before.before.before.h.given.1 (context_part c.before.enum-told2.given.1 c.member.ensures)
 
 returns-3 : tie.Need-returns-3
-returns-3 c = rw c.before.before.before.h.given.1 (items-part c.enum-told3.given.1)
+returns-3 c = rw c.before.before.before.h.given.1 (items_part c.enum-told3.given.1)
 
 returns-4 : tie.Need-returns-4
-returns-4 c = rw c.before.before.before.h.given.1 (members-part c.enum-told4.given.1)
+returns-4 c = rw c.before.before.before.h.given.1 (members_part c.enum-told4.given.1)
 
 returns-5 : tie.Need-returns-5
 returns-5 c = no_part _ c.match.keys2

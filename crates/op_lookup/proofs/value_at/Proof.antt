@@ -3,10 +3,10 @@ use native.Mathlib.Omega.{arith}
 use borrow.Author.Rules.{rules}
 use lib.ListN.{length, drop}
 use Rattle.model.specs.Bytes.{ascii}
-use Rattle.bytes.specs.Laws.Fragment.{end-inside}
+use Rattle.octets.specs.Laws.Fragment.{end_inside}
 use Rattle.paths.specs.Laws.Loops.{Left, begins, goes_on}
 use Rattle.op_lookup.specs.Contract.{Leads}
-use Rattle.op_lookup.proofs.Walk.{walk_ends, walk-on, walk-record}
+use Rattle.op_lookup.proofs.Walk.{walk_ends, walk_on, walk_record}
 use Rattle.op_lookup.proofs.value_at.Statement.{statement}
 use Rattle.op_lookup.proofs.value_at.Tie as tie
 
@@ -41,7 +41,7 @@ of-node-requires : tie.Need-of-node-requires invariant-loop decreases-loop
 of-node-requires c κs = tt
 
 returns : tie.Need-returns invariant-loop decreases-loop
-returns c = c.before.before.before.before.before.before.before.before.loop.invariant.goes _ (walk-record c.before.before.before.before.before.before.before.before.before.before.before.before.before.args.path.now c.before.before.before.before.before.before.before.before.loop.at (rw c.before.before.before.before.place.given.1 at c.before.before.before.before.before.before.place_of.ensures) c.before.find.ensures c.of_node.ensures)
+returns c = c.before.before.before.before.before.before.before.before.loop.invariant.goes _ (walk_record c.before.before.before.before.before.before.before.before.before.before.before.before.before.args.path.now c.before.before.before.before.before.before.before.before.loop.at (rw c.before.before.before.before.place.given.1 at c.before.before.before.before.before.before.place_of.ensures) c.before.find.ensures c.of_node.ensures)
 
 enum_told : tie.Need-enum-told invariant-loop decreases-loop
 enum_told c = search rules
@@ -59,19 +59,19 @@ part-part-start : tie.Need-slice-bounds-part-start invariant-loop decreases-loop
 part-part-start c = search rules
 
 part-part-end : tie.Need-slice-bounds-part-end invariant-loop decreases-loop
-part-part-end c = omega (arith, c.fragment-end.ensures, end-inside (ascii ".") c.before.before.before.before.before.before.before.before.before.before.before.args.path.now c.before.before.before.before.before.before.loop.at (omega arith))
+part-part-end c = omega (arith, c.fragment-end.ensures, end_inside (ascii ".") c.before.before.before.before.before.before.before.before.before.before.before.args.path.now c.before.before.before.before.before.before.loop.at (omega arith))
 
 part-requires : tie.Need-part-requires invariant-loop decreases-loop
 part-requires c κs = tt
 
 add_at : tie.Need-overflow-add-at invariant-loop decreases-loop
-add_at c = omega (arith, c.before.before.fragment-end.ensures, end-inside (ascii ".") c.before.before.before.before.before.before.before.before.before.before.before.before.before.args.path.now c.before.before.before.before.before.before.before.before.loop.at (omega arith))
+add_at c = omega (arith, c.before.before.fragment-end.ensures, end_inside (ascii ".") c.before.before.before.before.before.before.before.before.before.before.before.before.before.args.path.now c.before.before.before.before.before.before.before.before.loop.at (omega arith))
 
 loop-less : tie.Need-loop-smaller invariant-loop decreases-loop
 loop-less c = omega (arith, c.before.before.fragment-end.ensures)
 
 loop-again : tie.Need-loop-preserved invariant-loop decreases-loop
-loop-again c = goes_on c.before.before.before.before.before.before.before.before.loop.invariant (walk-on c.before.before.before.before.before.before.before.before.before.before.before.before.before.args.path.now c.before.before.before.before.before.before.before.before.loop.at (omega arith) c.before.before.fragment-end.ensures (rw c.before.before.before.before.enum_told.given.1 at c.before.before.before.before.before.before.place_of.ensures) c.part.ensures)
+loop-again c = goes_on c.before.before.before.before.before.before.before.before.loop.invariant (walk_on c.before.before.before.before.before.before.before.before.before.before.before.before.before.args.path.now c.before.before.before.before.before.before.before.before.loop.at (omega arith) c.before.before.fragment-end.ensures (rw c.before.before.before.before.enum_told.given.1 at c.before.before.before.before.before.before.place_of.ensures) c.part.ensures)
 
 returns-2 : tie.Need-returns-2 invariant-loop decreases-loop
 returns-2 c = c.before.loop.invariant.goes _ (walk_ends c.before.before.before.before.before.before.args.path.now c.before.loop.at (omega arith))

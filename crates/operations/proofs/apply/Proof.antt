@@ -1,5 +1,5 @@
 use Rattle.operations.proofs.Applied.{applied, of_array}
-use Rattle.operations.proofs.Operations.{of-equal, of-member, of-plus, of-not, of-birth, of-comparison, of_shift, of-extract}
+use Rattle.operations.proofs.Operations.{of_equal, of_member, of_plus, of_not, of_birth, of_comparison, of_shift, of_extract}
 use native.Mathlib.Omega.{arith}
 use borrow.Author.Rules.{rules}
 use Rattle.operations.proofs.apply.Statement.{statement}
@@ -105,37 +105,37 @@ same-length-2 : tie.Need-same-length-2
 same-length-2 c = search rules
 
 returns-2 : tie.Need-returns-2
-returns-2 c = rw c.before.before.before.before.enum-told2.given.1 (applied c.before.equality.result (of-equal c.before.before.before.before.before.before.first.ensures c.before.before.operand.ensures c.before.equality.ensures) c.operated.ensures)
+returns-2 c = rw c.before.before.before.before.enum-told2.given.1 (applied c.before.equality.result (of_equal c.before.before.before.before.before.before.first.ensures c.before.before.operand.ensures c.before.equality.ensures) c.operated.ensures)
 
 same-length-3 : tie.Need-same-length-3
 same-length-3 c = search rules
 
 returns-3 : tie.Need-returns-3
-returns-3 c = rw c.before.before.before.before.before.enum-told3.given.1 (applied c.before.membership.result (of-member c.before.before.before.before.before.before.before.first.ensures c.before.before.before.operand2.ensures c.before.membership.ensures) c.operated2.ensures)
+returns-3 c = rw c.before.before.before.before.before.enum-told3.given.1 (applied c.before.membership.result (of_member c.before.before.before.before.before.before.before.first.ensures c.before.before.before.operand2.ensures c.before.membership.ensures) c.operated2.ensures)
 
 same-length-4 : tie.Need-same-length-4
 same-length-4 c = search rules
 
 returns-4 : tie.Need-returns-4
-returns-4 c = rw c.before.before.before.before.enum-told4.given.1 (applied c.before.sum.result (of-plus c.before.before.before.before.before.before.first.ensures c.before.before.operand3.ensures c.before.sum.ensures) c.operated3.ensures)
+returns-4 c = rw c.before.before.before.before.enum-told4.given.1 (applied c.before.sum.result (of_plus c.before.before.before.before.before.before.first.ensures c.before.before.operand3.ensures c.before.sum.ensures) c.operated3.ensures)
 
 same-length-5 : tie.Need-same-length-5
 same-length-5 c = search rules
 
 returns-5 : tie.Need-returns-5
-returns-5 c = rw c.before.before.enum-told5.given.1 (applied c.before.negated.result (of-not c.before.before.before.before.first.ensures c.before.negated.ensures) c.operated4.ensures)
+returns-5 c = rw c.before.before.enum-told5.given.1 (applied c.before.negated.result (of_not c.before.before.before.before.first.ensures c.before.negated.ensures) c.operated4.ensures)
 
 same-length-6 : tie.Need-same-length-6
 same-length-6 c = search rules
 
 returns-6 : tie.Need-returns-6
-returns-6 c = rw c.before.before.enum-told6.given.1 (applied c.before.date-of-birth.result (of-birth c.before.before.before.before.first.ensures c.before.date-of-birth.ensures) c.operated5.ensures)
+returns-6 c = rw c.before.before.enum-told6.given.1 (applied c.before.date-of-birth.result (of_birth c.before.before.before.before.first.ensures c.before.date-of-birth.ensures) c.operated5.ensures)
 
 same-length-7 : tie.Need-same-length-7
 same-length-7 c = search rules
 
 returns-7 : tie.Need-returns-7
-returns-7 c = rw c.before.before.before.before.op.given.1 (applied c.before.compared.result (of-comparison c.before.compared.ensures) c.operated6.ensures)
+returns-7 c = rw c.before.before.before.before.op.given.1 (applied c.before.compared.result (of_comparison c.before.compared.ensures) c.operated6.ensures)
 
 same-length-8 : tie.Need-same-length-8
 same-length-8 c = search rules
@@ -147,7 +147,7 @@ same-length-9 : tie.Need-same-length-9
 same-length-9 c = search rules
 
 returns-9 : tie.Need-returns-9
-returns-9 c = rw c.before.before.before.op3.given.1 (applied c.before.extract.result (of-extract c.before.before.before.before.before.first.ensures _ c.before.extract.ensures) c.operated8.ensures)
+returns-9 c = rw c.before.before.before.op3.given.1 (applied c.before.extract.result (of_extract c.before.before.before.before.before.first.ensures _ c.before.extract.ensures) c.operated8.ensures)
 
 pub apply-spec : {M : Type 1} → statement M
 apply-spec =

@@ -1,4 +1,4 @@
-use Rattle.operations.proofs.Operations.{compares-two, compares-three}
+use Rattle.operations.proofs.Operations.{compares_two, compares_three}
 use borrow.Author.Rules.{rules}
 use Rattle.operations.proofs.compared.Statement.{statement}
 use Rattle.operations.proofs.compared.Tie as tie
@@ -13,7 +13,7 @@ compare-requires : tie.Need-compare-requires
 compare-requires c κs = search rules
 
 returns : tie.Need-returns
-returns c = compares-two c.before.before.before.operand.ensures c.before.before.operand2.ensures c.before.if1.true c.compare.ensures
+returns c = compares_two c.before.before.before.operand.ensures c.before.before.operand2.ensures c.before.if1.true c.compare.ensures
 
 operand-requires-3 : tie.Need-operand-requires-3
 operand-requires-3 c κs = search rules
@@ -22,7 +22,7 @@ compare-three-requires : tie.Need-compare-three-requires
 compare-three-requires c κs = search rules
 
 returns-2 : tie.Need-returns-2
-returns-2 c = compares-three c.before.before.before.before.operand.ensures c.before.before.before.operand2.ensures c.before.operand3.ensures c.before.before.if1.false c.compare-three.ensures
+returns-2 c = compares_three c.before.before.before.before.operand.ensures c.before.before.before.operand2.ensures c.before.operand3.ensures c.before.before.if1.false c.compare-three.ensures
 
 pub compared-spec : {M : Type 1} → statement M
 compared-spec =

@@ -2,7 +2,7 @@ use borrow.Author.Rules.{rules}
 use Prim.Native.Nat.{◌-◌, ◌≤◌}
 use native.Mathlib.Omega.{arith}
 use Rattle.operations.specs.Contract.{StackRoom}
-use Rattle.operations.proofs.Block.{Copied, copy-begins, copy-next, copy-ends, copy-length}
+use Rattle.operations.proofs.Block.{Copied, copy_begins, copy_next, copy_ends, copy_length}
 use Rattle.operations.proofs.copy.Statement.{statement}
 use Rattle.operations.proofs.copy.Tie as tie
 
@@ -13,7 +13,7 @@ abbrev decreases-loop : tie.decreases-loop
 decreases-loop cells₀ count s i₀ cells i = count - i
 
 loop-holds : tie.Need-loop-init invariant-loop decreases-loop
-loop-holds c = (omega arith, c.before.requires, copy-begins _ _ _)
+loop-holds c = (omega arith, c.before.requires, copy_begins _ _ _)
 
 operand-requires : tie.Need-operand-requires invariant-loop decreases-loop
 operand-requires c κs = search rules
@@ -31,13 +31,13 @@ loop-less : tie.Need-loop-smaller invariant-loop decreases-loop
 loop-less c = omega arith
 
 loop-again : tie.Need-loop-preserved invariant-loop decreases-loop
-loop-again c = (omega arith, c.before.before.before.before.before.before.before.before.loop.invariant.1, copy-next _ _ _ _ c.before.before.before.before.before.before.before.before.loop.i c.before.before.before.before.before.operand.result c.before.before.before.before.before.before.before.before.loop.invariant.1.fits c.before.before.before.before.before.before.before.loop-test.true c.before.before.before.before.before.before.before.before.loop.invariant.2 c.before.before.before.before.before.operand.ensures c.before.before.put.ensures)
+loop-again c = (omega arith, c.before.before.before.before.before.before.before.before.loop.invariant.1, copy_next _ _ _ _ c.before.before.before.before.before.before.before.before.loop.i c.before.before.before.before.before.operand.result c.before.before.before.before.before.before.before.before.loop.invariant.1.fits c.before.before.before.before.before.before.before.loop-test.true c.before.before.before.before.before.before.before.before.loop.invariant.2 c.before.before.before.before.before.operand.ensures c.before.before.put.ensures)
 
 same_length : tie.Need-same-length invariant-loop decreases-loop
-same_length c = copy-length _ _ _ c.before.loop.i c.before.loop.invariant.2
+same_length c = copy_length _ _ _ c.before.loop.i c.before.loop.invariant.2
 
 returns : tie.Need-returns invariant-loop decreases-loop
-returns c = copy-ends _ _ _ _ c.before.loop.i c.before.loop.invariant.0 (omega (arith, c.loop-test.false)) c.before.loop.invariant.2
+returns c = copy_ends _ _ _ _ c.before.loop.i c.before.loop.invariant.0 (omega (arith, c.loop-test.false)) c.before.loop.invariant.2
 
 pub copy_spec : {M : Type 1} → statement M
 copy_spec =

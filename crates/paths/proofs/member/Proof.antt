@@ -1,5 +1,5 @@
 use mathlib.Core.Path.{◌∙◌}
-use Rattle.paths.proofs.Rows.{member-found}
+use Rattle.paths.proofs.Rows.{member_found}
 use borrow.Author.Rules.{rules}
 use Rattle.paths.proofs.member.Statement.{statement}
 use Rattle.paths.proofs.member.Tie as tie
@@ -17,10 +17,10 @@ node-at-requires : tie.Need-node-at-requires
 node-at-requires c κs = search rules
 
 returns : tie.Need-returns
-returns c = member-found c.before.before.before.before.before.before.args.table.now c.before.before.before.before.before.before.args.strings.now c.before.before.before.before.before.before.args.fragment.now c.before.before.before.before.before.before.args.q (rw c.enum_told.given.1 at c.before.before.row_named.ensures)
+returns c = member_found c.before.before.before.before.before.before.args.table.now c.before.before.before.before.before.before.args.strings.now c.before.before.before.before.before.before.args.fragment.now c.before.before.before.before.before.before.args.q (rw c.enum_told.given.1 at c.before.before.row_named.ensures)
 
 returns-2 : tie.Need-returns-2
-returns-2 c = c.Node-at.ensures ∙ member-found c.before.before.before.before.before.before.before.before.args.table.now c.before.before.before.before.before.before.before.before.args.strings.now c.before.before.before.before.before.before.before.before.args.fragment.now c.before.before.before.before.before.before.before.before.args.q (rw c.before.before.found.given.1 at c.before.before.before.before.row_named.ensures)
+returns-2 c = c.Node-at.ensures ∙ member_found c.before.before.before.before.before.before.before.before.args.table.now c.before.before.before.before.before.before.before.before.args.strings.now c.before.before.before.before.before.before.before.before.args.fragment.now c.before.before.before.before.before.before.before.before.args.q (rw c.before.before.found.given.1 at c.before.before.before.before.row_named.ensures)
 
 pub member-spec : {M : Type 1} → statement M
 member-spec =

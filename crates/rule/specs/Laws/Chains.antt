@@ -4,44 +4,44 @@ use Rattle.std.proofs.Common.{ap, arith}
 use Rattle.std.proofs.Math.Option.{Option, none, some}
 use Rattle.model.specs.Bytes.{Bytes}
 use Rattle.model.specs.Laws.Logic.{clash}
-use Rattle.model.specs.Laws.Option.{none-some}
+use Rattle.model.specs.Laws.Option.{none_some}
 use Rattle.model.specs.Option.{◌>>=◌}
-use Rattle.model.specs.Rule.{Rule, Rules, no-rules, rule}
-use Rattle.model.specs.Shape.{Operand, operandsOf, exactly2, exactly3, unitNamed}
+use Rattle.model.specs.Rule.{Rule, Rules, no_rules, rule}
+use Rattle.model.specs.Shape.{Operand, operands_of, exactly2, exactly3, unit_named}
 use Rattle.model.specs.Value.{Value, Values, no_items, item}
 use Rattle.model.specs.declared.TimeUnit.{TimeUnit}
-use Rattle.syntax.specs.Layout.{itemCount}
+use Rattle.syntax.specs.Layout.{item_count}
 
-pub bind-none : {A B : Type 0} (o : Option A) → ◌≡◌ {A = Option B} (o >>= λ a. none) none
-bind-none none = refl
-bind-none (some a) = refl
+pub bind_none : {A B : Type 0} (o : Option A) → ◌≡◌ {A = Option B} (o >>= λ a. none) none
+bind_none none = refl
+bind_none (some a) = refl
 
 -- ---- one rule
 abbrev one_of : Option Rule → Option Rules
-one_of o = o >>= λ r. some (rule r no-rules)
+one_of o = o >>= λ r. some (rule r no_rules)
 
-pub one-refused : (o : Option Rule) (f : Rule → Rule) → one_of o ≡ none → (o >>= λ r. some (f r)) ≡ none
-one-refused none f e = refl
-one-refused (some r) f e = clash cc
+pub one_refused : (o : Option Rule) (f : Rule → Rule) → one_of o ≡ none → (o >>= λ r. some (f r)) ≡ none
+one_refused none f e = refl
+one_refused (some r) f e = clash cc
 
 pub record One (o : Option Rule) (f : Rule → Rule) (rs : Rules) : Type 0 where
   pub only : Rule
-  pub all : rs ≡ rule only no-rules
+  pub all : rs ≡ rule only no_rules
   pub chain : (o >>= λ r. some (f r)) ≡ some (f only)
 
-pub one-built : (o : Option Rule) (f : Rule → Rule) (rs : Rules) → one_of o ≡ some rs → One o f rs
-one-built none f rs e = none-some e
-one-built (some r) f rs e = record { only = r; all = cc; chain = refl }
+pub one_built : (o : Option Rule) (f : Rule → Rule) (rs : Rules) → one_of o ≡ some rs → One o f rs
+one_built none f rs e = none_some e
+one_built (some r) f rs e = record { only = r; all = cc; chain = refl }
 
 -- ---- three rules
-abbrev threeOf : Option Rule → Option Rule → Option Rule → Option Rules
-threeOf a b c = do
+abbrev three_of : Option Rule → Option Rule → Option Rule → Option Rules
+three_of a b c = do
   x ← a
   xs ← do
     y ← b
     ys ← do
       z ← c
-      some (rule z no-rules)
+      some (rule z no_rules)
     some (rule y ys)
   some (rule x xs)
 
@@ -52,36 +52,36 @@ chain3 a b c f = do
   z ← c
   some (f x y z)
 
-pub three-refused : (a b c : Option Rule) (f : Rule → Rule → Rule → Rule) → threeOf a b c ≡ none → chain3 a b c f ≡ none
-three-refused none b c f e = refl
-three-refused (some x) none c f e = refl
-three-refused (some x) (some y) none f e = refl
-three-refused (some x) (some y) (some z) f e = clash cc
+pub three_refused : (a b c : Option Rule) (f : Rule → Rule → Rule → Rule) → three_of a b c ≡ none → chain3 a b c f ≡ none
+three_refused none b c f e = refl
+three_refused (some x) none c f e = refl
+three_refused (some x) (some y) none f e = refl
+three_refused (some x) (some y) (some z) f e = clash cc
 
 pub record Three (a b c : Option Rule) (f : Rule → Rule → Rule → Rule) (rs : Rules) : Type 0 where
   pub first : Rule
   pub second : Rule
   pub third : Rule
-  pub all : rs ≡ rule first (rule second (rule third no-rules))
+  pub all : rs ≡ rule first (rule second (rule third no_rules))
   pub chain : chain3 a b c f ≡ some (f first second third)
 
-pub three-built : (a b c : Option Rule) (f : Rule → Rule → Rule → Rule) (rs : Rules) → threeOf a b c ≡ some rs → Three a b c f rs
-three-built none b c f rs e = none-some e
-three-built (some x) none c f rs e = none-some e
-three-built (some x) (some y) none f rs e = none-some e
-three-built (some x) (some y) (some z) f rs e = record { first = x; second = y; third = z; all = cc; chain = refl }
+pub three_built : (a b c : Option Rule) (f : Rule → Rule → Rule → Rule) (rs : Rules) → three_of a b c ≡ some rs → Three a b c f rs
+three_built none b c f rs e = none_some e
+three_built (some x) none c f rs e = none_some e
+three_built (some x) (some y) none f rs e = none_some e
+three_built (some x) (some y) (some z) f rs e = record { first = x; second = y; third = z; all = cc; chain = refl }
 
 -- ---- a unit behind a string
-pub unit-chain : (o : Option Rule) (s : Option Bytes) {U : Option TimeUnit} (f : Rule → TimeUnit → Rule) → s >>= unitNamed ≡ U
-    → (o >>= λ r. s >>= λ t. unitNamed t >>= λ u. some (f r u)) ≡ (o >>= λ r. U >>= λ u. some (f r u))
-unit-chain o none f e = ap (λ (x : Option TimeUnit). o >>= λ r. x >>= λ u. some (f r u)) e
-unit-chain o (some t) f e = ap (λ (x : Option TimeUnit). o >>= λ r. x >>= λ u. some (f r u)) e
+pub unit_chain : (o : Option Rule) (s : Option Bytes) {U : Option TimeUnit} (f : Rule → TimeUnit → Rule) → s >>= unit_named ≡ U
+    → (o >>= λ r. s >>= λ t. unit_named t >>= λ u. some (f r u)) ≡ (o >>= λ r. U >>= λ u. some (f r u))
+unit_chain o none f e = ap (λ (x : Option TimeUnit). o >>= λ r. x >>= λ u. some (f r u)) e
+unit_chain o (some t) f e = ap (λ (x : Option TimeUnit). o >>= λ r. x >>= λ u. some (f r u)) e
 
 -- ---- the number of operands
-pub operands-length : (vs : Values) → length (operandsOf vs) ≡ itemCount vs
-unfolding operandsOf itemCount
-operands-length no_items = refl
-operands-length (item v vs) = ap suc (operands-length vs)
+pub operands_length : (vs : Values) → length (operands_of vs) ≡ item_count vs
+unfolding operands_of item_count
+operands_length no_items = refl
+operands_length (item v vs) = ap suc (operands_length vs)
 
 pub data Two : Values → Type 0 where
   two : {a b : Value} → Two (item a (item b no_items))
@@ -89,32 +89,32 @@ pub data Two : Values → Type 0 where
 pub data ThreeItems : Values → Type 0 where
   three : {a b c : Value} → ThreeItems (item a (item b (item c no_items)))
 
-pub two-of : (vs : Values) → itemCount vs ≡ 2 → Two vs
-unfolding itemCount
-two-of no_items e = absurd (omega arith)
-two-of (item a no_items) e = absurd (omega arith)
-two-of (item a (item b no_items)) e = two
-two-of (item a (item b (item c vs))) e = absurd (omega arith)
+pub two_of : (vs : Values) → item_count vs ≡ 2 → Two vs
+unfolding item_count
+two_of no_items e = absurd (omega arith)
+two_of (item a no_items) e = absurd (omega arith)
+two_of (item a (item b no_items)) e = two
+two_of (item a (item b (item c vs))) e = absurd (omega arith)
 
-pub three-of : (vs : Values) → itemCount vs ≡ 3 → ThreeItems vs
-unfolding itemCount
-three-of no_items e = absurd (omega arith)
-three-of (item a no_items) e = absurd (omega arith)
-three-of (item a (item b no_items)) e = absurd (omega arith)
-three-of (item a (item b (item c no_items))) e = three
-three-of (item a (item b (item c (item d vs)))) e = absurd (omega arith)
+pub three_of_lem : (vs : Values) → item_count vs ≡ 3 → ThreeItems vs
+unfolding item_count
+three_of_lem no_items e = absurd (omega arith)
+three_of_lem (item a no_items) e = absurd (omega arith)
+three_of_lem (item a (item b no_items)) e = absurd (omega arith)
+three_of_lem (item a (item b (item c no_items))) e = three
+three_of_lem (item a (item b (item c (item d vs)))) e = absurd (omega arith)
 
-pub exactly2-none : {A : Type 0} (vs : Values) (f : Operand → Operand → Option A) → (itemCount vs ≡ 2 → ⊥) → exactly2 (operandsOf vs) f ≡ none
-unfolding operandsOf itemCount
-exactly2-none no_items f n = refl
-exactly2-none (item a no_items) f n = refl
-exactly2-none (item a (item b no_items)) f n = absurd (n refl)
-exactly2-none (item a (item b (item c vs))) f n = refl
+pub exactly2_none : {A : Type 0} (vs : Values) (f : Operand → Operand → Option A) → (item_count vs ≡ 2 → ⊥) → exactly2 (operands_of vs) f ≡ none
+unfolding operands_of item_count
+exactly2_none no_items f n = refl
+exactly2_none (item a no_items) f n = refl
+exactly2_none (item a (item b no_items)) f n = absurd (n refl)
+exactly2_none (item a (item b (item c vs))) f n = refl
 
-pub exactly3-none : {A : Type 0} (vs : Values) (f : Operand → Operand → Operand → Option A) → (itemCount vs ≡ 3 → ⊥) → exactly3 (operandsOf vs) f ≡ none
-unfolding operandsOf itemCount
-exactly3-none no_items f n = refl
-exactly3-none (item a no_items) f n = refl
-exactly3-none (item a (item b no_items)) f n = refl
-exactly3-none (item a (item b (item c no_items))) f n = absurd (n refl)
-exactly3-none (item a (item b (item c (item d vs)))) f n = refl
+pub exactly3_none : {A : Type 0} (vs : Values) (f : Operand → Operand → Operand → Option A) → (item_count vs ≡ 3 → ⊥) → exactly3 (operands_of vs) f ≡ none
+unfolding operands_of item_count
+exactly3_none no_items f n = refl
+exactly3_none (item a no_items) f n = refl
+exactly3_none (item a (item b no_items)) f n = refl
+exactly3_none (item a (item b (item c no_items))) f n = absurd (n refl)
+exactly3_none (item a (item b (item c (item d vs)))) f n = refl

@@ -4,7 +4,7 @@ use native.Mathlib.Omega.{arith}
 use borrow.Author.Rules.{rules}
 use borrow.Author.Tests.{not-true, not-false}
 use lib.ListN.{length}
-use Rattle.shape.proofs.Loop.{Going, going_start, going-stop, going_on, going_done, row-length}
+use Rattle.shape.proofs.Loop.{Going, going_start, going_stop, going_on, going_done, row_length}
 use Rattle.shape.proofs.is_rule.Statement.{statement}
 use Rattle.shape.proofs.is_rule.Tie as tie
 
@@ -27,10 +27,10 @@ row-is-rule-requires : tie.Need-row-is-rule-requires invariant-loop decreases-lo
 row-is-rule-requires c κs = search rules
 
 same_length : tie.Need-same-length invariant-loop decreases-loop
-same_length c = row-length c.before.before.before.row-is-rule.ensures ∙ c.before.before.before.before.before.before.loop.invariant.size
+same_length c = row_length c.before.before.before.row-is-rule.ensures ∙ c.before.before.before.before.before.before.loop.invariant.size
 
 returns : tie.Need-returns invariant-loop decreases-loop
-returns c = going-stop c.before.before.before.before.before.before.loop.invariant c.before.before.before.before.before.loop-test.true c.before.before.before.row-is-rule.ensures (not-true c.before.before.before.row-is-rule.result c.if1.true) (rw c.before.before.before.before.before.before.before.before.rows_of_lem.ensures at c.before.before.before.before.before.before.before.next_row.ensures)
+returns c = going_stop c.before.before.before.before.before.before.loop.invariant c.before.before.before.before.before.loop-test.true c.before.before.before.row-is-rule.ensures (not-true c.before.before.before.row-is-rule.result c.if1.true) (rw c.before.before.before.before.before.before.before.before.rows_of_lem.ensures at c.before.before.before.before.before.before.before.next_row.ensures)
 
 add_row : tie.Need-overflow-add-row invariant-loop decreases-loop
 add_row c = omega (arith, c.before.before.before.before.before.loop-test.true)

@@ -1,4 +1,4 @@
-use Rattle.shape.proofs.Loop.{object-none, object-some}
+use Rattle.shape.proofs.Loop.{object_none, object_some}
 use borrow.Author.Rules.{rules}
 use Rattle.shape.proofs.object_is_rule.Statement.{statement}
 use Rattle.shape.proofs.object_is_rule.Tie as tie
@@ -19,7 +19,7 @@ same_length : tie.Need-same-length
 same_length c = search rules
 
 returns : tie.Need-returns
-returns c = object-none (rw c.before.before.before.rows_of_lem.ensures at c.before.before.operation.ensures) c.enum_told.given.1
+returns c = object_none (rw c.before.before.before.rows_of_lem.ensures at c.before.before.operation.ensures) c.enum_told.given.1
 
 mark-of-requires : tie.Need-mark-of-requires
 mark-of-requires c κs = search rules
@@ -34,7 +34,7 @@ same-length-2 : tie.Need-same-length-2
 same-length-2 c = search rules
 
 returns-2 : tie.Need-returns-2
-returns-2 c = object-some (rw c.before.before.before.before.before.before.before.before.before.before.rows_of_lem.ensures at c.before.before.before.before.before.before.before.before.before.operation.ensures) c.before.before.before.before.before.before.before.view.given.1 c.view-is-rule.ensures c.before.before.before.put-mark.ensures c.before.before.before.before.mark_of.ensures
+returns-2 c = object_some (rw c.before.before.before.before.before.before.before.before.before.before.rows_of_lem.ensures at c.before.before.before.before.before.before.before.before.before.operation.ensures) c.before.before.before.before.before.before.before.view.given.1 c.view-is-rule.ensures c.before.before.before.put-mark.ensures c.before.before.before.before.mark_of.ensures
 
 pub object-is-rule-spec : {M : Type 1} → statement M
 object-is-rule-spec =

@@ -1,5 +1,5 @@
 use mathlib.Core.Path.{refl, sym, ◌∙◌}
-use Rattle.shape.proofs.Loop.{row_plain, row-object}
+use Rattle.shape.proofs.Loop.{row_plain, row_object}
 use borrow.Author.Rules.{rules}
 use Rattle.shape.proofs.row_is_rule.Statement.{statement}
 use Rattle.shape.proofs.row_is_rule.Tie as tie
@@ -74,7 +74,7 @@ same-length-7 : tie.Need-same-length-7
 same-length-7 c = search rules
 
 returns-7 : tie.Need-returns-7
-returns-7 c = row-object (sym (rw c.before.before.before.before.before.before.before.before.rows_of_lem.ensures at c.before.before.before.before.before.before.before.Node-at.ensures) ∙ c.before.before.before.before.before.node.given.1) c.before.before.object-is-rule.ensures
+returns-7 c = row_object (sym (rw c.before.before.before.before.before.before.before.before.rows_of_lem.ensures at c.before.before.before.before.before.before.before.Node-at.ensures) ∙ c.before.before.before.before.before.node.given.1) c.before.before.object-is-rule.ensures
 
 pub row-is-rule-spec : {M : Type 1} → statement M
 row-is-rule-spec =

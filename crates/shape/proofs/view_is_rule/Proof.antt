@@ -30,7 +30,7 @@ returns : tie.Need-returns
 returns c = search rules
 
 returns-2 : tie.Need-returns-2
-returns-2 c = rw (c.before.before.before.view.given.1, c.is-path.ensures, c.before.bytes_of.ensures)
+returns-2 c = rw (c.before.before.before.view.given.1, c.is_path_lem.ensures, c.before.bytes_of.ensures)
 
 returns-3 : tie.Need-returns-3
 returns-3 c = search rules

@@ -3,15 +3,15 @@ use Rattle.std.proofs.Math.Option.{some}
 use Rattle.std.specs.Prelude.{◌≡◌}
 use Rattle.std.proofs.Common.{arith}
 use Rattle.model.specs.Bytes.{Bytes}
-use Rattle.model.specs.Laws.Widths.{two-values}
-use Rattle.model.specs.Limits.{maxNesting}
+use Rattle.model.specs.Laws.Widths.{two_values}
+use Rattle.model.specs.Limits.{max_nesting}
 use Rattle.model.specs.Rule.{Rule}
 use Rattle.model.specs.Shape.{shape}
 use Rattle.model.specs.Value.{Value}
 use Rattle.syntax.specs.Laws.Sound.{sound}
 use Rattle.table.specs.WasRead.{WasRead}
-use Rattle.table.specs.Laws.Standing.{was-read-denotes}
+use Rattle.table.specs.Laws.Standing.{was_read_denotes}
 use Rattle.rule.specs.Holds.{Holds}
 
-pub holds-rule : {T B : Bytes} {v : Value} {ρ : Rule} → WasRead T B v → shape v ≡ some ρ → Holds T B maxNesting 0 ρ
-holds-rule {v = v} w e = record { within = omega (arith, two-values); value = v; denotes = was-read-denotes w; shaped = e; nests = (sound w.text v w.reads).0.flat }
+pub holds_rule : {T B : Bytes} {v : Value} {ρ : Rule} → WasRead T B v → shape v ≡ some ρ → Holds T B max_nesting 0 ρ
+holds_rule {v = v} w e = record { within = omega (arith, two_values); value = v; denotes = was_read_denotes w; shaped = e; nests = (sound w.text v w.reads).0.flat }

@@ -2,28 +2,28 @@
 use Rattle.std.specs.Prelude.{◌≡◌, refl, false, [], ◌∷◌, ℕ}
 use Rattle.model.specs.Bytes.{ascii}
 use Rattle.syntax.specs.declared.Lead.TheVariants.{Char}
-use Rattle.syntax.specs.Grammar.{no-ws, zero-int, int, no-digits, no-frac, no-exp, no-tail, Chars, no-chars, unescaped, JValue, jnumber, jstring, jarray, jobject, last-element, element, last-member, JText, jtext, spell, spellWs, spellDigits, spellInt, spellFrac, spellExp, spellMinus, spellTails, spellChars, spellValue}
-use Rattle.syntax.specs.Locate.{elementAt, memberAt, childSite, valueSite, site, StandsAt}
-use Rattle.syntax.specs.Tokens.{within, isDigit1-9}
-use Rattle.syntax.specs.Utf8.{leadOf}
+use Rattle.syntax.specs.Grammar.{no_ws, zero_int, int, no_digits, no_frac, no_exp, no_tail, Chars, no_chars, unescaped, JValue, jnumber, jstring, jarray, jobject, last_element, element, last_member, JText, jtext, spell, spell_ws, spell_digits, spell_int, spell_frac, spell_exp, spell_minus, spell_tails, spell_chars, spell_value}
+use Rattle.syntax.specs.Locate.{element_at, member_at, child_site, value_site, site, StandsAt}
+use Rattle.syntax.specs.Tokens.{within, is_digit1_9}
+use Rattle.syntax.specs.Utf8.{lead_of}
 
-char : (b : ℕ) → leadOf b ≡ Char 0 0x80 0xBF → Chars → Chars
-char b e cs = unescaped b 0 0x80 0xBF e no-tail cs
+char : (b : ℕ) → lead_of b ≡ Char 0 0x80 0xBF → Chars → Chars
+char b e cs = unescaped b 0 0x80 0xBF e no_tail cs
 
 -- {"+":["a",1]}
 operand : JValue
-unfolding leadOf within isDigit1-9
+unfolding lead_of within is_digit1_9
 operand =
-    jobject no-ws (last-member (char 0x2B refl no-chars) no-ws no-ws
-    (jarray no-ws (element (jstring (char 0x61 refl no-chars)) no-ws no-ws (last-element (jnumber false (int 0x31 tt no-digits) no-frac no-exp) no-ws))) no-ws)
+    jobject no_ws (last_member (char 0x2B refl no_chars) no_ws no_ws
+    (jarray no_ws (element (jstring (char 0x61 refl no_chars)) no_ws no_ws (last_element (jnumber false (int 0x31 tt no_digits) no_frac no_exp) no_ws))) no_ws)
 
 row : JText
-unfolding leadOf within
+unfolding lead_of within
 row =
-    jtext no-ws (jobject no-ws (last-member (char 0x61 refl (char 0x6E refl (char 0x64 refl no-chars))) no-ws no-ws
-    (jarray no-ws (element (jnumber false zero-int no-frac no-exp) no-ws no-ws (last-element operand no-ws))) no-ws)) no-ws
+    jtext no_ws (jobject no_ws (last_member (char 0x61 refl (char 0x6E refl (char 0x64 refl no_chars))) no_ws no_ws
+    (jarray no_ws (element (jnumber false zero_int no_frac no_exp) no_ws no_ws (last_element operand no_ws))) no_ws)) no_ws
 
 -- Member 0, item 1: place 1 of the model.
-pub second-operand : StandsAt (ascii "{\"and\":[0,{\"+\":[\"a\",1]}]}") (0 ∷ 1 ∷ []) (ascii "{\"and\":[0,") (ascii "{\"+\":[\"a\",1]}") (ascii "]}")
-unfolding char operand row spell spellWs spellDigits spellInt spellFrac spellExp spellMinus spellTails spellChars spellValue elementAt memberAt childSite valueSite site
-second-operand = record { splits = refl; tree = row; spells = refl; value = operand; there = refl; is = refl }
+pub second_operand : StandsAt (ascii "{\"and\":[0,{\"+\":[\"a\",1]}]}") (0 ∷ 1 ∷ []) (ascii "{\"and\":[0,") (ascii "{\"+\":[\"a\",1]}") (ascii "]}")
+unfolding char operand row spell spell_ws spell_digits spell_int spell_frac spell_exp spell_minus spell_tails spell_chars spell_value element_at member_at child_site value_site site
+second_operand = record { splits = refl; tree = row; spells = refl; value = operand; there = refl; is = refl }

@@ -7,21 +7,21 @@ use mathlib.Core.List.{[], ◌∷◌}
 use Prim.Native.Nat.{ℕ, zero, suc, ◌+◌, ◌*◌, ◌≤◌, ◌<◌}
 use Rattle.std.proofs.Math.ListN.{length}
 use Rattle.model.specs.Bytes.{Bytes}
-use Rattle.model.specs.Limits.{maxInteger}
-use Rattle.model.specs.Refusal.{ReadFault, notJson, repeatedName, loneSurrogate, badNumber, tooLarge}
+use Rattle.model.specs.Limits.{max_integer}
+use Rattle.model.specs.Refusal.{ReadFault, not_json, repeated_name, lone_surrogate, bad_number, too_large}
 use Rattle.model.specs.Value.{Value}
 use Rattle.syntax.specs.declared.Word.{Word}
 use Rattle.syntax.specs.declared.Word.TheVariants.{TrueWord, FalseWord, NullWord}
 use Rattle.syntax.specs.Faults.{Pair}
-use Rattle.syntax.specs.Read.{Parsed, ok, bad, Parser, then, ◌>>=◌, give, fail, if, peek, eat, white, expect, literal, isPart, endNumber, digits, afterZero, firstDigit, int, tails, hexes, bytes, unit, escape, char}
-use Rattle.syntax.specs.Tokens.{within, isWhite, isDigit, digitValue, escapeOf, hexOf}
-use Rattle.syntax.specs.Utf8.{leadOf}
+use Rattle.syntax.specs.Read.{Parsed, ok, bad, Parser, then, ◌>>=◌, give, fail, if, peek, eat, white, expect, literal, is_part, end_number, digits, after_zero, first_digit, int, tails, hexes, bytes, unit, escape, char}
+use Rattle.syntax.specs.Tokens.{within, is_white, is_digit, digit_value, escape_of, hex_of}
+use Rattle.syntax.specs.Utf8.{lead_of}
 use Rattle.syntax.specs.Laws.Agreement.{At, onward, at_length, Alike, now, next}
-use Rattle.syntax.specs.Laws.Parsing.{both_if, both-hex, both-escape, both-lead}
-use Rattle.syntax.specs.Laws.Progress.{Within, Stays, moves-stays, stays_then, stays-give, stays-fail, stays-if, stays-peek, stays-eat, stays-white, stays-map, stays-expect, moves-literal, stays-digits, stays-first, stays-tails, stays-hexes, stays-escape}
+use Rattle.syntax.specs.Laws.Parsing.{both_if, both_hex, both_escape, both_lead}
+use Rattle.syntax.specs.Laws.Progress.{Within, Stays, moves_stays, stays_then, stays_give, stays_fail, stays_if, stays_peek, stays_eat, stays_white, stays_map, stays_expect, moves_literal, stays_digits, stays_first, stays_tails, stays_hexes, stays_escape}
 
-pub less-or-not : (m n : ℕ) → (m < n) ⊎ (n ≤ m)
-less-or-not m n = go (ltb m n) refl
+pub less_or_not : (m n : ℕ) → (m < n) ⊎ (n ≤ m)
+less_or_not m n = go (ltb m n) refl
   where
     go : (b : Bool) → ltb m n ≡ b → (m < n) ⊎ (n ≤ m)
     go true e = inl (ltb-true m n e)
@@ -31,11 +31,11 @@ less-or-not m n = go (ltb m n) refl
 module _ (s s' r w : Bytes) where
   -- What s and s' share decides the fault.
   abbrev pub Decides : ReadFault → ℕ → Type 0
-  Decides notJson p = p + length r < length s
-  Decides repeatedName p = p + length r < length s
-  Decides loneSurrogate p = (p + 6 + length r ≡ length s) × (Pair (drop p s') → ⊥)
-  Decides badNumber p = p + length r < length s
-  Decides tooLarge p = p + length r < length s
+  Decides not_json p = p + length r < length s
+  Decides repeated_name p = p + length r < length s
+  Decides lone_surrogate p = (p + 6 + length r ≡ length s) × (Pair (drop p s') → ⊥)
+  Decides bad_number p = p + length r < length s
+  Decides too_large p = p + length r < length s
 
   -- The outcome on s is x; that on s' is y.
   abbrev pub Claim : {A : Type 0} → Parsed A → Parsed A → Type 0
@@ -52,11 +52,11 @@ module _ (s s' r w : Bytes) where
 
   -- A fault that stands no earlier than where the two part is not decided.
   pub undecided : (k : ReadFault) (p : ℕ) → length s ≤ p + length r → Decides k p → ⊥
-  undecided notJson p l d = omega arith
-  undecided repeatedName p l d = omega arith
-  undecided loneSurrogate p l d = omega (arith, d.0)
-  undecided badNumber p l d = omega arith
-  undecided tooLarge p l d = omega arith
+  undecided not_json p l d = omega arith
+  undecided repeated_name p l d = omega arith
+  undecided lone_surrogate p l d = omega (arith, d.0)
+  undecided bad_number p l d = omega arith
+  undecided too_large p l d = omega arith
 
   -- Past what they share nothing is claimed.
   pub past : {A : Type 0} (lo at : ℕ) (x y : Parsed A) → Within s lo at x → length s ≤ at + length r → length s ≤ lo + length r → Claim x y
@@ -72,121 +72,121 @@ module _ (s s' r w : Bytes) where
       → ((a : A) (u : Bytes) (q : ℕ) → x ≡ ok a u q → At s u q → Within s q q (g a u q))
       → ((a : A) (u v : Bytes) (q : ℕ) → x ≡ ok a u q → At s u q → At s' v q → Alike r w u v → Claim (g a u q) (k a v q)) → Claim (then x g) (then y k)
   unfolding then
-  agree_then (ok a u q) y g k lo at h c f e = go (less-or-not (length r) (length u))
+  agree_then (ok a u q) y g k lo at h c f e = go (less_or_not (length r) (length u))
     where
       go : (length r < length u) ⊎ (length u ≤ length r) → Claim (g a u q) (then y k)
       go (inl l) = let z = c l in subst (λ x. Claim (g a u q) (then x k)) (sym z.1) (e a u z.0 q refl h.0 z.3 z.2)
       go (inr l) = past q q (g a u q) (then y k) (f a u q refl h.0) (omega (arith, at_length h.0)) (omega (arith, at_length h.0))
   agree_then (bad n p) y g k lo at h c f e = λ d. ap (λ z. then z k) (c d)
 
-  pub local-then : {A B : Type 0} (m : Parser A) (g : A → Parser B) → Local m → ((a : A) → Local (g a)) → Local (m >>= g)
+  pub local_then : {A B : Type 0} (m : Parser A) (g : A → Parser B) → Local m → ((a : A) → Local (g a)) → Local (m >>= g)
   unfolding ◌>>=◌
-  local-then m g f k = record {
+  local_then m g f k = record {
     stays = stays_then s m g f.stays (λ a. (k a).stays);
     agrees = λ t u at h i e. agree_then (m t at) (m u at) g g at at (f.stays t at h) (f.agrees t u at h i e) (λ a x q j l. (k a).stays x q l) (λ a x v q j l n o. (k a).agrees x v q l n o);
   }
 
-  pub local-give : {A : Type 0} (a : A) → Local (give a)
+  pub local_give : {A : Type 0} (a : A) → Local (give a)
   unfolding give
-  local-give a = record { stays = stays-give s a; agrees = λ t u at h i e l. (u, refl, e, i) }
+  local_give a = record { stays = stays_give s a; agrees = λ t u at h i e l. (u, refl, e, i) }
 
-  pub local-fail : (A : Type 0) (k : ReadFault) → Local (fail {A = A} k)
+  pub local_fail : (A : Type 0) (k : ReadFault) → Local (fail {A = A} k)
   unfolding fail
-  local-fail A k = record { stays = stays-fail s A k; agrees = λ t u at h i e d. refl }
+  local_fail A k = record { stays = stays_fail s A k; agrees = λ t u at h i e d. refl }
 
-  pub local-if : {A : Type 0} (b : Bool) (m n : Parser A) → Local m → Local n → Local (if b m n)
-  local-if b m n f g = record { stays = stays-if s b m n f.stays g.stays; agrees = λ t u at h i e. both_if Claim t u at b m n m n (f.agrees t u at h i e) (g.agrees t u at h i e) }
+  pub local_if : {A : Type 0} (b : Bool) (m n : Parser A) → Local m → Local n → Local (if b m n)
+  local_if b m n f g = record { stays = stays_if s b m n f.stays g.stays; agrees = λ t u at h i e. both_if Claim t u at b m n m n (f.agrees t u at h i e) (g.agrees t u at h i e) }
 
   -- One that looks at a byte both share.
   pub by_byte : {A : Type 0} (m : Parser A) → Stays s m → ((b : ℕ) (t u : Bytes) (at : ℕ) → At s (b ∷ t) at → At s' (b ∷ u) at → Alike r w t u → Claim (m (b ∷ t) at) (m (b ∷ u) at)) → Agrees m
   by_byte m f g t u at h i now = at_once m f at (m u at) h
   by_byte m f g t u at h i (next {t = t'} {u = u'} b e) = g b t' u' at h i e
 
-  pub local-peek : Local peek
+  pub local_peek : Local peek
   unfolding peek
-  local-peek = record { stays = stays-peek s; agrees = by_byte peek (stays-peek s) (λ b t u at h i e l. (b ∷ u, refl, next b e, i)) }
+  local_peek = record { stays = stays_peek s; agrees = by_byte peek (stays_peek s) (λ b t u at h i e l. (b ∷ u, refl, next b e, i)) }
 
-  pub local-eat : {A : Type 0} (m : Parser A) → Local m → Local (eat m)
+  pub local_eat : {A : Type 0} (m : Parser A) → Local m → Local (eat m)
   unfolding eat
-  local-eat m f = record { stays = stays-eat s m f.stays; agrees = by_byte (eat m) (stays-eat s m f.stays) (λ b t u at h i e. f.agrees t u (suc at) (onward b h) (onward b i) e) }
+  local_eat m f = record { stays = stays_eat s m f.stays; agrees = by_byte (eat m) (stays_eat s m f.stays) (λ b t u at h i e. f.agrees t u (suc at) (onward b h) (onward b i) e) }
 
-  agree-white : {A : Type 0} (m : Parser A) → Local m → Agrees (white m)
+  agree_white : {A : Type 0} (m : Parser A) → Local m → Agrees (white m)
   unfolding white
-  agree-white m f t u at h i now = at_once (white m) (stays-white s m f.stays) at (white m u at) h
-  agree-white m f t u at h i (next {t = t'} {u = u'} b e) =
-      both_if Claim (b ∷ t') (b ∷ u') at (isWhite b) _ _ _ _ (agree-white m f t' u' (suc at) (onward b h) (onward b i) e) (f.agrees (b ∷ t') (b ∷ u') at h i (next b e))
+  agree_white m f t u at h i now = at_once (white m) (stays_white s m f.stays) at (white m u at) h
+  agree_white m f t u at h i (next {t = t'} {u = u'} b e) =
+      both_if Claim (b ∷ t') (b ∷ u') at (is_white b) _ _ _ _ (agree_white m f t' u' (suc at) (onward b h) (onward b i) e) (f.agrees (b ∷ t') (b ∷ u') at h i (next b e))
 
-  pub local-white : {A : Type 0} (m : Parser A) → Local m → Local (white m)
-  local-white m f = record { stays = stays-white s m f.stays; agrees = agree-white m f }
+  pub local_white : {A : Type 0} (m : Parser A) → Local m → Local (white m)
+  local_white m f = record { stays = stays_white s m f.stays; agrees = agree_white m f }
 
-  pub agree-map : {A B : Type 0} (x y : Parsed A) (f : A → B) → Claim x y → Claim (then x (λ a. give (f a))) (then y (λ a. give (f a)))
+  pub agree_map : {A B : Type 0} (x y : Parsed A) (f : A → B) → Claim x y → Claim (then x (λ a. give (f a))) (then y (λ a. give (f a)))
   unfolding then give
-  agree-map (ok a u q) y f c = λ l. let z = c l in (z.0, ap (λ x. then x (λ a. give (f a))) z.1, z.2, z.3)
-  agree-map (bad k p) y f c = λ d. ap (λ x. then x (λ a. give (f a))) (c d)
+  agree_map (ok a u q) y f c = λ l. let z = c l in (z.0, ap (λ x. then x (λ a. give (f a))) z.1, z.2, z.3)
+  agree_map (bad k p) y f c = λ d. ap (λ x. then x (λ a. give (f a))) (c d)
 
-  pub local-map : {A B : Type 0} (m : Parser A) (f : A → B) → Local m → Local (λ t q. then (m t q) (λ a. give (f a)))
-  local-map m f g = record { stays = stays-map s m f g.stays; agrees = λ t u at h i e. agree-map (m t at) (m u at) f (g.agrees t u at h i e) }
+  pub local_map : {A B : Type 0} (m : Parser A) (f : A → B) → Local m → Local (λ t q. then (m t q) (λ a. give (f a)))
+  local_map m f g = record { stays = stays_map s m f g.stays; agrees = λ t u at h i e. agree_map (m t at) (m u at) f (g.agrees t u at h i e) }
 
   -- ---- scalars
-  agree-expect : {A : Type 0} (xs : Bytes) (a : A) → Agrees (expect xs a)
+  agree_expect : {A : Type 0} (xs : Bytes) (a : A) → Agrees (expect xs a)
   unfolding expect fail
-  agree-expect xs a t u at h i now = at_once (expect xs a) (stays-expect s xs a) at (expect xs a u at) h
-  agree-expect [] a t u at h i (next {t = t'} {u = u'} b e) = λ l. (b ∷ u', refl, next b e, i)
-  agree-expect (x ∷ xs) a t u at h i (next {t = t'} {u = u'} b e) =
-      both_if Claim (b ∷ t') (b ∷ u') at (eqb b x) _ _ _ _ (agree-expect xs a t' u' (suc at) (onward b h) (onward b i) e) (λ d. refl)
+  agree_expect xs a t u at h i now = at_once (expect xs a) (stays_expect s xs a) at (expect xs a u at) h
+  agree_expect [] a t u at h i (next {t = t'} {u = u'} b e) = λ l. (b ∷ u', refl, next b e, i)
+  agree_expect (x ∷ xs) a t u at h i (next {t = t'} {u = u'} b e) =
+      both_if Claim (b ∷ t') (b ∷ u') at (eqb b x) _ _ _ _ (agree_expect xs a t' u' (suc at) (onward b h) (onward b i) e) (λ d. refl)
 
-  pub local-literal : (k : Word) → Local (literal k)
+  pub local_literal : (k : Word) → Local (literal k)
   unfolding literal
-  local-literal k = record { stays = moves-stays s (literal k) (moves-literal s k); agrees = go k }
+  local_literal k = record { stays = moves_stays s (literal k) (moves_literal s k); agrees = go k }
     where
       go : (k : Word) → Agrees (literal k)
-      go TrueWord = agree-expect _ _
-      go FalseWord = agree-expect _ _
-      go NullWord = agree-expect _ _
+      go TrueWord = agree_expect _ _
+      go FalseWord = agree_expect _ _
+      go NullWord = agree_expect _ _
 
-  local-end : (negative : Bool) (n b : ℕ) → Local (endNumber negative n b)
-  unfolding endNumber
-  local-end negative n b = local-if (isPart b) _ _ (local-fail Value badNumber) (local-give _)
+  local_end : (negative : Bool) (n b : ℕ) → Local (end_number negative n b)
+  unfolding end_number
+  local_end negative n b = local_if (is_part b) _ _ (local_fail Value bad_number) (local_give _)
 
-  agree-digits : (negative : Bool) (n : ℕ) → Agrees (digits negative n)
+  agree_digits : (negative : Bool) (n : ℕ) → Agrees (digits negative n)
   unfolding digits fail
-  agree-digits negative n t u at h i now = at_once (digits negative n) (stays-digits s negative n) at (digits negative n u at) h
-  agree-digits negative n t u at h i (next {t = t'} {u = u'} b e) =
-      both_if Claim (b ∷ t') (b ∷ u') at (isDigit b) _ _ _ _
-      (both_if Claim (b ∷ t') (b ∷ u') at (leb (n * 10 + digitValue b) maxInteger) _ _ _ _ (agree-digits negative (n * 10 + digitValue b) t' u' (suc at) (onward b h) (onward b i) e) (λ d. refl))
-      ((local-end negative n b).agrees (b ∷ t') (b ∷ u') at h i (next b e))
+  agree_digits negative n t u at h i now = at_once (digits negative n) (stays_digits s negative n) at (digits negative n u at) h
+  agree_digits negative n t u at h i (next {t = t'} {u = u'} b e) =
+      both_if Claim (b ∷ t') (b ∷ u') at (is_digit b) _ _ _ _
+      (both_if Claim (b ∷ t') (b ∷ u') at (leb (n * 10 + digit_value b) max_integer) _ _ _ _ (agree_digits negative (n * 10 + digit_value b) t' u' (suc at) (onward b h) (onward b i) e) (λ d. refl))
+      ((local_end negative n b).agrees (b ∷ t') (b ∷ u') at h i (next b e))
 
-  local-first : (negative : Bool) (d : ℕ) → Local (firstDigit negative d)
-  unfolding firstDigit afterZero
-  local-first negative zero = record { stays = stays-first s negative 0; agrees = by_byte (firstDigit negative 0) (stays-first s negative 0) (λ b t u at h i e. (local-end negative 0 b).agrees (b ∷ t) (b ∷ u) at h i (next b e)) }
-  local-first negative (suc d) = record { stays = stays-first s negative (suc d); agrees = agree-digits negative (suc d) }
+  local_first : (negative : Bool) (d : ℕ) → Local (first_digit negative d)
+  unfolding first_digit after_zero
+  local_first negative zero = record { stays = stays_first s negative 0; agrees = by_byte (first_digit negative 0) (stays_first s negative 0) (λ b t u at h i e. (local_end negative 0 b).agrees (b ∷ t) (b ∷ u) at h i (next b e)) }
+  local_first negative (suc d) = record { stays = stays_first s negative (suc d); agrees = agree_digits negative (suc d) }
 
-  pub local-int : (negative : Bool) → Local (int negative)
+  pub local_int : (negative : Bool) → Local (int negative)
   unfolding int
-  local-int negative = local-then peek _ local-peek (λ b. local-if (isDigit b) _ _ (local-eat _ (local-first negative (digitValue b))) (local-fail Value notJson))
+  local_int negative = local_then peek _ local_peek (λ b. local_if (is_digit b) _ _ (local_eat _ (local_first negative (digit_value b))) (local_fail Value not_json))
 
   -- ---- characters
-  agree-tails : (n lo hi : ℕ) → Agrees (tails n lo hi)
+  agree_tails : (n lo hi : ℕ) → Agrees (tails n lo hi)
   unfolding tails fail
-  agree-tails n lo hi t u at h i now = at_once (tails n lo hi) (stays-tails s n lo hi) at (tails n lo hi u at) h
-  agree-tails zero lo hi t u at h i (next {t = t'} {u = u'} b e) = λ l. (b ∷ u', refl, next b e, i)
-  agree-tails (suc n) lo hi t u at h i (next {t = t'} {u = u'} b e) =
-      both_if Claim (b ∷ t') (b ∷ u') at (within lo hi b) _ _ _ _ (agree-map (tails n 0x80 0xBF t' (suc at)) (tails n 0x80 0xBF u' (suc at)) (λ bs. b ∷ bs) (agree-tails n 0x80 0xBF t' u' (suc at) (onward b h) (onward b i) e)) (λ d. refl)
+  agree_tails n lo hi t u at h i now = at_once (tails n lo hi) (stays_tails s n lo hi) at (tails n lo hi u at) h
+  agree_tails zero lo hi t u at h i (next {t = t'} {u = u'} b e) = λ l. (b ∷ u', refl, next b e, i)
+  agree_tails (suc n) lo hi t u at h i (next {t = t'} {u = u'} b e) =
+      both_if Claim (b ∷ t') (b ∷ u') at (within lo hi b) _ _ _ _ (agree_map (tails n 0x80 0xBF t' (suc at)) (tails n 0x80 0xBF u' (suc at)) (λ bs. b ∷ bs) (agree_tails n 0x80 0xBF t' u' (suc at) (onward b h) (onward b i) e)) (λ d. refl)
 
-  agree-hexes : (n c : ℕ) → Agrees (hexes n c)
+  agree_hexes : (n c : ℕ) → Agrees (hexes n c)
   unfolding hexes fail
-  agree-hexes n c t u at h i now = at_once (hexes n c) (stays-hexes s n c) at (hexes n c u at) h
-  agree-hexes zero c t u at h i (next {t = t'} {u = u'} b e) = λ l. (b ∷ u', refl, next b e, i)
-  agree-hexes (suc n) c t u at h i (next {t = t'} {u = u'} b e) = both-hex Claim (b ∷ t') (b ∷ u') at (hexOf b) _ _ _ _ (λ d. agree-hexes n (c * 16 + d) t' u' (suc at) (onward b h) (onward b i) e) (λ d. refl)
+  agree_hexes n c t u at h i now = at_once (hexes n c) (stays_hexes s n c) at (hexes n c u at) h
+  agree_hexes zero c t u at h i (next {t = t'} {u = u'} b e) = λ l. (b ∷ u', refl, next b e, i)
+  agree_hexes (suc n) c t u at h i (next {t = t'} {u = u'} b e) = both_hex Claim (b ∷ t') (b ∷ u') at (hex_of b) _ _ _ _ (λ d. agree_hexes n (c * 16 + d) t' u' (suc at) (onward b h) (onward b i) e) (λ d. refl)
 
-  agree-escape : Agrees escape
+  agree_escape : Agrees escape
   unfolding escape fail
-  agree-escape = by_byte escape (stays-escape s) (λ b t u at h i e.
-      both-escape Claim (b ∷ t) (b ∷ u) at (escapeOf b) _ _ _ _ _ _ (λ d l. (u, refl, e, onward b i))
-      (agree-map (hexes 4 0 t (suc at)) (hexes 4 0 u (suc at)) unit (agree-hexes 4 0 t u (suc at) (onward b h) (onward b i) e)) (λ d. refl))
+  agree_escape = by_byte escape (stays_escape s) (λ b t u at h i e.
+      both_escape Claim (b ∷ t) (b ∷ u) at (escape_of b) _ _ _ _ _ _ (λ d l. (u, refl, e, onward b i))
+      (agree_map (hexes 4 0 t (suc at)) (hexes 4 0 u (suc at)) unit (agree_hexes 4 0 t u (suc at) (onward b h) (onward b i) e)) (λ d. refl))
 
-  pub agree-char : Stays s char → Agrees char
+  pub agree_char : Stays s char → Agrees char
   unfolding char fail give
-  agree-char f = by_byte char f (λ b t u at h i e.
-      both-lead Claim (b ∷ t) (b ∷ u) at (leadOf b) _ _ _ _ _ _ _ _ (λ l. (b ∷ u, refl, next b e, i)) (agree-escape t u (suc at) (onward b h) (onward b i) e) (λ d. refl)
-      (λ n lo hi. agree-map (tails n lo hi t (suc at)) (tails n lo hi u (suc at)) (λ bs. bytes (b ∷ bs)) (agree-tails n lo hi t u (suc at) (onward b h) (onward b i) e)))
+  agree_char f = by_byte char f (λ b t u at h i e.
+      both_lead Claim (b ∷ t) (b ∷ u) at (lead_of b) _ _ _ _ _ _ _ _ (λ l. (b ∷ u, refl, next b e, i)) (agree_escape t u (suc at) (onward b h) (onward b i) e) (λ d. refl)
+      (λ n lo hi. agree_map (tails n lo hi t (suc at)) (tails n lo hi u (suc at)) (λ bs. bytes (b ∷ bs)) (agree_tails n lo hi t u (suc at) (onward b h) (onward b i) e)))

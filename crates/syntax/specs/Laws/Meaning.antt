@@ -3,68 +3,68 @@ use Rattle.std.specs.Prelude.{◌≡◌, refl, Bool, true, false, List, [], suc,
 use Rattle.std.proofs.Common.{sym, ap, ◌∙◌, arith}
 use Rattle.std.proofs.Math.Option.{Option, none, some}
 use Rattle.model.specs.Bytes.{Bytes}
-use Rattle.model.specs.Laws.Option.{none-some}
-use Rattle.model.specs.Size.{valueCount, itemsCount, membersCount}
-use Rattle.model.specs.Value.{Value, scalar, array, object, string, Values, no_items, item, Members, no-members, member}
-use Rattle.syntax.specs.Faults.{countValue, countElements, countMembers}
-use Rattle.syntax.specs.Grammar.{JValue, jtrue, jfalse, jnull, jnumber, jstring, jempty-array, jarray, jempty-object, jobject, JElements, last-element, element, JMembers, last-member, jmember, intNumber, map, map₂, charsMeaning, fresh, seenWith, memberOf, valueMeaning, elementsMeaning, membersMeaning}
+use Rattle.model.specs.Laws.Option.{none_some}
+use Rattle.model.specs.Size.{value_count, items_count, members_count}
+use Rattle.model.specs.Value.{Value, scalar, array, object, string, Values, no_items, item, Members, no_members, member}
+use Rattle.syntax.specs.Faults.{count_value, count_elements, count_members}
+use Rattle.syntax.specs.Grammar.{JValue, jtrue, jfalse, jnull, jnumber, jstring, jempty_array, jarray, jempty_object, jobject, JElements, last_element, element, JMembers, last_member, jmember, int_number, map, map₂, chars_meaning, fresh, seen_with, member_of, value_meaning, elements_meaning, members_meaning}
 use Rattle.syntax.specs.Read.{among}
-use Rattle.syntax.specs.Laws.Sound.{number-scalar}
+use Rattle.syntax.specs.Laws.Sound.{number_scalar}
 
 pub some_is : {A : Type 0} {a b : A} → some a ≡ some b → a ≡ b
 some_is {a} {b} e = cc
 
-pub map-some : {A B : Type 0} (f : A → B) (o : Option A) {b : B} → map f o ≡ some b → (a : A) × (o ≡ some a) × (f a ≡ b)
+pub map_some : {A B : Type 0} (f : A → B) (o : Option A) {b : B} → map f o ≡ some b → (a : A) × (o ≡ some a) × (f a ≡ b)
 unfolding map
-map-some f none e = none-some e
-map-some f (some a) e = (a, refl, some_is e)
+map_some f none e = none_some e
+map_some f (some a) e = (a, refl, some_is e)
 
-pub map₂-some : {A B C : Type 0} (f : A → B → C) (o : Option A) (p : Option B) {c : C} → map₂ f o p ≡ some c → (a : A) × (b : B) × (o ≡ some a) × (p ≡ some b) × (f a b ≡ c)
+pub map₂_some : {A B C : Type 0} (f : A → B → C) (o : Option A) (p : Option B) {c : C} → map₂ f o p ≡ some c → (a : A) × (b : B) × (o ≡ some a) × (p ≡ some b) × (f a b ≡ c)
 unfolding map₂
-map₂-some f none p e = none-some e
-map₂-some f (some a) none e = none-some e
-map₂-some f (some a) (some b) e = (a, b, refl, refl, some_is e)
+map₂_some f none p e = none_some e
+map₂_some f (some a) none e = none_some e
+map₂_some f (some a) (some b) e = (a, b, refl, refl, some_is e)
 
-pub member-some : (o : Option Bytes) (p : Option Value) (r : Option Members) {c : Members} → memberOf o p r ≡ some c → (n : Bytes) × (v : Value) × (ms : Members) × (o ≡ some n) × (p ≡ some v) × (r ≡ some ms) × (member n v ms ≡ c)
-unfolding memberOf
-member-some none p r e = none-some e
-member-some (some n) none r e = none-some e
-member-some (some n) (some v) none e = none-some e
-member-some (some n) (some v) (some ms) e = (n, v, ms, refl, refl, refl, some_is e)
+pub member_some : (o : Option Bytes) (p : Option Value) (r : Option Members) {c : Members} → member_of o p r ≡ some c → (n : Bytes) × (v : Value) × (ms : Members) × (o ≡ some n) × (p ≡ some v) × (r ≡ some ms) × (member n v ms ≡ c)
+unfolding member_of
+member_some none p r e = none_some e
+member_some (some n) none r e = none_some e
+member_some (some n) (some v) none e = none_some e
+member_some (some n) (some v) (some ms) e = (n, v, ms, refl, refl, refl, some_is e)
 
-pub fresh-some : (seen : List Bytes) (o : Option Bytes) (n : Bytes) → fresh seen o ≡ some n → (o ≡ some n) × (among n seen ≡ false)
+pub fresh_some : (seen : List Bytes) (o : Option Bytes) (n : Bytes) → fresh seen o ≡ some n → (o ≡ some n) × (among n seen ≡ false)
 unfolding fresh
-fresh-some seen none n e = none-some e
-fresh-some seen (some k) n e = go (among k seen) refl e
+fresh_some seen none n e = none_some e
+fresh_some seen (some k) n e = go (among k seen) refl e
   where
     go : (b : Bool) → among k seen ≡ b → ◌≡◌ {A = Option Bytes} (elim b [ true ↦ none | false ↦ some k ]) (some n) → (some k ≡ some n) × (among n seen ≡ false)
-    go true i e = none-some e
+    go true i e = none_some e
     go false i e = (e, ap (λ x. among x seen) (sym (some_is e)) ∙ i)
 
 mutual
-  unfolding valueMeaning countValue valueCount
+  unfolding value_meaning count_value value_count
 
-  pub count-value : (d : JValue) (v : Value) → valueMeaning d ≡ some v → valueCount v ≡ countValue d
-  count-value jtrue v h = ap valueCount (sym (some_is h))
-  count-value jfalse v h = ap valueCount (sym (some_is h))
-  count-value jnull v h = ap valueCount (sym (some_is h))
-  count-value (jnumber negative i fr ex) v h = (number-scalar negative (intNumber i) fr ex v h).0
-  count-value (jstring cs) v h = let x = map-some (λ s. scalar (string s)) (charsMeaning cs none) h in ap valueCount (sym x.2)
-  count-value (jempty-array w) v h = ap valueCount (sym (some_is h))
-  count-value (jarray w es) v h = let x = map-some array (elementsMeaning es) h in ap valueCount (sym x.2) ∙ ap suc (count-elements es x.0 x.1)
-  count-value (jempty-object w) v h = ap valueCount (sym (some_is h))
-  count-value (jobject w ms) v h = let x = map-some object (membersMeaning ms []) h in ap valueCount (sym x.2) ∙ ap suc (count-members ms [] x.0 x.1)
+  pub count_value_lem : (d : JValue) (v : Value) → value_meaning d ≡ some v → value_count v ≡ count_value d
+  count_value_lem jtrue v h = ap value_count (sym (some_is h))
+  count_value_lem jfalse v h = ap value_count (sym (some_is h))
+  count_value_lem jnull v h = ap value_count (sym (some_is h))
+  count_value_lem (jnumber negative i fr ex) v h = (number_scalar negative (int_number i) fr ex v h).0
+  count_value_lem (jstring cs) v h = let x = map_some (λ s. scalar (string s)) (chars_meaning cs none) h in ap value_count (sym x.2)
+  count_value_lem (jempty_array w) v h = ap value_count (sym (some_is h))
+  count_value_lem (jarray w es) v h = let x = map_some array (elements_meaning es) h in ap value_count (sym x.2) ∙ ap suc (count_elements_lem es x.0 x.1)
+  count_value_lem (jempty_object w) v h = ap value_count (sym (some_is h))
+  count_value_lem (jobject w ms) v h = let x = map_some object (members_meaning ms []) h in ap value_count (sym x.2) ∙ ap suc (count_members_lem ms [] x.0 x.1)
 
-  count-elements : (es : JElements) (vs : Values) → elementsMeaning es ≡ some vs → itemsCount vs ≡ countElements es
-  count-elements (last-element d w) vs h = let x = map-some (λ z. item z no_items) (valueMeaning d) h in ap itemsCount (sym x.2) ∙ omega (arith, count-value d x.0 x.1)
-  count-elements (element d w u es) vs h =
-      let x = map₂-some item (valueMeaning d) (elementsMeaning es) h in
-      ap itemsCount (sym x.4) ∙ omega (arith, count-value d x.0 x.2, count-elements es x.1 x.3)
+  count_elements_lem : (es : JElements) (vs : Values) → elements_meaning es ≡ some vs → items_count vs ≡ count_elements es
+  count_elements_lem (last_element d w) vs h = let x = map_some (λ z. item z no_items) (value_meaning d) h in ap items_count (sym x.2) ∙ omega (arith, count_value_lem d x.0 x.1)
+  count_elements_lem (element d w u es) vs h =
+      let x = map₂_some item (value_meaning d) (elements_meaning es) h in
+      ap items_count (sym x.4) ∙ omega (arith, count_value_lem d x.0 x.2, count_elements_lem es x.1 x.3)
 
-  count-members : (es : JMembers) (seen : List Bytes) (ms : Members) → membersMeaning es seen ≡ some ms → membersCount ms ≡ countMembers es
-  count-members (last-member n w u d x) seen ms h =
-      let m = member-some (fresh seen (charsMeaning n none)) (valueMeaning d) (some no-members) h in
-      ap membersCount (sym m.6) ∙ ap (λ z. valueCount m.1 + membersCount z) (sym (some_is m.5)) ∙ omega (arith, count-value d m.1 m.4)
-  count-members (jmember n w u d x z es) seen ms h =
-      let m = member-some (fresh seen (charsMeaning n none)) (valueMeaning d) (membersMeaning es (seenWith seen (charsMeaning n none))) h in
-      ap membersCount (sym m.6) ∙ omega (arith, count-value d m.1 m.4, count-members es (seenWith seen (charsMeaning n none)) m.2 m.5)
+  count_members_lem : (es : JMembers) (seen : List Bytes) (ms : Members) → members_meaning es seen ≡ some ms → members_count ms ≡ count_members es
+  count_members_lem (last_member n w u d x) seen ms h =
+      let m = member_some (fresh seen (chars_meaning n none)) (value_meaning d) (some no_members) h in
+      ap members_count (sym m.6) ∙ ap (λ z. value_count m.1 + members_count z) (sym (some_is m.5)) ∙ omega (arith, count_value_lem d m.1 m.4)
+  count_members_lem (jmember n w u d x z es) seen ms h =
+      let m = member_some (fresh seen (chars_meaning n none)) (value_meaning d) (members_meaning es (seen_with seen (chars_meaning n none))) h in
+      ap members_count (sym m.6) ∙ omega (arith, count_value_lem d m.1 m.4, count_members_lem es (seen_with seen (chars_meaning n none)) m.2 m.5)

@@ -4,51 +4,51 @@ use Rattle.std.proofs.Common.{sym, ap, ◌∙◌, append_assoc, arith, le-leb, l
 use Rattle.std.proofs.Math.Option.{some}
 use Rattle.std.proofs.Math.Decide.{dec_le}
 use Rattle.std.specs.Int.Signed.{le_z}
-use Rattle.model.specs.Bytes.{Bytes, digitByte}
+use Rattle.model.specs.Bytes.{Bytes, digit_byte}
 use Rattle.model.specs.Laws.Logic.{and_l, and_r}
-use Rattle.model.specs.Limits.{maxInteger}
-use Rattle.model.specs.Value.{scalar, integer, withinLimits}
-use Rattle.model.specs.Writing.{decimalWithin, decimal, integerText}
-use Rattle.syntax.specs.Grammar.{Digits, no-digits, digit, Int, zero-int, int, spellMinus, spellDigits, spellInt, digitsNumber, intNumber, limited}
+use Rattle.model.specs.Limits.{max_integer}
+use Rattle.model.specs.Value.{scalar, integer, within_limits}
+use Rattle.model.specs.Writing.{decimal_within, decimal, integer_text}
+use Rattle.syntax.specs.Grammar.{Digits, no_digits, digit, Int, zero_int, int, spell_minus, spell_digits, spell_int, digits_number, int_number, limited}
 use Rattle.syntax.specs.Read.{signed}
-use Rattle.syntax.specs.Tokens.{isDigit, isDigit1-9}
-use Rattle.syntax.specs.Laws.Tokens.{bounds-within}
+use Rattle.syntax.specs.Tokens.{is_digit, is_digit1_9}
+use Rattle.syntax.specs.Laws.Tokens.{bounds_within}
 
 -- ---- digits
-digit-is : (n : ℕ) → T (isDigit (digitByte n))
-unfolding isDigit
-digit-is n = bounds-within 0x30 0x39 (digitByte n) (omega arith) (omega arith)
+digit_is : (n : ℕ) → T (is_digit (digit_byte n))
+unfolding is_digit
+digit_is n = bounds_within 0x30 0x39 (digit_byte n) (omega arith) (omega arith)
 
-digit-is-1-9 : (n : ℕ) → 1 ≤ n → n < 10 → T (isDigit1-9 (digitByte n))
-unfolding isDigit1-9
-digit-is-1-9 n l h = bounds-within 0x31 0x39 (digitByte n) (omega arith) (omega arith)
+digit_is_1_9 : (n : ℕ) → 1 ≤ n → n < 10 → T (is_digit1_9 (digit_byte n))
+unfolding is_digit1_9
+digit_is_1_9 n l h = bounds_within 0x31 0x39 (digit_byte n) (omega arith) (omega arith)
 
 -- A derivation of the digits of n, which is not 0, with further digits behind them.
 record Leading (text : Bytes) (n : ℕ) (ds : Digits) : Type 0 where
   tree : Int
-  spells : (y : Bytes) → spellInt tree y ≡ text ++ spellDigits ds y
-  means : intNumber tree ≡ digitsNumber n ds
+  spells : (y : Bytes) → spell_int tree y ≡ text ++ spell_digits ds y
+  means : int_number tree ≡ digits_number n ds
 
-leading-digit : (n : ℕ) (ds : Digits) → 1 ≤ n → n < 10 → Leading (digitByte n ∷ []) n ds
-unfolding spellInt intNumber
-leading-digit n ds l h = record {
-  tree = int (digitByte n) (digit-is-1-9 n l h) ds;
+leading_digit : (n : ℕ) (ds : Digits) → 1 ≤ n → n < 10 → Leading (digit_byte n ∷ []) n ds
+unfolding spell_int int_number
+leading_digit n ds l h = record {
+  tree = int (digit_byte n) (digit_is_1_9 n l h) ds;
   spells = λ y. refl;
-  means = let e : 0x30 + n % 10 - 0x30 ≡ n = omega arith in ap (λ m. digitsNumber m ds) e;
+  means = let e : 0x30 + n % 10 - 0x30 ≡ n = omega arith in ap (λ m. digits_number m ds) e;
 }
 
-leading : (k n : ℕ) (ds : Digits) → 1 ≤ n → n ≤ k → Leading (decimalWithin k n) n ds
-unfolding spellDigits digitsNumber
+leading : (k n : ℕ) (ds : Digits) → 1 ≤ n → n ≤ k → Leading (decimal_within k n) n ds
+unfolding spell_digits digits_number
 leading zero n ds l h = absurd (omega arith)
 leading (suc k) n ds l h = elim (dec_le 10 n) [
-  | no a ↦ rw (lt-ltb n 10 (omega arith)) (leading-digit n ds l (omega arith))
+  | no a ↦ rw (lt-ltb n 10 (omega arith)) (leading_digit n ds l (omega arith))
   | yes a ↦
-      let more = leading k (n / 10) (digit (digitByte n) (digit-is n) ds) (omega arith) (omega arith) in
-      let e : n / 10 * 10 + (digitByte n - 0x30) ≡ n = omega arith in
+      let more = leading k (n / 10) (digit (digit_byte n) (digit_is n) ds) (omega arith) (omega arith) in
+      let e : n / 10 * 10 + (digit_byte n - 0x30) ≡ n = omega arith in
       rw (le-ltb n 10 a) (record {
         tree = more.tree;
-        spells = λ y. more.spells y ∙ sym (append_assoc (decimalWithin k (n / 10)) (digitByte n ∷ []) (spellDigits ds y));
-        means = more.means ∙ ap (λ m. digitsNumber m ds) e;
+        spells = λ y. more.spells y ∙ sym (append_assoc (decimal_within k (n / 10)) (digit_byte n ∷ []) (spell_digits ds y));
+        means = more.means ∙ ap (λ m. digits_number m ds) e;
       })
 ]
 
@@ -57,25 +57,25 @@ leading (suc k) n ds l h = elim (dec_le 10 n) [
 pub record DerivedInteger (z : ℤ) : Type 0 where
   pub negative : Bool
   pub digits : Int
-  pub spells : (y : Bytes) → spellMinus negative (spellInt digits y) ≡ integerText z ++ y
-  pub means : limited negative (intNumber digits) ≡ some (scalar (integer z))
+  pub spells : (y : Bytes) → spell_minus negative (spell_int digits y) ≡ integer_text z ++ y
+  pub means : limited negative (int_number digits) ≡ some (scalar (integer z))
 
-limited-some : (negative : Bool) (m n : ℕ) → m ≡ n → n ≤ maxInteger → limited negative m ≡ some (signed negative n)
+limited_some : (negative : Bool) (m n : ℕ) → m ≡ n → n ≤ max_integer → limited negative m ≡ some (signed negative n)
 unfolding limited
-limited-some negative m n e h = ap (limited negative) e ∙ rw (le-leb n maxInteger h, limited)
+limited_some negative m n e h = ap (limited negative) e ∙ rw (le-leb n max_integer h, limited)
 
-above-least : (m n : ℕ) → T (le_z (neg_ℤ (pos m)) (negsuc n)) → suc n ≤ m
-above-least zero n h = absurd h
-above-least (suc m) n h = omega (arith, leb→le n m h)
+above_least : (m n : ℕ) → T (le_z (neg_ℤ (pos m)) (negsuc n)) → suc n ≤ m
+above_least zero n h = absurd h
+above_least (suc m) n h = omega (arith, leb→le n m h)
 
-pub derived-integer : (z : ℤ) → T (withinLimits z) → DerivedInteger z
-unfolding decimal spellMinus spellInt spellDigits digitsNumber intNumber signed
-derived-integer (pos zero) h = record { negative = false; digits = zero-int; spells = λ y. refl; means = limited-some false 0 0 refl (omega arith) }
-derived-integer (pos (suc n)) h =
-    let l = leading (suc n) (suc n) no-digits (omega arith) (omega arith) in
-    let within = leb→le (suc n) maxInteger (and_r (le_z (neg_ℤ (pos maxInteger)) (pos (suc n))) _ h) in
-    record { negative = false; digits = l.tree; spells = l.spells; means = limited-some false (intNumber l.tree) (suc n) l.means within }
-derived-integer (negsuc n) h =
-    let l = leading (suc n) (suc n) no-digits (omega arith) (omega arith) in
-    let within = above-least maxInteger n (and_l (le_z (neg_ℤ (pos maxInteger)) (negsuc n)) _ h) in
-    record { negative = true; digits = l.tree; spells = λ y. ap (λ s. 0x2D ∷ s) (l.spells y); means = limited-some true (intNumber l.tree) (suc n) l.means within }
+pub derived_integer : (z : ℤ) → T (within_limits z) → DerivedInteger z
+unfolding decimal spell_minus spell_int spell_digits digits_number int_number signed
+derived_integer (pos zero) h = record { negative = false; digits = zero_int; spells = λ y. refl; means = limited_some false 0 0 refl (omega arith) }
+derived_integer (pos (suc n)) h =
+    let l = leading (suc n) (suc n) no_digits (omega arith) (omega arith) in
+    let within = leb→le (suc n) max_integer (and_r (le_z (neg_ℤ (pos max_integer)) (pos (suc n))) _ h) in
+    record { negative = false; digits = l.tree; spells = l.spells; means = limited_some false (int_number l.tree) (suc n) l.means within }
+derived_integer (negsuc n) h =
+    let l = leading (suc n) (suc n) no_digits (omega arith) (omega arith) in
+    let within = above_least max_integer n (and_l (le_z (neg_ℤ (pos max_integer)) (negsuc n)) _ h) in
+    record { negative = true; digits = l.tree; spells = λ y. ap (λ s. 0x2D ∷ s) (l.spells y); means = limited_some true (int_number l.tree) (suc n) l.means within }

@@ -1,9 +1,9 @@
 use mathlib.Core.Path.{sym, ◌∙◌, ap}
 use borrow.Author.Rules.{rules}
 use mir.Facts.{to_z-of_z}
-use Rattle.calendar.specs.Contract.{instantResult}
-use Rattle.test_calendar.specs.Contract.{unitFound}
-use Rattle.test_calendar.proofs.Entry.{no-unit, shift-out, shift_in}
+use Rattle.calendar.specs.Contract.{instant_result}
+use Rattle.test_calendar.specs.Contract.{unit_found}
+use Rattle.test_calendar.proofs.Entry.{no_unit, shift_out, shift_in}
 use Rattle.test_calendar.proofs.calendar_shift.Statement.{statement}
 use Rattle.test_calendar.proofs.calendar_shift.Tie as tie
 
@@ -19,7 +19,7 @@ enum_told c = search rules
 returns : tie.Need-returns
 returns c =
     let a = c.before.before.before.args in
-    no-unit a.from a.amount a.unit (sym (ap unitFound c.enum_told.given.1) ∙ c.before.before.unit-of.ensures)
+    no_unit a.from a.amount a.unit (sym (ap unit_found c.enum_told.given.1) ∙ c.before.before.unit_of_lem.ensures)
 
 new-requires : tie.Need-new-requires
 new-requires c κs = search rules
@@ -39,10 +39,10 @@ returns-2 c =
     let known = made.before.before in
     let start = known.before.before.before in
     let a = start.args in
-    shift-out a.from a.amount a.unit _
-    (sym (ap unitFound known.unit.given.1) ∙ known.before.before.unit-of.ensures)
+    shift_out a.from a.amount a.unit _
+    (sym (ap unit_found known.unit.given.1) ∙ known.before.before.unit_of_lem.ensures)
     (to_z-of_z start.ranges.from)
-    (sym (ap instantResult c.before.before.enum-told2.given.1) ∙ made.new.ensures)
+    (sym (ap instant_result c.before.before.enum-told2.given.1) ∙ made.new.ensures)
     c.put-date.ensures
 
 shift-requires : tie.Need-shift-requires
@@ -63,9 +63,9 @@ returns-3 c =
     let start = known.before.before.before in
     let a = start.args in
     shift_in a.from a.amount a.unit _
-    (sym (ap unitFound known.unit.given.1) ∙ known.before.before.unit-of.ensures)
+    (sym (ap unit_found known.unit.given.1) ∙ known.before.before.unit_of_lem.ensures)
     (to_z-of_z start.ranges.from)
-    (sym (ap instantResult found.t.given.1) ∙ made.new.ensures)
+    (sym (ap instant_result found.t.given.1) ∙ made.new.ensures)
     (to_z-of_z start.ranges.amount)
     (c.before.before.dated.ensures ∙ moved.shift.ensures)
     c.put-date2.ensures

@@ -1,13 +1,13 @@
 use mathlib.Core.Path.{sym, ◌∙◌, ap}
 use borrow.Author.Rules.{rules}
 use mir.Facts.{to_z-of_z}
-use Rattle.calendar.specs.Contract.{instantResult}
-use Rattle.test_calendar.proofs.Entry.{no-area, text_out, text_in}
+use Rattle.calendar.specs.Contract.{instant_result}
+use Rattle.test_calendar.proofs.Entry.{no_area, text_out, text_in}
 use Rattle.test_calendar.proofs.calendar_text.Statement.{statement}
 use Rattle.test_calendar.proofs.calendar_text.Tie as tie
 
 returns : tie.Need-returns
-returns c = no-area c.before.before.args.ms c.before.before.args.text.now c.if1.true
+returns c = no_area c.before.before.args.ms c.before.before.args.text.now c.if1.true
 
 new-requires : tie.Need-new-requires
 new-requires c κs = search rules
@@ -24,7 +24,7 @@ returns-2 c =
     let start = made.before.before.before in
     text_out start.args.ms start.args.text.now made.before.if1.false
     (to_z-of_z start.ranges.ms)
-    (sym (ap instantResult c.enum_told.given.1) ∙ made.new.ensures)
+    (sym (ap instant_result c.enum_told.given.1) ∙ made.new.ensures)
 
 new-requires-2 : tie.Need-new-requires-2
 new-requires-2 c κs = search rules
@@ -42,7 +42,7 @@ returns-3 c =
     let start = made.before.before.before in
     text_in start.args.ms start.args.text.now made.before.if1.false
     (to_z-of_z start.ranges.ms)
-    (sym (ap instantResult found.t.given.1) ∙ made.new.ensures)
+    (sym (ap instant_result found.t.given.1) ∙ made.new.ensures)
     (c.before.before.put-text.ensures ∙ c.before.before.before.before.new2.ensures)
 
 pub calendar-text-spec : {M : Type 1} → statement M

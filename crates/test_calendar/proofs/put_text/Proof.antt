@@ -4,7 +4,7 @@ use Prim.Native.Nat.{◌-◌, ◌≤◌}
 use native.Mathlib.Omega.{arith}
 use borrow.Author.Rules.{rules}
 use lib.ListN.{length, length-set, take}
-use Rattle.test_calendar.proofs.Entry.{copied, all-copied}
+use Rattle.test_calendar.proofs.Entry.{copied, all_copied}
 use Rattle.test_calendar.proofs.put_text.Statement.{statement}
 use Rattle.test_calendar.proofs.put_text.Tie as tie
 
@@ -43,7 +43,7 @@ returns : tie.Need-returns invariant-loop decreases-loop
 returns c =
     let l = c.before.loop in
     let e : l.i ≡ 24 = omega arith in
-    all-copied 24 l.area c.before.before.before.args.text.bytes l.invariant.1 (search rules) (rw e at l.invariant.2)
+    all_copied 24 l.area c.before.before.before.args.text.bytes l.invariant.1 (search rules) (rw e at l.invariant.2)
 
 pub put-text-spec : {M : Type 1} → statement M
 put-text-spec =

@@ -1,5 +1,5 @@
 use Rattle.std.proofs.Common.{rules}
-use Rattle.test_dates.proofs.Numbers.{small, fits, minus-fits}
+use Rattle.test_dates.proofs.Numbers.{small, fits, minus_fits}
 use Rattle.test_dates.proofs.negative.Statement.{statement}
 use Rattle.test_dates.proofs.negative.Tie as tie
 
@@ -10,7 +10,7 @@ cast-t4 : tie.Need-overflow-cast-t4
 cast-t4 c = fits _ (small c.before.digits.given.1 c.before.before.before.requires)
 
 sub-t5 : tie.Need-overflow-sub-t5
-sub-t5 c = minus-fits _ (small c.before.digits.given.1 c.before.before.before.requires)
+sub-t5 c = minus_fits _ (small c.before.digits.given.1 c.before.before.before.requires)
 
 enum_told : tie.Need-enum-told
 enum_told c = search rules

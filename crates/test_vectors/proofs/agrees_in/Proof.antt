@@ -1,8 +1,8 @@
 use borrow.Author.Rules.{rules}
 use mathlib.Core.Path.{sym, ◌∙◌}
 use borrow.Author.Tests.{not-true, not-false}
-use Rattle.test_vectors.specs.Cases.{agreesIn}
-use Rattle.test_vectors.proofs.Agreement.{unexpected, as-expected}
+use Rattle.test_vectors.specs.Cases.{agrees_in}
+use Rattle.test_vectors.proofs.Agreement.{unexpected, as_expected}
 use Rattle.test_vectors.proofs.agrees_in.Statement.{statement}
 use Rattle.test_vectors.proofs.agrees_in.Tie as tie
 
@@ -16,7 +16,7 @@ same_length : tie.Need-same-length
 same_length c = search rules
 
 returns : tie.Need-returns
-unfolding agreesIn
+unfolding agrees_in
 returns c = unexpected c.before.before.before.before.before.before.before.before.before.before.args.h c.before.before.before.before.before.before.before.before.before.before.args.answer.now c.before.before.before.before.evaluate.ensures (sym c.before.is-expected.ensures ∙ not-true _ c.if1.true)
 
 is-text-requires : tie.Need-is-text-requires
@@ -26,8 +26,8 @@ same-length-2 : tie.Need-same-length-2
 same-length-2 c = search rules
 
 returns-2 : tie.Need-returns-2
-unfolding agreesIn
-returns-2 c = as-expected c.before.before.before.before.before.before.before.before.before.before.before.before.args.h c.before.before.before.before.before.before.before.before.before.before.before.before.args.answer.now c.before.before.before.before.before.before.evaluate.ensures (sym c.before.before.before.is-expected.ensures ∙ not-false _ c.before.before.if1.false) c.is-text.ensures
+unfolding agrees_in
+returns-2 c = as_expected c.before.before.before.before.before.before.before.before.before.before.before.before.args.h c.before.before.before.before.before.before.before.before.before.before.before.before.args.answer.now c.before.before.before.before.before.before.evaluate.ensures (sym c.before.before.before.is-expected.ensures ∙ not-false _ c.before.before.if1.false) c.is_text_lem.ensures
 
 pub agrees-in-spec : {M : Type 1} → statement M
 agrees-in-spec =

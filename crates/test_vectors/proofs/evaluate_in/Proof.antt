@@ -1,7 +1,7 @@
 use borrow.Author.Rules.{rules}
-use Rattle.model.specs.Limits.{maxTextBytes, maxValues, heapCells}
-use Rattle.syntax.specs.Layout.{rowBytes, entryBytes}
-use Rattle.heap.specs.Cells.{cellBytes}
+use Rattle.model.specs.Limits.{max_text_bytes, max_values, heap_cells}
+use Rattle.syntax.specs.Layout.{row_bytes, entry_bytes}
+use Rattle.heap.specs.Cells.{cell_bytes}
 use Rattle.test_vectors.proofs.Agreement.{Sized, entry_gives}
 use Rattle.test_vectors.proofs.evaluate_in.Statement.{statement}
 use Rattle.test_vectors.proofs.evaluate_in.Tie as tie
@@ -13,12 +13,12 @@ same_length : tie.Need-same-length
 same_length c = search rules
 
 sized : (c : tie.After-slice-known2) → Sized c.before.before.before.before.before.before.before.before.before.before.before.before.before.before.before.before.args.rule-table.now c.before.before.before.before.before.before.before.before.before.before.before.before.before.before.before.before.args.rule-strings.now c.before.before.before.before.before.before.before.before.before.before.before.before.before.before.before.before.args.record-table.now c.before.before.before.before.before.before.before.before.before.before.before.before.before.before.before.before.args.record-strings.now c.before.before.before.before.before.before.before.before.before.before.before.before.before.before.before.before.args.cells.now
-unfolding maxTextBytes maxValues heapCells rowBytes entryBytes cellBytes
+unfolding max_text_bytes max_values heap_cells row_bytes entry_bytes cell_bytes
 sized c = record {
-  rule-rows = search rules;
-  rule-text = search rules;
-  record-rows = search rules;
-  record-text = search rules;
+  rule_rows = search rules;
+  rule_text_lem = search rules;
+  record_rows = search rules;
+  record_text_lem = search rules;
   heap = search rules;
 }
 

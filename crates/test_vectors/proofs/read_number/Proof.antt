@@ -2,7 +2,7 @@ use borrow.Author.Rules.{rules}
 use mathlib.Core.Path.{sym, ◌∙◌}
 use Prim.Native.Nat.{◌-◌}
 use lib.ListN.{length}
-use Rattle.test_vectors.proofs.Digits.{ReadTo, number-begins, number-stops, number-goes, number-ends}
+use Rattle.test_vectors.proofs.Digits.{ReadTo, number_begins, number_stops, number_goes, number_ends}
 use borrow.Author.Tests.{not-true, not-false}
 use Rattle.test_vectors.proofs.read_number.Statement.{statement}
 use Rattle.test_vectors.proofs.read_number.Tie as tie
@@ -14,7 +14,7 @@ abbrev decreases-loop : tie.decreases-loop
 decreases-loop text at n₀ i₀ n i = length text - i
 
 loop-holds : tie.Need-loop-init invariant-loop decreases-loop
-loop-holds c = number-begins c.before.args.text.now c.before.args.at
+loop-holds c = number_begins c.before.args.text.now c.before.args.at
 
 shared-slice-read-x : tie.Need-shared-slice-read-x invariant-loop decreases-loop
 shared-slice-read-x c = search rules
@@ -26,7 +26,7 @@ add-t11 : tie.Need-overflow-add-t11 invariant-loop decreases-loop
 add-t11 c = search rules
 
 returns : tie.Need-returns invariant-loop decreases-loop
-returns c = number-stops c.before.before.before.before.loop.invariant (search rules) (sym c.before.takes-digit.ensures ∙ not-true _ c.if1.true)
+returns c = number_stops c.before.before.before.before.loop.invariant (search rules) (sym c.before.takes-digit.ensures ∙ not-true _ c.if1.true)
 
 with-digit-requires : tie.Need-with-digit-requires invariant-loop decreases-loop
 with-digit-requires c κs = sym c.before.takes-digit.ensures ∙ not-false _ c.if1.false
@@ -38,10 +38,10 @@ loop-less : tie.Need-loop-smaller invariant-loop decreases-loop
 loop-less c = search rules
 
 loop-again : tie.Need-loop-preserved invariant-loop decreases-loop
-loop-again c = number-goes c.before.before.before.before.before.loop.invariant (search rules) (sym c.before.before.takes-digit.ensures ∙ not-false _ c.before.if1.false) c.with-digit.ensures
+loop-again c = number_goes c.before.before.before.before.before.loop.invariant (search rules) (sym c.before.before.takes-digit.ensures ∙ not-false _ c.before.if1.false) c.with-digit.ensures
 
 returns-2 : tie.Need-returns-2 invariant-loop decreases-loop
-returns-2 c = number-ends c.before.loop.invariant (search rules)
+returns-2 c = number_ends c.before.loop.invariant (search rules)
 
 pub read-number-spec : {M : Type 1} → statement M
 read-number-spec =

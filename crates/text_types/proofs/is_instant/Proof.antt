@@ -1,13 +1,13 @@
 use borrow.Author.Rules.{rules}
 use mathlib.Core.Path.{◌≡◌, sym, ap}
-use Rattle.calendar.specs.Contract.{dateResult}
+use Rattle.calendar.specs.Contract.{date_result}
 use Rattle.calendar.specs.declared.instant.DateAnswer.{DateAnswer}
-use Rattle.model.specs.Result.{isOk}
+use Rattle.model.specs.Result.{is_ok}
 use Rattle.text_types.proofs.is_instant.Statement.{statement}
 use Rattle.text_types.proofs.is_instant.Tie as tie
 
-told : {a b : DateAnswer} → a ≡ b → isOk (dateResult b) ≡ isOk (dateResult a)
-told e = ap (λ x. isOk (dateResult x)) (sym e)
+told : {a b : DateAnswer} → a ≡ b → is_ok (date_result b) ≡ is_ok (date_result a)
+told e = ap (λ x. is_ok (date_result x)) (sym e)
 
 enum_told : tie.Need-enum-told
 enum_told c = search rules

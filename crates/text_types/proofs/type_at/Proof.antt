@@ -1,5 +1,5 @@
 use Rattle.model.specs.Sheet.{words}
-use Rattle.bytes.specs.Laws.Names.{no-entry}
+use Rattle.octets.specs.Laws.Names.{no_entry}
 use Rattle.text_types.proofs.type_at.Statement.{statement}
 use Rattle.text_types.proofs.type_at.Tie as tie
 
@@ -17,4 +17,4 @@ type-at-spec =
     (λ c. rw c.match.keys8)
     (λ c. rw c.match.keys9)
     (λ c. rw c.match.keys10)
-    (λ c. no-entry words c.before.args.i c.match.rest))
+    (λ c. no_entry words c.before.args.i c.match.rest))

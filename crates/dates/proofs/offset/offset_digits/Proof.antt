@@ -1,7 +1,7 @@
 use borrow.Author.Rules.{rules}
 use mathlib.Core.Path.{refl}
 use native.Mathlib.Omega.{arith}
-use Rattle.model.specs.DateText.{offsetDigits}
+use Rattle.model.specs.DateText.{offset_digits}
 use Rattle.model.specs.Laws.Branches.{taken, passed}
 use Rattle.dates.proofs.Offsets.{offset_read}
 use Rattle.dates.proofs.offset.offset_digits.Statement.{statement}
@@ -20,7 +20,7 @@ offset-of-requires : tie.Need-offset-of-requires
 offset-of-requires c κs = search rules
 
 returns : tie.Need-returns
-unfolding offsetDigits
+unfolding offset_digits
 returns c =
     let t = c.before.before in (
       taken _ _ t.before.like.ensures t.if1.true
@@ -41,7 +41,7 @@ offset-of-requires-2 : tie.Need-offset-of-requires-2
 offset-of-requires-2 c κs = search rules
 
 returns-2 : tie.Need-returns-2
-unfolding offsetDigits
+unfolding offset_digits
 returns-2 c =
     let t = c.before.before in let p1 = t.before.before.before in (
       passed _ _ p1.before.like.ensures p1.if1.false
@@ -66,7 +66,7 @@ offset-of-requires-3 : tie.Need-offset-of-requires-3
 offset-of-requires-3 c κs = search rules
 
 returns-3 : tie.Need-returns-3
-unfolding offsetDigits
+unfolding offset_digits
 returns-3 c =
     let t = c.before.before.before in let p2 = t.before.before.before in let p1 = p2.before.before.before in (
       passed _ _ p1.before.like.ensures p1.if1.false
@@ -92,7 +92,7 @@ offset-of-requires-4 : tie.Need-offset-of-requires-4
 offset-of-requires-4 c κs = search rules
 
 returns-4 : tie.Need-returns-4
-unfolding offsetDigits
+unfolding offset_digits
 returns-4 c =
     let t = c.before.before.before in let p3 = t.before.before.before in let p2 = p3.before.before.before in let p1 = p2.before.before.before in (
       passed _ _ p1.before.like.ensures p1.if1.false
@@ -119,7 +119,7 @@ offset-of-requires-5 : tie.Need-offset-of-requires-5
 offset-of-requires-5 c κs = search rules
 
 returns-5 : tie.Need-returns-5
-unfolding offsetDigits
+unfolding offset_digits
 returns-5 c =
     let t = c.before.before.before in let p4 = t.before.before.before in let p3 = p4.before.before.before in let p2 = p3.before.before.before in let p1 = p2.before.before.before in (
       passed _ _ p1.before.like.ensures p1.if1.false
@@ -147,7 +147,7 @@ offset-of-requires-6 : tie.Need-offset-of-requires-6
 offset-of-requires-6 c κs = search rules
 
 returns-6 : tie.Need-returns-6
-unfolding offsetDigits
+unfolding offset_digits
 returns-6 c =
     let t = c.before.before.before in let p5 = t.before.before.before in let p4 = p5.before.before.before in let p3 = p4.before.before.before in let p2 = p3.before.before.before in let p1 = p2.before.before.before in (
       passed _ _ p1.before.like.ensures p1.if1.false
@@ -161,7 +161,7 @@ returns-6 c =
     )
 
 returns-7 : tie.Need-returns-7
-unfolding offsetDigits
+unfolding offset_digits
 returns-7 c =
     let p5 = c.before.before.before in let p4 = p5.before.before.before in let p3 = p4.before.before.before in let p2 = p3.before.before.before in let p1 = p2.before.before.before in (
       passed _ _ p1.before.like.ensures p1.if1.false

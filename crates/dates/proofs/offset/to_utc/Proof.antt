@@ -5,19 +5,19 @@ use Prim.Native.Nat.{ℕ, ◌≤◌}
 use native.Mathlib.Omega.{arith}
 use lib.IntN.{pos, neg_ℤ}
 use lib.ListN.{length}
-use Rattle.model.specs.DateText.{toUtc, offsetDigits}
+use Rattle.model.specs.DateText.{to_utc, offset_digits}
 use Rattle.model.specs.Bytes.{ascii}
-use Rattle.model.specs.Laws.DateText.{begins-length}
+use Rattle.model.specs.Laws.DateText.{begins_length}
 use Rattle.dates.proofs.Shapes.{lent_is}
 use Rattle.model.specs.Laws.Branches.{answered, taken, passed}
 use Rattle.dates.proofs.offset.to_utc.Statement.{statement}
 use Rattle.dates.proofs.offset.to_utc.Tie as tie
 
 plus : (c : tie.Then3) → 1 ≤ length c.before.before.before.before.before.before.before.before.before.before.args.text.now
-plus c = begins-length (ascii "+") _ (answered c.before.starts-like.ensures c.if3.true)
+plus c = begins_length (ascii "+") _ (answered c.before.starts-like.ensures c.if3.true)
 
 minus : (c : tie.Then4) → 1 ≤ length c.before.before.before.before.before.before.before.before.before.before.before.before.before.args.text.now
-minus c = begins-length (ascii "-") _ (answered c.before.starts-like2.ensures c.if4.true)
+minus c = begins_length (ascii "-") _ (answered c.before.starts-like2.ensures c.if4.true)
 
 slice-aggregate-like : tie.Need-slice-aggregate-like
 slice-aggregate-like c = search rules
@@ -26,7 +26,7 @@ like-requires : tie.Need-like-requires
 like-requires c κs = search rules
 
 returns : tie.Need-returns
-unfolding toUtc
+unfolding to_utc
 returns c = (
   taken _ _ c.before.like.ensures c.if1.true
       refl,
@@ -40,7 +40,7 @@ like-requires-2 : tie.Need-like-requires-2
 like-requires-2 c κs = search rules
 
 returns-2 : tie.Need-returns-2
-unfolding toUtc
+unfolding to_utc
 returns-2 c =
     let p1 = c.before.before.before in (
       passed _ _ p1.before.like.ensures p1.if1.false
@@ -71,13 +71,13 @@ ahead-requires : tie.Need-ahead-requires
 ahead-requires c κs = search rules
 
 returns-3 : tie.Need-returns-3
-unfolding toUtc
+unfolding to_utc
 returns-3 c =
     let t = c.before.before.before in let p2 = t.before.before.before in let p1 = p2.before.before.before in (
       passed _ _ p1.before.like.ensures p1.if1.false
           (passed _ _ p2.before.like2.ensures p2.if2.false
           (taken _ _ t.before.starts-like.ensures t.if3.true
-          (c.ahead.ensures.0 ∙ ap (map (λ (k : ℕ). neg_ℤ (pos k))) (c.before.offset-digits.ensures.0 ∙ ap offsetDigits (lent_is 1 p1.before.before.before.before.args.text.now))))),
+          (c.ahead.ensures.0 ∙ ap (map (λ (k : ℕ). neg_ℤ (pos k))) (c.before.offset-digits.ensures.0 ∙ ap offset_digits (lent_is 1 p1.before.before.before.before.args.text.now))))),
       omega arith,
     )
 
@@ -103,19 +103,19 @@ behind-requires : tie.Need-behind-requires
 behind-requires c κs = search rules
 
 returns-4 : tie.Need-returns-4
-unfolding toUtc
+unfolding to_utc
 returns-4 c =
     let t = c.before.before.before in let p3 = t.before.before.before in let p2 = p3.before.before.before in let p1 = p2.before.before.before in (
       passed _ _ p1.before.like.ensures p1.if1.false
           (passed _ _ p2.before.like2.ensures p2.if2.false
           (passed _ _ p3.before.starts-like.ensures p3.if3.false
           (taken _ _ t.before.starts-like2.ensures t.if4.true
-          (c.behind.ensures.0 ∙ ap (map pos) (c.before.offset-digits2.ensures.0 ∙ ap offsetDigits (lent_is 1 p1.before.before.before.before.args.text.now)))))),
+          (c.behind.ensures.0 ∙ ap (map pos) (c.before.offset-digits2.ensures.0 ∙ ap offset_digits (lent_is 1 p1.before.before.before.before.args.text.now)))))),
       omega arith,
     )
 
 returns-5 : tie.Need-returns-5
-unfolding toUtc
+unfolding to_utc
 returns-5 c =
     let p3 = c.before.before.before in let p2 = p3.before.before.before in let p1 = p2.before.before.before in (
       passed _ _ p1.before.like.ensures p1.if1.false

@@ -1,11 +1,11 @@
 use borrow.Author.Rules.{rules}
 use native.Mathlib.Omega.{arith}
-use Rattle.dates.proofs.Shapes.{digit-past}
+use Rattle.dates.proofs.Shapes.{digit_past}
 use Rattle.dates.proofs.pattern.digit_at.Statement.{statement}
 use Rattle.dates.proofs.pattern.digit_at.Tie as tie
 
 returns : tie.Need-returns
-returns c = (digit-past c.before.args.text.now c.before.args.i c.if1.true, omega arith)
+returns c = (digit_past c.before.args.text.now c.before.args.i c.if1.true, omega arith)
 
 shared-slice-read-x : tie.Need-shared-slice-read-x
 shared-slice-read-x c = search rules

@@ -2,14 +2,14 @@ use mathlib.Core.Path.{◌≡◌}
 use Prim.Native.Nat.{◌≤◌, ◌-◌, ◌+◌}
 use native.Mathlib.Omega.{arith}
 use lib.ListN.{length, drop}
-use Rattle.model.specs.DateText.{digitRun}
-use Rattle.model.specs.Laws.Branches.{answered-true, answered-false}
-use Rattle.dates.proofs.Shapes.{run_on, run-stops, run_ends}
+use Rattle.model.specs.DateText.{digit_run}
+use Rattle.model.specs.Laws.Branches.{answered_true, answered_false}
+use Rattle.dates.proofs.Shapes.{run_on, run_stops, run_ends}
 use Rattle.dates.proofs.pattern.digit_run.Statement.{statement}
 use Rattle.dates.proofs.pattern.digit_run.Tie as tie
 
 abbrev invariant-loop : tie.invariant-loop
-invariant-loop text i₀ i = (i ≤ length text) × (digitRun text ≡ i + digitRun (drop i text))
+invariant-loop text i₀ i = (i ≤ length text) × (digit_run text ≡ i + digit_run (drop i text))
 
 abbrev decreases-loop : tie.decreases-loop
 decreases-loop text i₀ i = length text - i
@@ -26,7 +26,7 @@ fits-requires c κs = tt
 returns : tie.Need-returns invariant-loop decreases-loop
 returns c =
     let l = c.before.before.before.before in
-    omega (arith, run-stops l.before.before.args.text.now l.loop.i (omega arith) (answered-false c.before.fits2.ensures c.if1.true))
+    omega (arith, run_stops l.before.before.args.text.now l.loop.i (omega arith) (answered_false c.before.fits2.ensures c.if1.true))
 
 add-i : tie.Need-overflow-add-i invariant-loop decreases-loop
 add-i c = omega arith
@@ -37,7 +37,7 @@ loop-less c = omega arith
 loop-again : tie.Need-loop-preserved invariant-loop decreases-loop
 loop-again c =
     let l = c.before.before.before.before in
-    omega (arith, run_on l.before.before.args.text.now l.loop.i (omega arith) (answered-true c.before.fits2.ensures c.if1.false))
+    omega (arith, run_on l.before.before.args.text.now l.loop.i (omega arith) (answered_true c.before.fits2.ensures c.if1.false))
 
 returns-2 : tie.Need-returns-2 invariant-loop decreases-loop
 returns-2 c = omega (arith, run_ends c.before.before.before.args.text.now c.before.loop.i (omega arith))

@@ -4,20 +4,20 @@ use Prim.Native.Nat.{◌≤◌}
 use native.Mathlib.Omega.{arith}
 use lib.ListN.{length}
 use Rattle.model.specs.Bytes.{ascii}
-use Rattle.model.specs.DateText.{dateIn, midnight}
-use Rattle.model.specs.Laws.DateText.{begins-length, year-bound}
-use Rattle.model.specs.Laws.Logic.{true→T}
-use Rattle.model.specs.Laws.Branches.{answered-true, answered-false}
-use Rattle.dates.proofs.Times.{Starts, starts, no_answer, no-date, no-time, at-time}
+use Rattle.model.specs.DateText.{date_in, midnight}
+use Rattle.model.specs.Laws.DateText.{begins_length, year_bound}
+use Rattle.model.specs.Laws.Logic.{true→t}
+use Rattle.model.specs.Laws.Branches.{answered_true, answered_false}
+use Rattle.dates.proofs.Times.{Starts, starts, no_answer, no_date, no_time, at_time}
 use Rattle.dates.proofs.time.read_time.Statement.{statement}
 use Rattle.dates.proofs.time.read_time.Tie as tie
 
 long : (c : tie.After-since-year-0) → 19 ≤ length c.before.before.before.before.before.before.before.before.before.before.before.before.args.text.now
 long c =
     let s = c.before.before.before.before.before.before.before.before.before.before.before.before in
-    begins-length (ascii "0000-00-00T00:00:00") s.args.text.now (true→T _ s.requires)
+    begins_length (ascii "0000-00-00T00:00:00") s.args.text.now (true→t _ s.requires)
 
-begun : (c : tie.After-since-year-0) → Starts (dateIn c.before.before.before.before.before.before.before.before.before.before.before.before.args.text.now) c.since-year-0.result
+begun : (c : tie.After-since-year-0) → Starts (date_in c.before.before.before.before.before.before.before.before.before.before.before.before.args.text.now) c.since-year-0.result
 begun c =
     let m = c.before.before.before.before in
     starts (m.midnight.ensures ∙ ap midnight m.before.date-in.ensures) c.before.before.day.given.1 c.since-year-0.ensures
@@ -37,8 +37,8 @@ is-time-requires c κs = search rules
 returns : tie.Need-returns
 returns c =
     let t = c.before.before in
-    no-time t.before.before.before.before.args.text.now t.before.before.two_digits.ensures.0 t.before.two-digits2.ensures.0 t.two-digits3.ensures.0
-    (answered-false c.before.is-time.ensures c.if1.true)
+    no_time t.before.before.before.before.args.text.now t.before.before.two_digits.ensures.0 t.before.two-digits2.ensures.0 t.two-digits3.ensures.0
+    (answered_false c.before.is-time.ensures c.if1.true)
 
 date-in-requires : tie.Need-date-in-requires
 date-in-requires c κs = search rules
@@ -52,9 +52,9 @@ enum-known-day c = search rules
 returns-2 : tie.Need-returns-2
 returns-2 c =
     let b = c.before.before.before.before.before.before.before.before.before in let s = b.args.text.now in
-    no-date s
-    (no_answer (dateIn s) c.before.midnight.result c.match.keys2 (c.before.midnight.ensures ∙ ap midnight c.before.before.date-in.ensures)
-    (year-bound (ascii "-00-00T00:00:00") s (true→T _ b.requires)))
+    no_date s
+    (no_answer (date_in s) c.before.midnight.result c.match.keys2 (c.before.midnight.ensures ∙ ap midnight c.before.before.date-in.ensures)
+    (year_bound (ascii "-00-00T00:00:00") s (true→t _ b.requires)))
 
 mul-time : tie.Need-overflow-mul-time
 mul-time c = search rules
@@ -92,8 +92,8 @@ after-seconds-requires c κs = omega (arith, (begun c.before).high)
 returns-3 : tie.Need-returns-3
 returns-3 c =
     let e = c.before.before.before.before.before.before.before.before in let t = e.before.before in
-    at-time t.before.before.before.before.args.text.now t.before.before.two_digits.ensures.0 t.before.two-digits2.ensures.0 t.two-digits3.ensures.0
-    (answered-true e.before.is-time.ensures e.if1.false) (begun c.before.before) c.after-seconds.ensures
+    at_time t.before.before.before.before.args.text.now t.before.before.two_digits.ensures.0 t.before.two-digits2.ensures.0 t.two-digits3.ensures.0
+    (answered_true e.before.is-time.ensures e.if1.false) (begun c.before.before) c.after-seconds.ensures
 
 pub read-time-spec : {M : Type 1} → statement M
 read-time-spec =

@@ -1,8 +1,8 @@
 use borrow.Author.Rules.{rules}
 use mathlib.Core.Path.{◌∙◌, ap}
 use native.Mathlib.Omega.{arith}
-use Rattle.dates.specs.Inner.{offsetMs}
-use Rattle.dates.proofs.Zones.{zoned-on, zoned-back, zoned-early, zoned-bad}
+use Rattle.dates.specs.Inner.{offset_ms}
+use Rattle.dates.proofs.Zones.{zoned_on, zoned_back, zoned_early, zoned_bad}
 use Rattle.dates.proofs.time.zoned.Statement.{statement}
 use Rattle.dates.proofs.time.zoned.Tie as tie
 
@@ -13,7 +13,7 @@ enum-known-k : tie.Need-enum-known-k
 enum-known-k c = search rules
 
 add-from-year-0 : tie.Need-overflow-add-from-year-0
-add-from-year-0 c = omega (arith, ap offsetMs c.before.k.given.1)
+add-from-year-0 c = omega (arith, ap offset_ms c.before.k.given.1)
 
 from-year-0-requires : tie.Need-from-year-0-requires
 from-year-0-requires c κs = search rules
@@ -27,7 +27,7 @@ enum-known-k-2 c = search rules
 returns : tie.Need-returns
 returns c =
     let k = c.before.before in let o = k.before.before in let s = o.before.before in
-    zoned-early s.args.local s.args.text.now o.to-utc.ensures.0 k.k2.given.0.0 k.k2.given.1 c.if1.true
+    zoned_early s.args.local s.args.text.now o.to-utc.ensures.0 k.k2.given.0.0 k.k2.given.1 c.if1.true
 
 from-year-0-requires-2 : tie.Need-from-year-0-requires-2
 from-year-0-requires-2 c κs = search rules
@@ -41,17 +41,17 @@ enum_told c = search rules
 returns-2 : tie.Need-returns-2
 returns-2 c =
     let k = c.before.before.before in let o = k.before.before in let s = o.before.before in
-    zoned-on s.args.local s.args.text.now o.to-utc.ensures.0 k.k.given.0.0 k.k.given.1 (c.dated.ensures ∙ c.before.from-year-0.ensures)
+    zoned_on s.args.local s.args.text.now o.to-utc.ensures.0 k.k.given.0.0 k.k.given.1 (c.dated.ensures ∙ c.before.from-year-0.ensures)
 
 returns-3 : tie.Need-returns-3
 returns-3 c =
     let e = c.before.before in let k = e.before.before in let o = k.before.before in let s = o.before.before in
-    zoned-back s.args.local s.args.text.now o.to-utc.ensures.0 k.k2.given.0.0 k.k2.given.1 e.if1.false (c.dated2.ensures ∙ c.before.from-year-02.ensures)
+    zoned_back s.args.local s.args.text.now o.to-utc.ensures.0 k.k2.given.0.0 k.k2.given.1 e.if1.false (c.dated2.ensures ∙ c.before.from-year-02.ensures)
 
 returns-4 : tie.Need-returns-4
 returns-4 c =
     let o = c.before.before in let s = o.before.before in
-    zoned-bad s.args.local s.args.text.now o.to-utc.ensures.0 c.enum_told.given.1
+    zoned_bad s.args.local s.args.text.now o.to-utc.ensures.0 c.enum_told.given.1
 
 pub zoned-spec : {M : Type 1} → statement M
 zoned-spec =

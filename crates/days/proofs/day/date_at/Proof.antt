@@ -6,7 +6,7 @@ date-of-day-requires : tie.Need-date-of-day-requires
 date-of-day-requires c κs = search rules
 
 returns : tie.Need-returns
-returns c = c.date-of-day.ensures
+returns c = c.date_of_day_lem.ensures
 
 pub date-at-spec : {M : Type 1} → statement M
 date-at-spec = tie.close (tie.spec date-of-day-requires returns)

@@ -1,5 +1,5 @@
 use native.Mathlib.Omega.{arith}
-use Rattle.model.specs.Laws.Calendar.{closed-form}
+use Rattle.model.specs.Laws.Calendar.{closed_form}
 use borrow.Author.Rules.{rules}
 use Rattle.days.proofs.day.year_start.Statement.{statement}
 use Rattle.days.proofs.day.year_start.Tie as tie
@@ -26,7 +26,7 @@ sub-result : tie.Need-overflow-sub-result
 sub-result c = search rules
 
 returns : tie.Need-returns
-returns c = omega (arith, closed-form c.args.year)
+returns c = omega (arith, closed_form c.args.year)
 
 pub year-start-spec : {M : Type 1} → statement M
 year-start-spec =

@@ -1,14 +1,14 @@
 use mathlib.Core.Path.{sym}
 use native.Mathlib.Omega.{arith}
 use Rattle.model.specs.Calendar.{months}
-use Rattle.model.specs.Laws.Calendar.{table-bound}
-use Rattle.days.proofs.Dates.{no-month}
+use Rattle.model.specs.Laws.Calendar.{table_bound}
+use Rattle.days.proofs.Dates.{no_month}
 use borrow.Author.Rules.{rules}
 use Rattle.days.proofs.month.month_days.Statement.{statement}
 use Rattle.days.proofs.month.month_days.Tie as tie
 
 returns : tie.Need-returns
-returns c = sym (no-month c.before.args.year c.before.args.month c.if1.true)
+returns c = sym (no_month c.before.args.year c.before.args.month c.if1.true)
 
 row-requires : tie.Need-row-requires
 row-requires c κs = search rules
@@ -26,7 +26,7 @@ index-2-result : tie.Need-bounds-2-result
 index-2-result c = search rules
 
 cast-result : tie.Need-overflow-cast-result
-cast-result c = omega (arith, table-bound c.before.before.row.result c.before.place.result)
+cast-result c = omega (arith, table_bound c.before.before.row.result c.before.place.result)
 
 returns-2 : tie.Need-returns-2
 unfolding months

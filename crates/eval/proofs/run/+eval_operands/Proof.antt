@@ -2,8 +2,8 @@ use mathlib.Core.Path.{refl}
 use native.Mathlib.Omega.{arith}
 use borrow.Author.Rules.{rules}
 use Rattle.eval.specs.declared.task.Next.TheVariants.{Asks}
-use Rattle.eval.specs.Inner.{nextLeft}
-use Rattle.eval.proofs.Steps.{ended, begun-operating, first-falls, evaluated, OperandsInv, inv-as, inv-begins, inv-ends, asked-room, asked-falls, asked-taking, fewer-left, inv-next}
+use Rattle.eval.specs.Inner.{next_left}
+use Rattle.eval.proofs.Steps.{ended, begun_operating, first_falls, evaluated, OperandsInv, inv_as, inv_begins, inv_ends, asked_room, asked_falls, asked_taking, fewer_left, inv_next}
 use Prim.Native.Nat.{ℕ, ◌+◌, ◌*◌, ◌<◌}
 use borrow.Fn.Kinds.{In}
 use borrow.Fn.PlainCycle.{Measures, is, falls, and}
@@ -58,7 +58,7 @@ eval-enum-known-first : (t : ℕ) → eval-lts.Need-enum-known-first (eval-calls
 eval-enum-known-first t c = search rules
 
 eval-operands-requires : (t : ℕ) → eval-lts.Need-operands-requires (eval-calls t) (eval-at t) eval.Post
-eval-operands-requires t c κs = (omega (arith, first-falls c.before.before.before.before.start.ensures c.before.before.first.given.0.0 c.before.before.first.given.0.1.0 c.before.before.first.given.1, c.before.before.before.before.before.before.before.before.before.before.before.before.requires.0), (begun-operating c.before.before.before.before.start.ensures c.before.before.first.given.0.0 c.before.before.first.given.0.1.0 c.before.before.first.given.1 c.before.before.before.before.before.before.before.before.before.before.before.before.requires.1.0, c.before.before.before.before.before.before.before.before.before.before.before.before.requires.1.1))
+eval-operands-requires t c κs = (omega (arith, first_falls c.before.before.before.before.start.ensures c.before.before.first.given.0.0 c.before.before.first.given.0.1.0 c.before.before.first.given.1, c.before.before.before.before.before.before.before.before.before.before.before.before.requires.0), (begun_operating c.before.before.before.before.start.ensures c.before.before.first.given.0.0 c.before.before.first.given.0.1.0 c.before.before.first.given.1 c.before.before.before.before.before.before.before.before.before.before.before.before.requires.1.0, c.before.before.before.before.before.before.before.before.before.before.before.before.requires.1.1))
 
 eval-resumed-requires-2 : (t : ℕ) → eval-lts.Need-resumed-requires-2 (eval-calls t) (eval-at t) eval.Post
 eval-resumed-requires-2 t c κs = search rules
@@ -79,34 +79,34 @@ abbrev operands-Inv-loop : operands-lts.invariant-loop
 operands-Inv-loop rule-table rule-strings record-table record-strings cells₀ first begun cells task frame = OperandsInv rule-table rule-strings record-table record-strings cells₀ (Asks first begun) cells (Asks task frame)
 
 abbrev operands-μ-loop : operands-lts.decreases-loop
-operands-μ-loop rule-table rule-strings record-table record-strings cells₀ first begun cells task frame = nextLeft (Asks task frame)
+operands-μ-loop rule-table rule-strings record-table record-strings cells₀ first begun cells task frame = next_left (Asks task frame)
 
 operands-loop-holds : (t : ℕ) → operands-lts.Need-loop-init (operands-calls t) (operands-at t) operands.Post operands-Inv-loop operands-μ-loop
-operands-loop-holds t c = inv-begins c.before.before.before.before.before.requires.1.0
+operands-loop-holds t c = inv_begins c.before.before.before.before.before.requires.1.0
 
 operands-eval-requires : (t : ℕ) → operands-lts.Need-eval-requires (operands-calls t) (operands-at t) operands.Post operands-Inv-loop operands-μ-loop
-operands-eval-requires t c κs = (omega (arith, asked-falls c.before.loop.invariant c.before.loop.task c.before.loop.frame refl, c.before.before.before.before.before.before.before.requires.0), (asked-room c.before.loop.invariant c.before.loop.task c.before.loop.frame refl, c.before.before.before.before.before.before.before.requires.1.1))
+operands-eval-requires t c κs = (omega (arith, asked_falls c.before.loop.invariant c.before.loop.task c.before.loop.frame refl, c.before.before.before.before.before.before.before.requires.0), (asked_room c.before.loop.invariant c.before.loop.task c.before.loop.frame refl, c.before.before.before.before.before.before.before.requires.1.1))
 
 operands-take-requires : (t : ℕ) → operands-lts.Need-take-requires (operands-calls t) (operands-at t) operands.Post operands-Inv-loop operands-μ-loop
-operands-take-requires t c κs = asked-taking c.before.before.before.before.before.loop.invariant c.before.before.before.before.before.loop.task c.before.before.before.before.before.loop.frame refl c.before.before.before.eval.ensures
+operands-take-requires t c κs = asked_taking c.before.before.before.before.before.loop.invariant c.before.before.before.before.before.loop.task c.before.before.before.before.before.loop.frame refl c.before.before.before.eval.ensures
 
 operands-enum-known-end : (t : ℕ) → operands-lts.Need-enum-known-end (operands-calls t) (operands-at t) operands.Post operands-Inv-loop operands-μ-loop
 operands-enum-known-end t c = search rules
 
 operands-same-length : (t : ℕ) → operands-lts.Need-same-length (operands-calls t) (operands-at t) operands.Post operands-Inv-loop operands-μ-loop
-operands-same-length t c = ((inv-next c.before.before.before.before.before.before.before.before.before.before.before.loop.invariant c.before.before.before.before.before.before.before.before.before.before.before.loop.task c.before.before.before.before.before.before.before.before.before.before.before.loop.frame refl c.before.before.before.before.before.before.before.before.before.eval.ensures c.before.before.before.before.before.take.ensures).same c.before.before.before.before.before.before.before.before.before.before.before.before.before.before.before.before.before.requires.1.0.base c.before.before.before.before.before.before.before.before.before.before.before.before.before.before.before.before.before.requires.1.0.within).size
+operands-same-length t c = ((inv_next c.before.before.before.before.before.before.before.before.before.before.before.loop.invariant c.before.before.before.before.before.before.before.before.before.before.before.loop.task c.before.before.before.before.before.before.before.before.before.before.before.loop.frame refl c.before.before.before.before.before.before.before.before.before.eval.ensures c.before.before.before.before.before.take.ensures).same c.before.before.before.before.before.before.before.before.before.before.before.before.before.before.before.before.before.requires.1.0.base c.before.before.before.before.before.before.before.before.before.before.before.before.before.before.before.before.before.requires.1.0.within).size
 
 operands-returns : (t : ℕ) → operands-lts.Need-returns (operands-calls t) (operands-at t) operands.Post operands-Inv-loop operands-μ-loop
-operands-returns t c = inv-ends (inv-next c.before.before.before.before.before.before.before.before.before.before.before.loop.invariant c.before.before.before.before.before.before.before.before.before.before.before.loop.task c.before.before.before.before.before.before.before.before.before.before.before.loop.frame refl c.before.before.before.before.before.before.before.before.before.eval.ensures c.before.before.before.before.before.take.ensures) c.before.end.given.0.0 c.before.end.given.1
+operands-returns t c = inv_ends (inv_next c.before.before.before.before.before.before.before.before.before.before.before.loop.invariant c.before.before.before.before.before.before.before.before.before.before.before.loop.task c.before.before.before.before.before.before.before.before.before.before.before.loop.frame refl c.before.before.before.before.before.before.before.before.before.eval.ensures c.before.before.before.before.before.take.ensures) c.before.end.given.0.0 c.before.end.given.1
 
 operands-enum-known-t : (t : ℕ) → operands-lts.Need-enum-known-t (operands-calls t) (operands-at t) operands.Post operands-Inv-loop operands-μ-loop
 operands-enum-known-t t c = search rules
 
 operands-loop-less : (t : ℕ) → operands-lts.Need-loop-smaller (operands-calls t) (operands-at t) operands.Post operands-Inv-loop operands-μ-loop
-operands-loop-less t c = rw c.before.t.given.1 at (fewer-left c.before.before.before.before.before.before.before.before.before.before.before.loop.invariant c.before.before.before.before.before.before.before.before.before.before.before.loop.task c.before.before.before.before.before.before.before.before.before.before.before.loop.frame refl c.before.before.before.before.before.before.before.before.before.eval.ensures c.before.before.before.before.before.take.ensures)
+operands-loop-less t c = rw c.before.t.given.1 at (fewer_left c.before.before.before.before.before.before.before.before.before.before.before.loop.invariant c.before.before.before.before.before.before.before.before.before.before.before.loop.task c.before.before.before.before.before.before.before.before.before.before.before.loop.frame refl c.before.before.before.before.before.before.before.before.before.eval.ensures c.before.before.before.before.before.take.ensures)
 
 operands-loop-again : (t : ℕ) → operands-lts.Need-loop-preserved (operands-calls t) (operands-at t) operands.Post operands-Inv-loop operands-μ-loop
-operands-loop-again t c = inv-as (Asks c.before.t.given.0.0 c.before.t.given.0.1.0) c.before.t.given.1 (inv-next c.before.before.before.before.before.before.before.before.before.before.before.loop.invariant c.before.before.before.before.before.before.before.before.before.before.before.loop.task c.before.before.before.before.before.before.before.before.before.before.before.loop.frame refl c.before.before.before.before.before.before.before.before.before.eval.ensures c.before.before.before.before.before.take.ensures)
+operands-loop-again t c = inv_as (Asks c.before.t.given.0.0 c.before.t.given.0.1.0) c.before.t.given.1 (inv_next c.before.before.before.before.before.before.before.before.before.before.before.loop.invariant c.before.before.before.before.before.before.before.before.before.before.before.loop.task c.before.before.before.before.before.before.before.before.before.before.before.loop.frame refl c.before.before.before.before.before.before.before.before.before.eval.ensures c.before.before.before.before.before.take.ensures)
 
 pub +eval-operands-spec : {M : Type 1} → statement M
 +eval-operands-spec = close μ-eval μ-operands (λ t. eval-lts.spec (eval-calls t)

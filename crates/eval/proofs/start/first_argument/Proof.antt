@@ -1,4 +1,4 @@
-use Rattle.eval.proofs.Begun.{no_operand, some-operand}
+use Rattle.eval.proofs.Begun.{no_operand, some_operand}
 use borrow.Author.Rules.{rules}
 use Rattle.eval.proofs.start.first_argument.Statement.{statement}
 use Rattle.eval.proofs.start.first_argument.Tie as tie
@@ -19,7 +19,7 @@ arguments-of-requires : tie.Need-arguments-of-requires
 arguments-of-requires c κs = search rules
 
 returns-2 : tie.Need-returns-2
-returns-2 c = some-operand c.before.before.before.before.before.args.op c.before.before.before.before.before.args.q c.before.before.before.before.before.args.context c.before.before.before.before.before.args.s c.before.first.result c.arguments-of.result c.before.before.before.if1.false c.before.first.ensures c.arguments-of.ensures
+returns-2 c = some_operand c.before.before.before.before.before.args.op c.before.before.before.before.before.args.q c.before.before.before.before.before.args.context c.before.before.before.before.before.args.s c.before.first.result c.arguments-of.result c.before.before.before.if1.false c.before.first.ensures c.arguments-of.ensures
 
 pub first-argument-spec : {M : Type 1} → statement M
 first-argument-spec =

@@ -1,6 +1,6 @@
 use native.Mathlib.Omega.{arith}
-use Rattle.model.specs.Laws.Widths.{cells-below}
-use Rattle.eval.proofs.Literals.{literal-found, Pushing, pushing-begins, pushing-room, pushing-ends, fewer-rest, pushing-on}
+use Rattle.model.specs.Laws.Widths.{cells_below}
+use Rattle.eval.proofs.Literals.{literal_found, Pushing, pushing_begins, pushing_room, pushing_ends, fewer_rest, pushing_on}
 use borrow.Author.Rules.{rules}
 use Rattle.eval.proofs.take.after_argument.Statement.{statement}
 use Rattle.eval.proofs.take.after_argument.Tie as tie
@@ -12,7 +12,7 @@ abbrev decreases-loop : tie.decreases-loop
 decreases-loop rule-table rule-strings record-table record-strings cells₀ t₀ p₀ value₀ cells t p value = p.rest
 
 loop-holds : tie.Need-loop-init invariant-loop decreases-loop
-loop-holds c = pushing-begins c.before.before.before.before.before.requires
+loop-holds c = pushing_begins c.before.before.before.before.before.requires
 
 sub-bottom : tie.Need-overflow-sub-bottom invariant-loop decreases-loop
 sub-bottom c = omega (arith, c.before.before.loop.invariant.room.fits)
@@ -30,7 +30,7 @@ operand-requires : tie.Need-operand-requires invariant-loop decreases-loop
 operand-requires c κs = search rules
 
 add-arguments-of : tie.Need-overflow-add-arguments-of invariant-loop decreases-loop
-add-arguments-of c = omega (arith, cells-below, c.before.before.before.before.before.before.before.before.before.before.loop.invariant.room.fits, c.before.before.before.before.before.before.before.before.before.before.loop.invariant.room.within)
+add-arguments-of c = omega (arith, cells_below, c.before.before.before.before.before.before.before.before.before.before.loop.invariant.room.fits, c.before.before.before.before.before.before.before.before.before.before.loop.invariant.room.within)
 
 arguments-of-requires : tie.Need-arguments-of-requires invariant-loop decreases-loop
 arguments-of-requires c κs = search rules
@@ -45,25 +45,25 @@ enum_told : tie.Need-enum-told invariant-loop decreases-loop
 enum_told c = search rules
 
 arguments-requires : tie.Need-arguments-requires invariant-loop decreases-loop
-arguments-requires c κs = pushing-room c.before.before.before.before.before.before.before.before.before.before.before.before.before.before.before.loop.invariant c.before.before.before.before.before.before.before.next_row.result c.before.before.before.before.before.before.operand.result c.before.before.before.before.before.before.before.before.state.result c.before.before.before.before.arguments-of.result c.before.before.before.before.before.before.before.before.before.before.before.put.ensures c.before.before.before.before.before.before.before.next_row.ensures c.before.before.before.before.before.before.before.before.state.ensures c.before.before.before.before.before.before.operand.ensures c.before.before.before.before.arguments-of.ensures
+arguments-requires c κs = pushing_room c.before.before.before.before.before.before.before.before.before.before.before.before.before.before.before.loop.invariant c.before.before.before.before.before.before.before.next_row.result c.before.before.before.before.before.before.operand.result c.before.before.before.before.before.before.before.before.state.result c.before.before.before.before.arguments-of.result c.before.before.before.before.before.before.before.before.before.before.before.put.ensures c.before.before.before.before.before.before.before.next_row.ensures c.before.before.before.before.before.before.before.before.state.ensures c.before.before.before.before.before.before.operand.ensures c.before.before.before.before.arguments-of.ensures
 
 same_length : tie.Need-same-length invariant-loop decreases-loop
-same_length c = (pushing-ends c.before.before.before.before.before.before.before.before.before.before.before.before.before.before.before.before.before.before.loop.invariant c.before.before.before.before.before.before.before.before.before.before.next_row.result c.before.before.before.before.before.before.before.before.before.operand.result c.before.before.before.before.before.before.before.before.before.before.before.state.result c.before.before.before.before.before.before.before.arguments-of.result c.before.before.before.before.before.before.before.before.before.before.before.before.before.before.put.ensures c.before.before.before.before.before.before.before.before.before.before.next_row.ensures c.before.before.before.before.before.before.before.before.before.before.before.state.ensures c.before.before.before.before.before.before.before.before.before.operand.ensures c.before.before.before.before.before.before.before.arguments-of.ensures (c.before.before.arguments.ensures.argues _)).same.size
+same_length c = (pushing_ends c.before.before.before.before.before.before.before.before.before.before.before.before.before.before.before.before.before.before.loop.invariant c.before.before.before.before.before.before.before.before.before.before.next_row.result c.before.before.before.before.before.before.before.before.before.operand.result c.before.before.before.before.before.before.before.before.before.before.before.state.result c.before.before.before.before.before.before.before.arguments-of.result c.before.before.before.before.before.before.before.before.before.before.before.before.before.before.put.ensures c.before.before.before.before.before.before.before.before.before.before.next_row.ensures c.before.before.before.before.before.before.before.before.before.before.before.state.ensures c.before.before.before.before.before.before.before.before.before.operand.ensures c.before.before.before.before.before.before.before.arguments-of.ensures (c.before.before.arguments.ensures.argues _)).same.size
 
 returns : tie.Need-returns invariant-loop decreases-loop
-returns c = pushing-ends c.before.before.before.before.before.before.before.before.before.before.before.before.before.before.before.before.before.before.loop.invariant c.before.before.before.before.before.before.before.before.before.before.next_row.result c.before.before.before.before.before.before.before.before.before.operand.result c.before.before.before.before.before.before.before.before.before.before.before.state.result c.before.before.before.before.before.before.before.arguments-of.result c.before.before.before.before.before.before.before.before.before.before.before.before.before.before.put.ensures c.before.before.before.before.before.before.before.before.before.before.next_row.ensures c.before.before.before.before.before.before.before.before.before.before.before.state.ensures c.before.before.before.before.before.before.before.before.before.operand.ensures c.before.before.before.before.before.before.before.arguments-of.ensures (c.before.before.arguments.ensures.argues _)
+returns c = pushing_ends c.before.before.before.before.before.before.before.before.before.before.before.before.before.before.before.before.before.before.loop.invariant c.before.before.before.before.before.before.before.before.before.before.next_row.result c.before.before.before.before.before.before.before.before.before.operand.result c.before.before.before.before.before.before.before.before.before.before.before.state.result c.before.before.before.before.before.before.before.arguments-of.result c.before.before.before.before.before.before.before.before.before.before.before.before.before.before.put.ensures c.before.before.before.before.before.before.before.before.before.before.next_row.ensures c.before.before.before.before.before.before.before.before.before.before.before.state.ensures c.before.before.before.before.before.before.before.before.before.operand.ensures c.before.before.before.before.before.before.before.arguments-of.ensures (c.before.before.arguments.ensures.argues _)
 
 one-step-requires : tie.Need-one-step-requires invariant-loop decreases-loop
-one-step-requires c κs = (literal-found _ c.before.before.before.before.before.before.operand.result c.before.before.before.before.arguments-of.result c.before.literal.given.0.0 c.before.before.before.literal-next.ensures c.before.literal.given.1).some_left
+one-step-requires c κs = (literal_found _ c.before.before.before.before.before.before.operand.result c.before.before.before.before.arguments-of.result c.before.literal.given.0.0 c.before.before.before.literal-next.ensures c.before.literal.given.1).some_left
 
 one-begun-requires : tie.Need-one-begun-requires invariant-loop decreases-loop
-one-begun-requires c κs = (literal-found _ c.before.before.before.before.before.before.before.operand.result c.before.before.before.before.before.arguments-of.result c.before.before.literal.given.0.0 c.before.before.before.before.literal-next.ensures c.before.before.literal.given.1).some-rest
+one-begun-requires c κs = (literal_found _ c.before.before.before.before.before.before.before.operand.result c.before.before.before.before.before.arguments-of.result c.before.before.literal.given.0.0 c.before.before.before.before.literal-next.ensures c.before.before.literal.given.1).some_rest
 
 loop-less : tie.Need-loop-smaller invariant-loop decreases-loop
-loop-less c = fewer-rest c.before.before.before.before.before.before.before.before.before.before.before.before.before.before.before.before.before.loop.invariant c.before.before.before.before.before.before.before.before.before.next_row.result c.before.before.before.before.before.before.before.before.operand.result c.before.before.before.before.before.before.before.before.before.before.state.result c.before.before.before.before.before.before.arguments-of.result c.before.before.before.before.before.before.before.before.before.before.before.before.before.put.ensures c.before.before.before.before.before.before.before.before.before.next_row.ensures c.before.before.before.before.before.before.before.before.before.before.state.ensures c.before.before.before.before.before.before.before.before.operand.ensures c.before.before.before.before.before.before.arguments-of.ensures _ (literal-found _ c.before.before.before.before.before.before.before.before.operand.result c.before.before.before.before.before.before.arguments-of.result c.before.before.before.literal.given.0.0 c.before.before.before.before.before.literal-next.ensures c.before.before.before.literal.given.1) c.one-begun.result c.one-begun.ensures
+loop-less c = fewer_rest c.before.before.before.before.before.before.before.before.before.before.before.before.before.before.before.before.before.loop.invariant c.before.before.before.before.before.before.before.before.before.next_row.result c.before.before.before.before.before.before.before.before.operand.result c.before.before.before.before.before.before.before.before.before.before.state.result c.before.before.before.before.before.before.arguments-of.result c.before.before.before.before.before.before.before.before.before.before.before.before.before.put.ensures c.before.before.before.before.before.before.before.before.before.next_row.ensures c.before.before.before.before.before.before.before.before.before.before.state.ensures c.before.before.before.before.before.before.before.before.operand.ensures c.before.before.before.before.before.before.arguments-of.ensures _ (literal_found _ c.before.before.before.before.before.before.before.before.operand.result c.before.before.before.before.before.before.arguments-of.result c.before.before.before.literal.given.0.0 c.before.before.before.before.before.literal-next.ensures c.before.before.before.literal.given.1) c.one-begun.result c.one-begun.ensures
 
 loop-again : tie.Need-loop-preserved invariant-loop decreases-loop
-loop-again c = pushing-on c.before.before.before.before.before.before.before.before.before.before.before.before.before.before.before.before.before.loop.invariant c.before.before.before.before.before.before.before.before.before.next_row.result c.before.before.before.before.before.before.before.before.operand.result c.before.before.before.before.before.before.before.before.before.before.state.result c.before.before.before.before.before.before.arguments-of.result c.before.before.before.before.before.before.before.before.before.before.before.before.before.put.ensures c.before.before.before.before.before.before.before.before.before.next_row.ensures c.before.before.before.before.before.before.before.before.before.before.state.ensures c.before.before.before.before.before.before.before.before.operand.ensures c.before.before.before.before.before.before.arguments-of.ensures _ (literal-found _ c.before.before.before.before.before.before.before.before.operand.result c.before.before.before.before.before.before.arguments-of.result c.before.before.before.literal.given.0.0 c.before.before.before.before.before.literal-next.ensures c.before.before.before.literal.given.1) c.one-begun.result c.one-begun.ensures c.before.one-step.result c.before.one-step.ensures
+loop-again c = pushing_on c.before.before.before.before.before.before.before.before.before.before.before.before.before.before.before.before.before.loop.invariant c.before.before.before.before.before.before.before.before.before.next_row.result c.before.before.before.before.before.before.before.before.operand.result c.before.before.before.before.before.before.before.before.before.before.state.result c.before.before.before.before.before.before.arguments-of.result c.before.before.before.before.before.before.before.before.before.before.before.before.before.put.ensures c.before.before.before.before.before.before.before.before.before.next_row.ensures c.before.before.before.before.before.before.before.before.before.before.state.ensures c.before.before.before.before.before.before.before.before.operand.ensures c.before.before.before.before.before.before.arguments-of.ensures _ (literal_found _ c.before.before.before.before.before.before.before.before.operand.result c.before.before.before.before.before.before.arguments-of.result c.before.before.before.literal.given.0.0 c.before.before.before.before.before.literal-next.ensures c.before.before.before.literal.given.1) c.one-begun.result c.one-begun.ensures c.before.one_step_lem.result c.before.one_step_lem.ensures
 
 pub after-argument-spec : {M : Type 1} → statement M
 after-argument-spec =

@@ -1,5 +1,5 @@
 use native.Mathlib.Omega.{arith}
-use Rattle.eval.proofs.Taken.{conjunct-falsy, conjunct-neither, conjunct-last, conjunct-next}
+use Rattle.eval.proofs.Taken.{conjunct_falsy, conjunct_neither, conjunct_last, conjunct_next}
 use borrow.Author.Rules.{rules}
 use Rattle.eval.proofs.take.after_conjunct.Statement.{statement}
 use Rattle.eval.proofs.take.after_conjunct.Tie as tie
@@ -17,7 +17,7 @@ enum-told-3 : tie.Need-enum-told-3
 enum-told-3 c = search rules
 
 returns : tie.Need-returns
-returns c = conjunct-last c.before.before.before.truth-of.result c.before.before.before.truth-of.ensures c.before.enum-told3.given.1 c.if1.true
+returns c = conjunct_last c.before.before.before.truth-of.result c.before.before.before.truth-of.ensures c.before.enum-told3.given.1 c.if1.true
 
 next-row-requires : tie.Need-next-row-requires
 next-row-requires c κs = search rules
@@ -29,13 +29,13 @@ sub-t15 : tie.Need-overflow-sub-t15
 sub-t15 c = search rules
 
 returns-2 : tie.Need-returns-2
-returns-2 c = conjunct-falsy c.before.before.truth-of.result c.before.before.truth-of.ensures c.enum_told.given.1
+returns-2 c = conjunct_falsy c.before.before.truth-of.result c.before.before.truth-of.ensures c.enum_told.given.1
 
 returns-3 : tie.Need-returns-3
-returns-3 c = conjunct-neither c.before.before.truth-of.result c.before.before.truth-of.ensures c.enum-told2.given.1
+returns-3 c = conjunct_neither c.before.before.truth-of.result c.before.before.truth-of.ensures c.enum-told2.given.1
 
 returns-4 : tie.Need-returns-4
-returns-4 c = conjunct-next c.before.before.before.before.before.truth-of.result c.before.before.before.before.before.truth-of.ensures c.before.next_row.result c.operand.result c.before.before.before.enum-told3.given.1 (omega (arith, c.before.before.if1.false)) c.before.next_row.ensures c.operand.ensures
+returns-4 c = conjunct_next c.before.before.before.before.before.truth-of.result c.before.before.before.before.before.truth-of.ensures c.before.next_row.result c.operand.result c.before.before.before.enum-told3.given.1 (omega (arith, c.before.before.if1.false)) c.before.next_row.ensures c.operand.ensures
 
 pub after-conjunct-spec : {M : Type 1} → statement M
 after-conjunct-spec =

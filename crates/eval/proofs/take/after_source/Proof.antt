@@ -1,4 +1,4 @@
-use Rattle.eval.proofs.Taken.{takes-source}
+use Rattle.eval.proofs.Taken.{takes_source}
 use borrow.Author.Rules.{rules}
 use Rattle.eval.proofs.take.after_source.Statement.{statement}
 use Rattle.eval.proofs.take.after_source.Tie as tie
@@ -13,7 +13,7 @@ operand-requires : tie.Need-operand-requires
 operand-requires c κs = search rules
 
 returns : tie.Need-returns
-returns c = takes-source c.before.before.next_row.result c.before.next-row2.result c.operand.result c.before.before.next_row.ensures c.before.next-row2.ensures c.operand.ensures
+returns c = takes_source c.before.before.next_row.result c.before.next-row2.result c.operand.result c.before.before.next_row.ensures c.before.next-row2.ensures c.operand.ensures
 
 pub after-source-spec : {M : Type 1} → statement M
 after-source-spec =

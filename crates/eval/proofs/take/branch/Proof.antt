@@ -1,4 +1,4 @@
-use Rattle.eval.proofs.Taken.{chooses-second, chooses-third}
+use Rattle.eval.proofs.Taken.{chooses_second, chooses_third}
 use borrow.Author.Rules.{rules}
 use Rattle.eval.proofs.take.branch.Statement.{statement}
 use Rattle.eval.proofs.take.branch.Tie as tie
@@ -25,13 +25,13 @@ next-row-requires-3 : tie.Need-next-row-requires-3
 next-row-requires-3 c κs = search rules
 
 returns : tie.Need-returns
-returns c = chooses-second c.before.before.truth-of.result c.before.before.truth-of.ensures c.enum_told.given.1 c.before.before.before.next_row.ensures
+returns c = chooses_second c.before.before.truth-of.result c.before.before.truth-of.ensures c.enum_told.given.1 c.before.before.before.next_row.ensures
 
 returns-2 : tie.Need-returns-2
-returns-2 c = chooses-third c.before.before.before.truth-of.result c.before.before.before.truth-of.ensures (rw c.before.enum-told2.given.1) c.before.before.before.before.next_row.ensures c.next-row2.ensures
+returns-2 c = chooses_third c.before.before.before.truth-of.result c.before.before.before.truth-of.ensures (rw c.before.enum-told2.given.1) c.before.before.before.before.next_row.ensures c.next-row2.ensures
 
 returns-3 : tie.Need-returns-3
-returns-3 c = chooses-third c.before.before.before.truth-of.result c.before.before.before.truth-of.ensures (rw c.before.enum-told3.given.1) c.before.before.before.before.next_row.ensures c.next-row3.ensures
+returns-3 c = chooses_third c.before.before.before.truth-of.result c.before.before.before.truth-of.ensures (rw c.before.enum-told3.given.1) c.before.before.before.before.next_row.ensures c.next-row3.ensures
 
 pub branch-spec : {M : Type 1} → statement M
 branch-spec =

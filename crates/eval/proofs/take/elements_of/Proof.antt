@@ -1,5 +1,5 @@
 use mathlib.Core.Path.{sym, ap, ◌∙◌}
-use Rattle.eval.specs.Inner.{elementsOf}
+use Rattle.eval.specs.Inner.{elements_of}
 use borrow.Author.Rules.{rules}
 use Rattle.eval.proofs.take.elements_of.Statement.{statement}
 use Rattle.eval.proofs.take.elements_of.Tie as tie
@@ -47,7 +47,7 @@ returns-6 : tie.Need-returns-6
 returns-6 c = search rules
 
 returns-7 : tie.Need-returns-7
-returns-7 c = c.elements-in.ensures ∙ sym (ap elementsOf c.before.before.h.given.1)
+returns-7 c = c.elements-in.ensures ∙ sym (ap elements_of c.before.before.h.given.1)
 
 pub elements-of-spec : {M : Type 1} → statement M
 elements-of-spec =

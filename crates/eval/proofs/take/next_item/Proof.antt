@@ -1,7 +1,7 @@
 use mathlib.Core.Path.{sym, ◌∙◌}
 use native.Mathlib.Omega.{arith}
-use Rattle.model.specs.Laws.Widths.{cells-below}
-use Rattle.eval.proofs.Taken.{no-items-there, items-done, item-next, two-puts}
+use Rattle.model.specs.Laws.Widths.{cells_below}
+use Rattle.eval.proofs.Taken.{no_items_there, items_done, item_next, two_puts}
 use borrow.Author.Rules.{rules}
 use Rattle.eval.proofs.take.next_item.Statement.{statement}
 use Rattle.eval.proofs.take.next_item.Tie as tie
@@ -16,10 +16,10 @@ enum_told : tie.Need-enum-told
 enum_told c = search rules
 
 returns : tie.Need-returns
-returns c = no-items-there (sym c.before.before.elements-of.ensures ∙ c.enum_told.given.1)
+returns c = no_items_there (sym c.before.before.elements-of.ensures ∙ c.enum_told.given.1)
 
 returns-2 : tie.Need-returns-2
-returns-2 c = items-done c.before.before.before.p.given.0.0 (sym c.before.before.before.before.before.elements-of.ensures ∙ c.before.before.before.p.given.1) c.if1.true
+returns-2 c = items_done c.before.before.before.p.given.0.0 (sym c.before.before.before.before.before.elements-of.ensures ∙ c.before.before.before.p.given.1) c.if1.true
 
 head-requires : tie.Need-head-requires
 head-requires c κs = search rules
@@ -37,7 +37,7 @@ compound-requires : tie.Need-compound-requires
 compound-requires c κs = search rules
 
 add-state : tie.Need-overflow-add-state
-add-state c = omega (arith, cells-below, c.before.before.before.before.before.before.before.before.before.before.before.before.before.before.before.before.before.before.before.before.requires.fits, c.before.before.before.before.before.before.before.before.before.before.before.before.before.before.before.before.before.before.before.before.requires.within)
+add-state c = omega (arith, cells_below, c.before.before.before.before.before.before.before.before.before.before.before.before.before.before.before.before.before.before.before.before.requires.fits, c.before.before.before.before.before.before.before.before.before.before.before.before.before.before.before.before.before.before.before.before.requires.within)
 
 state-requires : tie.Need-state-requires
 state-requires c κs = search rules
@@ -52,7 +52,7 @@ same_length : tie.Need-same-length
 same_length c = search rules
 
 returns-3 : tie.Need-returns-3
-returns-3 c = item-next c.before.before.before.before.before.before.before.before.before.before.before.before.before.before.before.before.before.before.p.given.0.0 (sym c.before.before.before.before.before.before.before.before.before.before.before.before.before.before.before.before.before.before.before.before.elements-of.ensures ∙ c.before.before.before.before.before.before.before.before.before.before.before.before.before.before.before.before.before.before.p.given.1) c.before.before.before.before.before.before.before.before.before.before.before.before.head.result c.before.before.before.before.compound.result _ c.before.before.before.state.result c.before.before.operand.result c.tail.result c.before.before.before.before.before.before.before.before.before.before.before.before.before.before.before.before.before.before.before.before.before.before.before.before.requires (omega (arith, c.before.before.before.before.before.before.before.before.before.before.before.before.before.before.before.if1.false)) c.before.before.before.before.before.before.before.before.before.before.before.before.head.ensures (two-puts _ _ c.before.before.before.before.before.before.before.before.before.before.before.before.head.result c.before.before.before.before.before.before.before.before.before.before.before.before.before.before.before.before.before.before.before.before.before.before.before.before.args.value c.before.before.before.before.before.before.before.before.before.before.before.put.ensures c.before.before.before.before.before.before.before.put2.ensures) c.before.before.before.before.compound.ensures c.before.before.before.state.ensures c.before.before.operand.ensures c.tail.ensures
+returns-3 c = item_next c.before.before.before.before.before.before.before.before.before.before.before.before.before.before.before.before.before.before.p.given.0.0 (sym c.before.before.before.before.before.before.before.before.before.before.before.before.before.before.before.before.before.before.before.before.elements-of.ensures ∙ c.before.before.before.before.before.before.before.before.before.before.before.before.before.before.before.before.before.before.p.given.1) c.before.before.before.before.before.before.before.before.before.before.before.before.head.result c.before.before.before.before.compound.result _ c.before.before.before.state.result c.before.before.operand.result c.tail.result c.before.before.before.before.before.before.before.before.before.before.before.before.before.before.before.before.before.before.before.before.before.before.before.before.requires (omega (arith, c.before.before.before.before.before.before.before.before.before.before.before.before.before.before.before.if1.false)) c.before.before.before.before.before.before.before.before.before.before.before.before.head.ensures (two_puts _ _ c.before.before.before.before.before.before.before.before.before.before.before.before.head.result c.before.before.before.before.before.before.before.before.before.before.before.before.before.before.before.before.before.before.before.before.before.before.before.before.args.value c.before.before.before.before.before.before.before.before.before.before.before.put.ensures c.before.before.before.before.before.before.before.put2.ensures) c.before.before.before.before.compound.ensures c.before.before.before.state.ensures c.before.before.operand.ensures c.tail.ensures
 
 pub next-item-spec : {M : Type 1} → statement M
 next-item-spec =

@@ -1,4 +1,4 @@
-use Rattle.eval.proofs.Steps.{taken, branch-ends, item_room, argument-room, take-stops}
+use Rattle.eval.proofs.Steps.{taken, branch_ends, item_room, argument_room, take_stops}
 use borrow.Author.Rules.{rules}
 use Rattle.eval.proofs.take.take.Statement.{statement}
 use Rattle.eval.proofs.take.take.Tie as tie
@@ -10,7 +10,7 @@ enum_told : tie.Need-enum-told
 enum_told c = search rules
 
 returns : tie.Need-returns
-returns c = take-stops c.before.before.before.before.before.before.before.args.e c.enum_told.given.0.0 c.enum_told.given.0.1.0 c.enum_told.given.1 c.before.before.before.before.before.before.before.requires
+returns c = take_stops c.before.before.before.before.before.before.before.args.e c.enum_told.given.0.0 c.enum_told.given.0.1.0 c.enum_told.given.1 c.before.before.before.before.before.before.before.requires
 
 operand-requires : tie.Need-operand-requires
 operand-requires c κs = search rules
@@ -46,13 +46,13 @@ enum-known-frame-3 : tie.Need-enum-known-frame-3
 enum-known-frame-3 c = search rules
 
 after-argument-requires : tie.Need-after-argument-requires
-after-argument-requires c κs = argument-room c.before.before.before.before.before.before.e.given.0.0 c.before.before.before.before.before.before.e.given.0.1.0 c.before.before.before.before.before.before.e.given.1 c.before.before.before.before.before.before.before.before.before.before.before.before.before.requires c.before.before.frame3.given.0.0 c.before.before.before.before.operand.result c.before.before.frame3.given.1 c.before.before.before.before.operand.ensures
+after-argument-requires c κs = argument_room c.before.before.before.before.before.before.e.given.0.0 c.before.before.before.before.before.before.e.given.0.1.0 c.before.before.before.before.before.before.e.given.1 c.before.before.before.before.before.before.before.before.before.before.before.before.before.requires c.before.before.frame3.given.0.0 c.before.before.before.before.operand.result c.before.before.frame3.given.1 c.before.before.before.before.operand.ensures
 
 returns-2 : tie.Need-returns-2
 returns-2 c = taken c.before.before.before.before.before.e.given.0.0 c.before.before.before.before.before.e.given.0.1.0 c.before.before.before.before.before.e.given.1 c.before.before.before.before.before.before.before.before.before.before.before.before.requires c.before.before.before.operand.result c.before.before.before.operand.ensures (rw c.before.enum-told2.given.1 (c.after-guard.ensures.takes _ _ _ _))
 
 returns-3 : tie.Need-returns-3
-returns-3 c = branch-ends c.before.before.before.before.e.given.0.0 c.before.before.before.before.e.given.0.1.0 c.before.before.before.before.e.given.1 c.before.before.before.before.before.before.before.before.before.before.before.requires c.enum-told3.given.1
+returns-3 c = branch_ends c.before.before.before.before.e.given.0.0 c.before.before.before.before.e.given.0.1.0 c.before.before.before.before.e.given.1 c.before.before.before.before.before.before.before.before.before.before.before.requires c.enum-told3.given.1
 
 returns-4 : tie.Need-returns-4
 returns-4 c = taken c.before.before.before.before.before.before.e.given.0.0 c.before.before.before.before.before.before.e.given.0.1.0 c.before.before.before.before.before.before.e.given.1 c.before.before.before.before.before.before.before.before.before.before.before.before.before.requires c.before.before.before.before.operand.result c.before.before.before.before.operand.ensures (rw c.before.before.frame.given.1 (c.after-conjunct.ensures.takes _ _ _ _))
@@ -64,7 +64,7 @@ same_length : tie.Need-same-length
 same_length c = search rules
 
 returns-6 : tie.Need-returns-6
-returns-6 c = taken c.before.before.before.before.before.before.before.before.before.e.given.0.0 c.before.before.before.before.before.before.before.before.before.e.given.0.1.0 c.before.before.before.before.before.before.before.before.before.e.given.1 c.before.before.before.before.before.before.before.before.before.before.before.before.before.before.before.before.requires c.before.before.before.before.before.before.before.operand.result c.before.before.before.before.before.before.before.operand.ensures (rw c.before.before.before.before.before.frame2.given.1 (c.before.before.next-item.ensures.takes _ _ _))
+returns-6 c = taken c.before.before.before.before.before.before.before.before.before.e.given.0.0 c.before.before.before.before.before.before.before.before.before.e.given.0.1.0 c.before.before.before.before.before.before.before.before.before.e.given.1 c.before.before.before.before.before.before.before.before.before.before.before.before.before.before.before.before.requires c.before.before.before.before.before.before.before.operand.result c.before.before.before.before.before.before.before.operand.ensures (rw c.before.before.before.before.before.frame2.given.1 (c.before.before.next_item_lem.ensures.takes _ _ _))
 
 same-length-2 : tie.Need-same-length-2
 same-length-2 c = search rules

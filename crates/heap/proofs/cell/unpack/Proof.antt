@@ -1,6 +1,6 @@
 use mathlib.Core.Path.{ap}
 use Rattle.heap.specs.declared.handle.Handle.TheVariants.{Integer, Instant}
-use Rattle.heap.proofs.Packing.{no-tag}
+use Rattle.heap.proofs.Packing.{no_tag}
 use borrow.Author.Rules.{rules}
 use Rattle.heap.proofs.cell.unpack.Statement.{statement}
 use Rattle.heap.proofs.cell.unpack.Tie as tie
@@ -71,7 +71,7 @@ returns-11 c =
     let c2 = c3.before in
     let c1 = c2.before in
     let c0 = c1.before in
-    no-tag c0.args.p c1.if1.false c2.if2.false c3.if3.false c4.if4.false c5.if5.false c6.if6.false c7.if7.false c8.if8.false c9.if9.false c.if10.false
+    no_tag c0.args.p c1.if1.false c2.if2.false c3.if3.false c4.if4.false c5.if5.false c6.if6.false c7.if7.false c8.if8.false c9.if9.false c.if10.false
 
 pub unpack-spec : {M : Type 1} → statement M
 unpack-spec =

@@ -1,5 +1,5 @@
 use mathlib.Core.Path.{ap, ◌∙◌}
-use Rattle.heap.specs.Handles.{recordHandle}
+use Rattle.heap.specs.Handles.{record_handle}
 use borrow.Author.Rules.{rules}
 use Rattle.heap.proofs.handle.load.Statement.{statement}
 use Rattle.heap.proofs.handle.load.Tie as tie
@@ -11,7 +11,7 @@ of-node-requires : tie.Need-of-node-requires
 of-node-requires c κs = search rules
 
 returns : tie.Need-returns
-returns c = c.of_node.ensures ∙ ap recordHandle c.before.Node-at.ensures
+returns c = c.of_node.ensures ∙ ap record_handle c.before.Node-at.ensures
 
 pub load_spec : {M : Type 1} → statement M
 load_spec = tie.close (tie.spec node-at-requires of-node-requires returns)

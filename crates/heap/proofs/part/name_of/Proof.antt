@@ -26,13 +26,13 @@ returns : tie.Need-returns
 returns c = search rules
 
 returns-2 : tie.Need-returns-2
-returns-2 c = rw c.before.enum-told2.given.1 (ap Name c.name-at.ensures)
+returns-2 c = rw c.before.enum-told2.given.1 (ap Name c.name_at_lem.ensures)
 
 returns-3 : tie.Need-returns-3
 returns-3 c = search rules
 
 returns-4 : tie.Need-returns-4
-returns-4 c = rw c.before.enum-told4.given.1 c.context-label.ensures
+returns-4 c = rw c.before.enum-told4.given.1 c.context_label_lem.ensures
 
 pub name-of-spec : {M : Type 1} → statement M
 name-of-spec =

@@ -33,7 +33,7 @@ returns-2 : tie.Need-returns-2
 returns-2 c = rw c.before.enum-told2.given.1 c.next-row2.ensures
 
 returns-3 : tie.Need-returns-3
-returns-3 c = rw c.before.enum-told3.given.1 c.next-cell.ensures
+returns-3 c = rw c.before.enum-told3.given.1 c.next_cell_lem.ensures
 
 returns-4 : tie.Need-returns-4
 returns-4 c = rw c.before.enum-told4.given.1 c.next-cell2.ensures

@@ -6,28 +6,28 @@ use mir.Val.{of_z, to_z}
 use Rattle.model.specs.Instant.{ranged}
 use Rattle.model.specs.declared.TimeUnit.{TimeUnit}
 use Rattle.model.specs.declared.TimeUnit.TheVariants.{Year, Month, Day, Hour}
-use Rattle.calendar.specs.Contract.{instantResult, shifted}
-use Rattle.instants.proofs.Shifts.{Own, own_of, shiftedSince, shifted-is, shifted-out}
+use Rattle.calendar.specs.Contract.{instant_result, shifted}
+use Rattle.instants.proofs.Shifts.{Own, own_of, shifted_since, shifted_is, shifted_out}
 use borrow.Author.Rules.{rules}
 use Rattle.instants.proofs.shift.shift.Statement.{statement}
 use Rattle.instants.proofs.shift.shift.Tie as tie
 
 -- What `Instant::new` says of the instant itself.
-ranged-is : (c : tie.After-new) → instantResult c.new.result ≡ ranged c.before.before.args.t.ms
-ranged-is c = c.new.ensures ∙ ap ranged (to_z-of_z (record { sfits = c.before.milliseconds.type-inv }) ∙ c.before.milliseconds.ensures)
+ranged_is : (c : tie.After-new) → instant_result c.new.result ≡ ranged c.before.before.args.t.ms
+ranged_is c = c.new.ensures ∙ ap ranged (to_z-of_z (record { sfits = c.before.milliseconds.type-inv }) ∙ c.before.milliseconds.ensures)
 
 own : (c : tie.After-since-year-0) → Own c.before.before.before.before.before.before.args.t.ms c.since-year-0.result
 own c =
     let w = c.before.before.own.given in
-    own_of _ w.0.0.ms _ (ap instantResult (sym w.1) ∙ ranged-is c.before.before.before.before) c.since-year-0.ensures
+    own_of _ w.0.0.ms _ (ap instant_result (sym w.1) ∙ ranged_is c.before.before.before.before) c.since-year-0.ensures
 
 -- What each arm of the match has to give.
 moved : (c : tie.After-since-year-0) (unit : TimeUnit)
     → let a = c.before.before.before.before.before.before.args in
-    shiftedSince c.since-year-0.result (to_z w64 (of_z w64 a.amount)) unit ≡ shifted a.t.ms a.amount unit
+    shifted_since c.since-year-0.result (to_z w64 (of_z w64 a.amount)) unit ≡ shifted a.t.ms a.amount unit
 moved c unit =
     let s = c.before.before.before.before.before.before in
-    rw (to_z-of_z s.ranges.amount) (shifted-is s.args.t.ms c.since-year-0.result (own c) s.args.amount unit)
+    rw (to_z-of_z s.ranges.amount) (shifted_is s.args.t.ms c.since-year-0.result (own c) s.args.amount unit)
 
 milliseconds-requires : tie.Need-milliseconds-requires
 milliseconds-requires c κs = search rules
@@ -44,7 +44,7 @@ enum_told c = search rules
 returns : tie.Need-returns
 returns c =
     let a = c.before.before.before.before.args in
-    shifted-out a.t.ms a.amount a.unit (ap instantResult (sym c.enum_told.given.1) ∙ ranged-is c.before.before)
+    shifted_out a.t.ms a.amount a.unit (ap instant_result (sym c.enum_told.given.1) ∙ ranged_is c.before.before)
 
 since-year-0-requires : tie.Need-since-year-0-requires
 since-year-0-requires c κs = search rules
@@ -53,25 +53,25 @@ enum-told-2 : tie.Need-enum-told-2
 enum-told-2 c = search rules
 
 shift-months-requires : tie.Need-shift-months-requires
-shift-months-requires c κs = let h = (own c.before.before).since-high in omega arith
+shift-months-requires c κs = let h = (own c.before.before).since_high in omega arith
 
 enum-told-3 : tie.Need-enum-told-3
 enum-told-3 c = search rules
 
 shift-months-requires-2 : tie.Need-shift-months-requires-2
-shift-months-requires-2 c κs = let h = (own c.before.before).since-high in omega arith
+shift-months-requires-2 c κs = let h = (own c.before.before).since_high in omega arith
 
 enum-told-4 : tie.Need-enum-told-4
 enum-told-4 c = search rules
 
 shift-time-requires : tie.Need-shift-time-requires
-shift-time-requires c κs = let h = (own c.before.before).since-high in omega arith
+shift-time-requires c κs = let h = (own c.before.before).since_high in omega arith
 
 enum-told-5 : tie.Need-enum-told-5
 enum-told-5 c = search rules
 
 shift-time-requires-2 : tie.Need-shift-time-requires-2
-shift-time-requires-2 c κs = let h = (own c.before.before).since-high in omega arith
+shift-time-requires-2 c κs = let h = (own c.before.before).since_high in omega arith
 
 returns-2 : tie.Need-returns-2
 returns-2 c = rw c.before.enum-told2.given.1 (c.shift-months.ensures ∙ moved c.before.before.before Year)

@@ -1,5 +1,5 @@
-use Rattle.pipeline.specs.Laws.LongAreas.{text-long, rule-long}
-use Rattle.jehvrukam.proofs.Judging.{rule-stops, record-stops, run-ready, judged}
+use Rattle.pipeline.specs.Laws.LongAreas.{text_long, rule_long}
+use Rattle.jehvrukam.proofs.Judging.{rule_stops, record_stops, run_ready, judged}
 use borrow.Author.Rules.{rules}
 use Rattle.jehvrukam.proofs.evaluate.judge.Statement.{statement}
 use Rattle.jehvrukam.proofs.evaluate.judge.Tie as tie
@@ -22,7 +22,7 @@ same-length-2 c = search rules
 
 -- src/evaluate.rt:67:9
 returns : tie.Need-returns
-returns c = rule-stops c.before.before.before.before.before.before.before.before.before.before.before.before.before.before.before.before.before.before.args.rule-text.now c.before.before.before.before.before.before.before.before.before.before.before.before.before.before.before.before.before.before.args.record-text.now c.before.before.before.before.before.before.before.before.before.before.before.before.before.before.before.before.before.before.args.limit c.before.before.before.before.before.before.before.before.before.before.before.before.before.before.before.before.before.before.args.rule-table.now c.before.before.before.before.before.before.before.before.before.before.before.before.before.before.before.before.before.before.args.rule-strings.now c.before.before.before.before.before.before.before.before.before.before.before.before.before.before.before.before.before.before.args.record-table.now c.before.before.before.before.before.before.before.before.before.before.before.before.before.before.before.before.before.before.args.record-strings.now c.before.before.before.before.before.before.before.before.before.before.before.before.before.before.before.before.before.before.args.cells.now c.before.before.before.before.before.before.before.before.before.before.before.before.before.before.before.before.before.before.args.output.now (rule-long c.before.before.before.before.before.before.before.before.before.before.before.before.before.before.before.before.before.before.requires.0 c.before.before.before.before.before.before.before.read-rule.ensures) c.before.if1.true c.not-run.ensures (record { first = c.before.before.before.before.before.before.before.read-rule.auto.1.0; second = c.before.before.before.before.before.before.before.read-rule.auto.1.1.0 })
+returns c = rule_stops c.before.before.before.before.before.before.before.before.before.before.before.before.before.before.before.before.before.before.args.rule_text_lem.now c.before.before.before.before.before.before.before.before.before.before.before.before.before.before.before.before.before.before.args.record_text_lem.now c.before.before.before.before.before.before.before.before.before.before.before.before.before.before.before.before.before.before.args.limit c.before.before.before.before.before.before.before.before.before.before.before.before.before.before.before.before.before.before.args.rule-table.now c.before.before.before.before.before.before.before.before.before.before.before.before.before.before.before.before.before.before.args.rule-strings.now c.before.before.before.before.before.before.before.before.before.before.before.before.before.before.before.before.before.before.args.record-table.now c.before.before.before.before.before.before.before.before.before.before.before.before.before.before.before.before.before.before.args.record-strings.now c.before.before.before.before.before.before.before.before.before.before.before.before.before.before.before.before.before.before.args.cells.now c.before.before.before.before.before.before.before.before.before.before.before.before.before.before.before.before.before.before.args.output.now (rule_long c.before.before.before.before.before.before.before.before.before.before.before.before.before.before.before.before.before.before.requires.0 c.before.before.before.before.before.before.before.read-rule.ensures) c.before.if1.true c.not-run.ensures (record { first = c.before.before.before.before.before.before.before.read-rule.auto.1.0; second = c.before.before.before.before.before.before.before.read-rule.auto.1.1.0 })
 
 -- src/evaluate.rt:69:9
 read-text-requires : tie.Need-read-text-requires
@@ -50,11 +50,11 @@ same-length-6 c = search rules
 
 -- src/evaluate.rt:71:9
 returns-2 : tie.Need-returns-2
-returns-2 c = record-stops c.before.before.before.before.before.before.before.before.before.before.before.before.before.before.before.before.before.before.before.before.before.before.before.before.before.before.before.args.rule-text.now c.before.before.before.before.before.before.before.before.before.before.before.before.before.before.before.before.before.before.before.before.before.before.before.before.before.before.before.args.record-text.now c.before.before.before.before.before.before.before.before.before.before.before.before.before.before.before.before.before.before.before.before.before.before.before.before.before.before.before.args.limit c.before.before.before.before.before.before.before.before.before.before.before.before.before.before.before.before.before.before.before.before.before.before.before.before.before.before.before.args.rule-table.now c.before.before.before.before.before.before.before.before.before.before.before.before.before.before.before.before.before.before.before.before.before.before.before.before.before.before.before.args.rule-strings.now c.before.before.before.before.before.before.before.before.before.before.before.before.before.before.before.before.before.before.before.before.before.before.before.before.before.before.before.args.record-table.now c.before.before.before.before.before.before.before.before.before.before.before.before.before.before.before.before.before.before.before.before.before.before.before.before.before.before.before.args.record-strings.now c.before.before.before.before.before.before.before.before.before.before.before.before.before.before.before.before.before.before.before.before.before.before.before.before.before.before.before.args.cells.now c.before.before.before.before.before.before.before.before.before.before.before.before.before.before.before.before.before.before.before.before.before.before.before.before.before.before.before.args.output.now (rule-long c.before.before.before.before.before.before.before.before.before.before.before.before.before.before.before.before.before.before.before.before.before.before.before.before.before.before.before.requires.0 c.before.before.before.before.before.before.before.before.before.before.before.before.before.before.before.before.read-rule.ensures) c.before.before.before.before.before.before.before.before.before.before.if1.false (text-long c.before.before.before.before.before.before.before.before.before.before.before.before.before.before.before.before.before.before.before.before.before.before.before.before.before.before.before.requires.1 c.before.before.before.before.before.before.before.read-text.ensures) (record { first = c.before.before.before.before.before.before.before.before.before.before.before.before.before.before.before.before.read-rule.auto.1.0; second = c.before.before.before.before.before.before.before.before.before.before.before.before.before.before.before.before.read-rule.auto.1.1.0 }) (record { first = c.before.before.before.before.before.before.before.read-text.auto.1.1.0; second = c.before.before.before.before.before.before.before.read-text.auto.1.1.1.0 }) c.before.if2.true c.not-run2.ensures
+returns-2 c = record_stops c.before.before.before.before.before.before.before.before.before.before.before.before.before.before.before.before.before.before.before.before.before.before.before.before.before.before.before.args.rule_text_lem.now c.before.before.before.before.before.before.before.before.before.before.before.before.before.before.before.before.before.before.before.before.before.before.before.before.before.before.before.args.record_text_lem.now c.before.before.before.before.before.before.before.before.before.before.before.before.before.before.before.before.before.before.before.before.before.before.before.before.before.before.before.args.limit c.before.before.before.before.before.before.before.before.before.before.before.before.before.before.before.before.before.before.before.before.before.before.before.before.before.before.before.args.rule-table.now c.before.before.before.before.before.before.before.before.before.before.before.before.before.before.before.before.before.before.before.before.before.before.before.before.before.before.before.args.rule-strings.now c.before.before.before.before.before.before.before.before.before.before.before.before.before.before.before.before.before.before.before.before.before.before.before.before.before.before.before.args.record-table.now c.before.before.before.before.before.before.before.before.before.before.before.before.before.before.before.before.before.before.before.before.before.before.before.before.before.before.before.args.record-strings.now c.before.before.before.before.before.before.before.before.before.before.before.before.before.before.before.before.before.before.before.before.before.before.before.before.before.before.before.args.cells.now c.before.before.before.before.before.before.before.before.before.before.before.before.before.before.before.before.before.before.before.before.before.before.before.before.before.before.before.args.output.now (rule_long c.before.before.before.before.before.before.before.before.before.before.before.before.before.before.before.before.before.before.before.before.before.before.before.before.before.before.before.requires.0 c.before.before.before.before.before.before.before.before.before.before.before.before.before.before.before.before.read-rule.ensures) c.before.before.before.before.before.before.before.before.before.before.if1.false (text_long c.before.before.before.before.before.before.before.before.before.before.before.before.before.before.before.before.before.before.before.before.before.before.before.before.before.before.before.requires.1 c.before.before.before.before.before.before.before.read-text.ensures) (record { first = c.before.before.before.before.before.before.before.before.before.before.before.before.before.before.before.before.read-rule.auto.1.0; second = c.before.before.before.before.before.before.before.before.before.before.before.before.before.before.before.before.read-rule.auto.1.1.0 }) (record { first = c.before.before.before.before.before.before.before.read-text.auto.1.1.0; second = c.before.before.before.before.before.before.before.read-text.auto.1.1.1.0 }) c.before.if2.true c.not-run2.ensures
 
 -- src/evaluate.rt:73:9
 evaluate-requires : tie.Need-evaluate-requires
-evaluate-requires c κs = run-ready c.before.before.before.before.before.before.before.before.before.before.before.before.before.before.before.before.before.before.before.before.before.before.before.before.before.before.before.before.before.before.before.before.args.rule-text.now c.before.before.before.before.before.before.before.before.before.before.before.before.before.before.before.before.before.before.before.before.before.before.before.before.before.before.before.before.before.before.before.before.args.record-text.now c.before.before.before.before.before.before.before.before.before.before.before.before.before.before.before.before.before.before.before.before.before.before.before.before.before.before.before.before.before.before.before.before.args.limit c.before.before.before.before.before.before.before.before.before.before.before.before.before.before.before.before.before.before.before.before.before.before.before.before.before.before.before.before.before.before.before.before.args.rule-table.now c.before.before.before.before.before.before.before.before.before.before.before.before.before.before.before.before.before.before.before.before.before.before.before.before.before.before.before.before.before.before.before.before.args.rule-strings.now c.before.before.before.before.before.before.before.before.before.before.before.before.before.before.before.before.before.before.before.before.before.before.before.before.before.before.before.before.before.before.before.before.args.record-table.now c.before.before.before.before.before.before.before.before.before.before.before.before.before.before.before.before.before.before.before.before.before.before.before.before.before.before.before.before.before.before.before.before.args.record-strings.now c.before.before.before.before.before.before.before.before.before.before.before.before.before.before.before.before.before.before.before.before.before.before.before.before.before.before.before.before.before.before.before.before.args.cells.now c.before.before.before.before.before.before.before.before.before.before.before.before.before.before.before.before.before.before.before.before.before.before.before.before.before.before.before.before.before.before.before.before.args.output.now (rule-long c.before.before.before.before.before.before.before.before.before.before.before.before.before.before.before.before.before.before.before.before.before.before.before.before.before.before.before.before.before.before.before.before.requires.0 c.before.before.before.before.before.before.before.before.before.before.before.before.before.before.before.before.before.before.before.before.before.read-rule.ensures) c.before.before.before.before.before.before.before.before.before.before.before.before.before.before.before.if1.false (text-long c.before.before.before.before.before.before.before.before.before.before.before.before.before.before.before.before.before.before.before.before.before.before.before.before.before.before.before.before.before.before.before.before.requires.1 c.before.before.before.before.before.before.before.before.before.before.before.before.read-text.ensures) (record { first = c.before.before.before.before.before.before.before.before.before.before.before.before.before.before.before.before.before.before.before.before.before.read-rule.auto.1.0; second = c.before.before.before.before.before.before.before.before.before.before.before.before.before.before.before.before.before.before.before.before.before.read-rule.auto.1.1.0 }) (record { first = c.before.before.before.before.before.before.before.before.before.before.before.before.read-text.auto.1.1.0; second = c.before.before.before.before.before.before.before.before.before.before.before.before.read-text.auto.1.1.1.0 }) c.before.before.before.before.before.before.if2.false c.before.before.before.before.before.before.before.before.before.before.before.before.before.before.before.before.before.before.before.before.before.before.before.before.before.before.before.before.before.before.before.before.requires.2
+evaluate-requires c κs = run_ready c.before.before.before.before.before.before.before.before.before.before.before.before.before.before.before.before.before.before.before.before.before.before.before.before.before.before.before.before.before.before.before.before.args.rule_text_lem.now c.before.before.before.before.before.before.before.before.before.before.before.before.before.before.before.before.before.before.before.before.before.before.before.before.before.before.before.before.before.before.before.before.args.record_text_lem.now c.before.before.before.before.before.before.before.before.before.before.before.before.before.before.before.before.before.before.before.before.before.before.before.before.before.before.before.before.before.before.before.before.args.limit c.before.before.before.before.before.before.before.before.before.before.before.before.before.before.before.before.before.before.before.before.before.before.before.before.before.before.before.before.before.before.before.before.args.rule-table.now c.before.before.before.before.before.before.before.before.before.before.before.before.before.before.before.before.before.before.before.before.before.before.before.before.before.before.before.before.before.before.before.before.args.rule-strings.now c.before.before.before.before.before.before.before.before.before.before.before.before.before.before.before.before.before.before.before.before.before.before.before.before.before.before.before.before.before.before.before.before.args.record-table.now c.before.before.before.before.before.before.before.before.before.before.before.before.before.before.before.before.before.before.before.before.before.before.before.before.before.before.before.before.before.before.before.before.args.record-strings.now c.before.before.before.before.before.before.before.before.before.before.before.before.before.before.before.before.before.before.before.before.before.before.before.before.before.before.before.before.before.before.before.before.args.cells.now c.before.before.before.before.before.before.before.before.before.before.before.before.before.before.before.before.before.before.before.before.before.before.before.before.before.before.before.before.before.before.before.before.args.output.now (rule_long c.before.before.before.before.before.before.before.before.before.before.before.before.before.before.before.before.before.before.before.before.before.before.before.before.before.before.before.before.before.before.before.before.requires.0 c.before.before.before.before.before.before.before.before.before.before.before.before.before.before.before.before.before.before.before.before.before.read-rule.ensures) c.before.before.before.before.before.before.before.before.before.before.before.before.before.before.before.if1.false (text_long c.before.before.before.before.before.before.before.before.before.before.before.before.before.before.before.before.before.before.before.before.before.before.before.before.before.before.before.before.before.before.before.before.requires.1 c.before.before.before.before.before.before.before.before.before.before.before.before.read-text.ensures) (record { first = c.before.before.before.before.before.before.before.before.before.before.before.before.before.before.before.before.before.before.before.before.before.read-rule.auto.1.0; second = c.before.before.before.before.before.before.before.before.before.before.before.before.before.before.before.before.before.before.before.before.before.read-rule.auto.1.1.0 }) (record { first = c.before.before.before.before.before.before.before.before.before.before.before.before.read-text.auto.1.1.0; second = c.before.before.before.before.before.before.before.before.before.before.before.before.read-text.auto.1.1.1.0 }) c.before.before.before.before.before.before.if2.false c.before.before.before.before.before.before.before.before.before.before.before.before.before.before.before.before.before.before.before.before.before.before.before.before.before.before.before.before.before.before.before.before.requires.2
 
 -- src/evaluate.rt:51:1
 same-length-7 : tie.Need-same-length-7
@@ -82,7 +82,7 @@ same-length-12 c = search rules
 
 -- src/evaluate.rt:51:1
 returns-3 : tie.Need-returns-3
-returns-3 c = judged c.before.before.before.before.before.before.before.before.before.before.before.before.before.before.before.before.before.before.before.before.before.before.before.before.before.before.before.before.before.before.before.before.before.before.before.before.before.args.rule-text.now c.before.before.before.before.before.before.before.before.before.before.before.before.before.before.before.before.before.before.before.before.before.before.before.before.before.before.before.before.before.before.before.before.before.before.before.before.before.args.record-text.now c.before.before.before.before.before.before.before.before.before.before.before.before.before.before.before.before.before.before.before.before.before.before.before.before.before.before.before.before.before.before.before.before.before.before.before.before.before.args.limit c.before.before.before.before.before.before.before.before.before.before.before.before.before.before.before.before.before.before.before.before.before.before.before.before.before.before.before.before.before.before.before.before.before.before.before.before.before.args.rule-table.now c.before.before.before.before.before.before.before.before.before.before.before.before.before.before.before.before.before.before.before.before.before.before.before.before.before.before.before.before.before.before.before.before.before.before.before.before.before.args.rule-strings.now c.before.before.before.before.before.before.before.before.before.before.before.before.before.before.before.before.before.before.before.before.before.before.before.before.before.before.before.before.before.before.before.before.before.before.before.before.before.args.record-table.now c.before.before.before.before.before.before.before.before.before.before.before.before.before.before.before.before.before.before.before.before.before.before.before.before.before.before.before.before.before.before.before.before.before.before.before.before.before.args.record-strings.now c.before.before.before.before.before.before.before.before.before.before.before.before.before.before.before.before.before.before.before.before.before.before.before.before.before.before.before.before.before.before.before.before.before.before.before.before.before.args.cells.now c.before.before.before.before.before.before.before.before.before.before.before.before.before.before.before.before.before.before.before.before.before.before.before.before.before.before.before.before.before.before.before.before.before.before.before.before.before.args.output.now (rule-long c.before.before.before.before.before.before.before.before.before.before.before.before.before.before.before.before.before.before.before.before.before.before.before.before.before.before.before.before.before.before.before.before.before.before.before.before.before.requires.0 c.before.before.before.before.before.before.before.before.before.before.before.before.before.before.before.before.before.before.before.before.before.before.before.before.before.before.read-rule.ensures) c.before.before.before.before.before.before.before.before.before.before.before.before.before.before.before.before.before.before.before.before.if1.false (text-long c.before.before.before.before.before.before.before.before.before.before.before.before.before.before.before.before.before.before.before.before.before.before.before.before.before.before.before.before.before.before.before.before.before.before.before.before.before.requires.1 c.before.before.before.before.before.before.before.before.before.before.before.before.before.before.before.before.before.read-text.ensures) (record { first = c.before.before.before.before.before.before.before.before.before.before.before.before.before.before.before.before.before.before.before.before.before.before.before.before.before.before.read-rule.auto.1.0; second = c.before.before.before.before.before.before.before.before.before.before.before.before.before.before.before.before.before.before.before.before.before.before.before.before.before.before.read-rule.auto.1.1.0 }) (record { first = c.before.before.before.before.before.before.before.before.before.before.before.before.before.before.before.before.before.read-text.auto.1.1.0; second = c.before.before.before.before.before.before.before.before.before.before.before.before.before.before.before.before.before.read-text.auto.1.1.1.0 }) c.before.before.before.before.before.before.before.before.before.before.before.if2.false c.before.before.before.before.before.before.before.before.before.before.before.before.before.before.before.before.before.before.before.before.before.before.before.before.before.before.before.before.before.before.before.before.before.before.before.before.before.requires.2 c.before.before.before.before.evaluate.ensures (record { first = c.before.before.before.before.evaluate.auto.1.1.1.1.0; second = c.before.before.before.before.evaluate.auto.1.1.1.1.1.1.0 })
+returns-3 c = judged c.before.before.before.before.before.before.before.before.before.before.before.before.before.before.before.before.before.before.before.before.before.before.before.before.before.before.before.before.before.before.before.before.before.before.before.before.before.args.rule_text_lem.now c.before.before.before.before.before.before.before.before.before.before.before.before.before.before.before.before.before.before.before.before.before.before.before.before.before.before.before.before.before.before.before.before.before.before.before.before.before.args.record_text_lem.now c.before.before.before.before.before.before.before.before.before.before.before.before.before.before.before.before.before.before.before.before.before.before.before.before.before.before.before.before.before.before.before.before.before.before.before.before.before.args.limit c.before.before.before.before.before.before.before.before.before.before.before.before.before.before.before.before.before.before.before.before.before.before.before.before.before.before.before.before.before.before.before.before.before.before.before.before.before.args.rule-table.now c.before.before.before.before.before.before.before.before.before.before.before.before.before.before.before.before.before.before.before.before.before.before.before.before.before.before.before.before.before.before.before.before.before.before.before.before.before.args.rule-strings.now c.before.before.before.before.before.before.before.before.before.before.before.before.before.before.before.before.before.before.before.before.before.before.before.before.before.before.before.before.before.before.before.before.before.before.before.before.before.args.record-table.now c.before.before.before.before.before.before.before.before.before.before.before.before.before.before.before.before.before.before.before.before.before.before.before.before.before.before.before.before.before.before.before.before.before.before.before.before.before.args.record-strings.now c.before.before.before.before.before.before.before.before.before.before.before.before.before.before.before.before.before.before.before.before.before.before.before.before.before.before.before.before.before.before.before.before.before.before.before.before.before.args.cells.now c.before.before.before.before.before.before.before.before.before.before.before.before.before.before.before.before.before.before.before.before.before.before.before.before.before.before.before.before.before.before.before.before.before.before.before.before.before.args.output.now (rule_long c.before.before.before.before.before.before.before.before.before.before.before.before.before.before.before.before.before.before.before.before.before.before.before.before.before.before.before.before.before.before.before.before.before.before.before.before.before.requires.0 c.before.before.before.before.before.before.before.before.before.before.before.before.before.before.before.before.before.before.before.before.before.before.before.before.before.before.read-rule.ensures) c.before.before.before.before.before.before.before.before.before.before.before.before.before.before.before.before.before.before.before.before.if1.false (text_long c.before.before.before.before.before.before.before.before.before.before.before.before.before.before.before.before.before.before.before.before.before.before.before.before.before.before.before.before.before.before.before.before.before.before.before.before.before.requires.1 c.before.before.before.before.before.before.before.before.before.before.before.before.before.before.before.before.before.read-text.ensures) (record { first = c.before.before.before.before.before.before.before.before.before.before.before.before.before.before.before.before.before.before.before.before.before.before.before.before.before.before.read-rule.auto.1.0; second = c.before.before.before.before.before.before.before.before.before.before.before.before.before.before.before.before.before.before.before.before.before.before.before.before.before.before.read-rule.auto.1.1.0 }) (record { first = c.before.before.before.before.before.before.before.before.before.before.before.before.before.before.before.before.before.read-text.auto.1.1.0; second = c.before.before.before.before.before.before.before.before.before.before.before.before.before.before.before.before.before.read-text.auto.1.1.1.0 }) c.before.before.before.before.before.before.before.before.before.before.before.if2.false c.before.before.before.before.before.before.before.before.before.before.before.before.before.before.before.before.before.before.before.before.before.before.before.before.before.before.before.before.before.before.before.before.before.before.before.before.before.requires.2 c.before.before.before.before.evaluate.ensures (record { first = c.before.before.before.before.evaluate.auto.1.1.1.1.0; second = c.before.before.before.before.evaluate.auto.1.1.1.1.1.1.0 })
 
 pub judge-spec : {M : Type 1} → statement M
 judge-spec =

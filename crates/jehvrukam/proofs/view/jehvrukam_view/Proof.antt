@@ -2,9 +2,9 @@ use borrow.Author.Rules.{rules}
 use mathlib.Core.Path.{refl, sym, ap}
 use mathlib.Core.Option.{some}
 use Prim.Native.Nat.{ℕ}
-use Rattle.viewer.specs.Answer.{seenOf}
+use Rattle.viewer.specs.Answer.{seen_of}
 use Rattle.jehvrukam.specs.Contract.{seen}
-use Rattle.jehvrukam.proofs.Viewing.{tells_none, tells-some}
+use Rattle.jehvrukam.proofs.Viewing.{tells_none, tells_some}
 use Rattle.jehvrukam.proofs.view.jehvrukam_view.Statement.{statement}
 use Rattle.jehvrukam.proofs.view.jehvrukam_view.Tie as tie
 
@@ -18,7 +18,7 @@ enum_told : tie.Need-enum-told
 enum_told c = search rules
 
 returns : tie.Need-returns
-returns c = tells_none seenOf c.before.before.row_at.ensures c.enum_told.given.1 refl
+returns c = tells_none seen_of c.before.before.row_at.ensures c.enum_told.given.1 refl
 
 count-of-requires : tie.Need-count-of-requires
 count-of-requires c κs = search rules
@@ -26,7 +26,7 @@ count-of-requires c κs = search rules
 returns-2 : tie.Need-returns-2
 returns-2 c =
     let d = c.before.before in
-    tells-some seenOf d.before.before.row_at.ensures d.r.given.1 _ (ap (λ (n : ℕ). some (seen d.r.given.0.0.kind n)) (sym c.count_of.ensures))
+    tells_some seen_of d.before.before.row_at.ensures d.r.given.1 _ (ap (λ (n : ℕ). some (seen d.r.given.0.0.kind n)) (sym c.count_of.ensures))
 
 pub jehvrukam-view-spec : {M : Type 1} → statement M
 jehvrukam-view-spec =

@@ -1,7 +1,7 @@
 use borrow.Author.Rules.{rules}
 use mathlib.Core.Path.{refl}
 use Rattle.viewer.specs.Answer.{place_of}
-use Rattle.jehvrukam.proofs.Viewing.{tells_none, tells-some}
+use Rattle.jehvrukam.proofs.Viewing.{tells_none, tells_some}
 use Rattle.jehvrukam.proofs.view.jehvrukam_view_part.Statement.{statement}
 use Rattle.jehvrukam.proofs.view.jehvrukam_view_part.Tie as tie
 
@@ -18,7 +18,7 @@ returns : tie.Need-returns
 returns c = tells_none place_of c.before.before.part_at.ensures c.enum_told.given.1 refl
 
 returns-2 : tie.Need-returns-2
-returns-2 c = tells-some place_of c.before.before.before.part_at.ensures c.before.p.given.1 _ refl
+returns-2 c = tells_some place_of c.before.before.before.part_at.ensures c.before.p.given.1 _ refl
 
 pub jehvrukam-view-part-spec : {M : Type 1} → statement M
 jehvrukam-view-part-spec =

@@ -1,6 +1,6 @@
 -- An entry lies in the table; where there is none, the answer is 0.
-use Rattle.name_index.proofs.Doubles.{Entered, entered, inside, double-none, double-is}
-use Rattle.name_index.specs.Items.{hasEntry}
+use Rattle.name_index.proofs.Doubles.{Entered, entered, inside, double_none, double_is}
+use Rattle.name_index.specs.Items.{has_entry}
 use mathlib.Core.Bool.{true}
 use mathlib.Core.Path.{◌≡◌, sym, ◌∙◌}
 use native.Mathlib.Omega.{arith}
@@ -15,9 +15,9 @@ has-entry-requires c κs = search rules
 returns : tie.Need-returns
 returns c =
     let a = c.before.before.before.args in
-    double-none a.table.now a.row (sym c.before.has-entry.ensures ∙ not-true c.before.has-entry.result c.if1.true)
+    double_none a.table.now a.row (sym c.before.has-entry.ensures ∙ not-true c.before.has-entry.result c.if1.true)
 
-told : (c : tie.Else1) → hasEntry c.before.before.before.args.table.now c.before.before.before.args.row ≡ true
+told : (c : tie.Else1) → has_entry c.before.before.before.args.table.now c.before.before.before.args.row ≡ true
 told c = sym c.before.has-entry.ensures ∙ not-false c.before.has-entry.result c.if1.false
 
 has : (c : tie.Else1) → Entered c.before.before.before.args.table.now c.before.before.before.args.row
@@ -35,7 +35,7 @@ get-word-requires c κs = inside c.before.before.before.before.args.table.now c.
 returns-2 : tie.Need-returns-2
 returns-2 c =
     let a = c.before.before.before.before.before.args in
-    double-is a.table.now a.row c.before.entry_at.result c.get-word.result (told c.before.before) c.before.entry_at.ensures c.get-word.ensures.0
+    double_is a.table.now a.row c.before.entry_at.result c.get-word.result (told c.before.before) c.before.entry_at.ensures c.get-word.ensures.0
 
 pub double-at-spec : {M : Type 1} → statement M
 double-at-spec =

@@ -1,7 +1,7 @@
 -- The loop's invariant: entering what is left makes of the table what entering all makes of the first.
-use Rattle.name_index.proofs.Doubles.{link-last, link-none, link-again}
+use Rattle.name_index.proofs.Doubles.{link_last, link_none, link_again}
 use mathlib.Core.Path.{◌≡◌, refl, sym, ◌∙◌}
-use Rattle.name_index.specs.Items.{linkFrom}
+use Rattle.name_index.specs.Items.{link_from}
 use native.Mathlib.Omega.{arith}
 use borrow.Author.Rules.{rules}
 use lib.ListN.{length}
@@ -9,7 +9,7 @@ use Rattle.name_index.proofs.items.link.Statement.{statement}
 use Rattle.name_index.proofs.items.link.Tie as tie
 
 abbrev invariant-loop : tie.invariant-loop
-invariant-loop table₀ row₀ far₀ left₀ table row far left = (length table ≡ length table₀) × (linkFrom table row far left ≡ linkFrom table₀ row₀ far₀ left₀)
+invariant-loop table₀ row₀ far₀ left₀ table row far left = (length table ≡ length table₀) × (link_from table row far left ≡ link_from table₀ row₀ far₀ left₀)
 
 abbrev decreases-loop : tie.decreases-loop
 decreases-loop table₀ row₀ far₀ left₀ table row far left = left
@@ -24,7 +24,7 @@ same_length : tie.Need-same-length invariant-loop decreases-loop
 same_length c = search rules
 
 returns : tie.Need-returns invariant-loop decreases-loop
-returns c = c.before.before.before.put-double.ensures ∙ (sym (link-last _ _ _ _ c.if1.true) ∙ c.before.before.before.before.before.before.loop.invariant.1)
+returns c = c.before.before.before.put-double.ensures ∙ (sym (link_last _ _ _ _ c.if1.true) ∙ c.before.before.before.before.before.before.loop.invariant.1)
 
 next-row-requires : tie.Need-next-row-requires invariant-loop decreases-loop
 next-row-requires c κs = tt
@@ -49,7 +49,7 @@ loop-again c =
     let odd = c.before.before.next-row2 in
     let far = c.next-row3 in
     let same =
-    link-again l.table put.new.0 l.row l.far l.left next.result odd.result far.result
+    link_again l.table put.new.0 l.row l.far l.left next.result odd.result far.result
     put.ensures (omega arith) next.ensures odd.ensures far.ensures in
     (put.auto.0 ∙ l.invariant.0, same ∙ l.invariant.1)
 
@@ -57,7 +57,7 @@ same-length-2 : tie.Need-same-length-2 invariant-loop decreases-loop
 same-length-2 c = c.before.loop.invariant.0
 
 returns-2 : tie.Need-returns-2 invariant-loop decreases-loop
-returns-2 c = sym (link-none _ _ _ _ (omega arith)) ∙ c.before.loop.invariant.1
+returns-2 c = sym (link_none _ _ _ _ (omega arith)) ∙ c.before.loop.invariant.1
 
 pub link-spec : {M : Type 1} → statement M
 link-spec =

@@ -1,5 +1,5 @@
 -- Only an array that is to have an index is changed.
-use Rattle.name_index.proofs.Doubles.{row-left, no-array, array-linked, array-left}
+use Rattle.name_index.proofs.Doubles.{row_left, no_array, array_linked, array_left}
 use mathlib.Core.Path.{sym, ◌∙◌}
 use borrow.Author.Tests.{not-true}
 use borrow.Author.Rules.{rules}
@@ -13,7 +13,7 @@ same_length : tie.Need-same-length
 same_length c = search rules
 
 returns : tie.Need-returns
-returns c = row-left _ _ (c.before.is-array.ensures (not-true _ c.if1.true))
+returns c = row_left _ _ (c.before.is-array.ensures (not-true _ c.if1.true))
 
 node-at-requires : tie.Need-node-at-requires
 node-at-requires c κs = search rules
@@ -37,7 +37,7 @@ returns-2 c =
     let q = c.before.before.before.before.before.before.before.before.q.given in
     let link = c.before.before.link in
     let is = sym c.before.before.before.before.before.has-index.ensures ∙ c.before.before.before.before.if2.true in
-    array-linked a.table.now a.row node.result q.0.0 node.ensures q.1 link.new.0 is link.ensures
+    array_linked a.table.now a.row node.result q.0.0 node.ensures q.1 link.new.0 is link.ensures
 
 same-length-3 : tie.Need-same-length-3
 same-length-3 c = search rules
@@ -47,13 +47,13 @@ returns-3 c =
     let a = c.before.before.before.before.before.before.before.before.before.before.before.before.args in
     let node = c.before.before.before.before.before.before.Node-at in
     let q = c.before.before.before.before.q.given in
-    array-left a.table.now a.row node.result q.0.0 node.ensures q.1 (sym c.before.has-index.ensures ∙ c.if2.false)
+    array_left a.table.now a.row node.result q.0.0 node.ensures q.1 (sym c.before.has-index.ensures ∙ c.if2.false)
 
 same-length-4 : tie.Need-same-length-4
 same-length-4 c = search rules
 
 returns-4 : tie.Need-returns-4
-returns-4 c = no-array c.before.before.before.before.before.before.before.args.table.now c.before.before.before.before.before.before.before.args.row c.before.Node-at.result c.match.keys2 c.before.Node-at.ensures
+returns-4 c = no_array c.before.before.before.before.before.before.before.args.table.now c.before.before.before.before.before.before.before.args.row c.before.Node-at.result c.match.keys2 c.before.Node-at.ensures
 
 pub link-row-spec : {M : Type 1} → statement M
 link-row-spec =

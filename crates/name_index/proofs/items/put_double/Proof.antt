@@ -1,6 +1,6 @@
 -- An entry lies in the table; where there is none, the table stays.
-use Rattle.name_index.proofs.Doubles.{Entered, entered, inside, put-none, put_is}
-use Rattle.name_index.specs.Items.{hasEntry}
+use Rattle.name_index.proofs.Doubles.{Entered, entered, inside, put_none, put_is}
+use Rattle.name_index.specs.Items.{has_entry}
 use mathlib.Core.Bool.{true}
 use mathlib.Core.Path.{◌≡◌, sym, ◌∙◌}
 use native.Mathlib.Omega.{arith}
@@ -11,7 +11,7 @@ use Rattle.name_index.proofs.items.put_double.Tie as tie
 has-entry-requires : tie.Need-has-entry-requires
 has-entry-requires c κs = search rules
 
-told : (c : tie.After-put-word-arg) → hasEntry c.before.before.before.before.before.args.table.now c.before.before.before.before.before.args.row ≡ true
+told : (c : tie.After-put-word-arg) → has_entry c.before.before.before.before.before.args.table.now c.before.before.before.before.before.args.row ≡ true
 told c = sym c.before.before.has-entry.ensures ∙ c.before.if1.true
 
 has : (c : tie.After-put-word-arg) → Entered c.before.before.before.before.before.args.table.now c.before.before.before.before.before.args.row
@@ -38,7 +38,7 @@ same-length-2 : tie.Need-same-length-2
 same-length-2 c = search rules
 
 returns-2 : tie.Need-returns-2
-returns-2 c = put-none _ _ _ (sym c.before.has-entry.ensures ∙ c.if1.false)
+returns-2 c = put_none _ _ _ (sym c.before.has-entry.ensures ∙ c.if1.false)
 
 pub put-double-spec : {M : Type 1} → statement M
 put-double-spec =

@@ -1,6 +1,6 @@
 use borrow.Author.Rules.{rules}
 use mathlib.Core.Path.{refl}
-use Rattle.op_scalars.proofs.Comparisons.{three-first, three-second, three_third, three-ordered}
+use Rattle.op_scalars.proofs.Comparisons.{three_first, three_second, three_third, three_ordered}
 use Rattle.op_scalars.proofs.compare.compare_three.Statement.{statement}
 use Rattle.op_scalars.proofs.compare.compare_three.Tie as tie
 
@@ -14,7 +14,7 @@ enum_told : tie.Need-enum-told
 enum_told c = search rules
 
 returns : tie.Need-returns
-returns c = three-first c.before.before.before.args.c c.before.before.as_number.ensures c.enum_told.given.1 refl
+returns c = three_first c.before.before.before.args.c c.before.before.as_number.ensures c.enum_told.given.1 refl
 
 as-number-requires-2 : tie.Need-as-number-requires-2
 as-number-requires-2 c κs = search rules
@@ -28,7 +28,7 @@ enum-told-2 c = search rules
 returns-2 : tie.Need-returns-2
 returns-2 c =
     let l = c.before.before.before.before in
-    three-second l.before.before.before.args.c l.before.before.as_number.ensures l.l.given.1 c.before.before.as-number2.ensures c.enum-told2.given.1 refl
+    three_second l.before.before.before.args.c l.before.before.as_number.ensures l.l.given.1 c.before.before.as-number2.ensures c.enum-told2.given.1 refl
 
 as-number-requires-3 : tie.Need-as-number-requires-3
 as-number-requires-3 c κs = search rules
@@ -57,7 +57,7 @@ returns-4 c =
     let n = c.before.before.before in
     let m = n.before.before.before.before in
     let l = m.before.before.before.before in
-    three-ordered l.before.before.before.args.c l.before.before.as_number.ensures l.l.given.1 m.before.before.as-number2.ensures m.m.given.1
+    three_ordered l.before.before.before.args.c l.before.before.as_number.ensures l.l.given.1 m.before.before.as-number2.ensures m.m.given.1
     n.before.before.as-number3.ensures n.n.given.1 c.boolean.ensures c.before.both_hold.ensures
 
 pub compare-three-spec : {M : Type 1} → statement M

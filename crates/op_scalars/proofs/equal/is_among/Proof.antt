@@ -1,12 +1,12 @@
 use mathlib.Core.Path.{◌≡◌, refl, sym, ◌∙◌}
 use native.Mathlib.Omega.{arith}
-use Rattle.op_scalars.specs.Inner.{amongParts}
-use Rattle.op_scalars.proofs.Scalars.{found, passed, no-parts, less}
+use Rattle.op_scalars.specs.Inner.{among_parts}
+use Rattle.op_scalars.proofs.Scalars.{found, passed, no_parts, less}
 use Rattle.op_scalars.proofs.equal.is_among.Statement.{statement}
 use Rattle.op_scalars.proofs.equal.is_among.Tie as tie
 
 abbrev invariant-loop : tie.invariant-loop
-invariant-loop rule strings table cells x rest₀ rest = amongParts rule strings table cells x rest.count rest ≡ amongParts rule strings table cells x rest₀.count rest₀
+invariant-loop rule strings table cells x rest₀ rest = among_parts rule strings table cells x rest.count rest ≡ among_parts rule strings table cells x rest₀.count rest₀
 
 abbrev decreases-loop : tie.decreases-loop
 decreases-loop rule strings table cells x rest₀ rest = rest.count
@@ -42,7 +42,7 @@ loop-again c =
 returns-2 : tie.Need-returns-2 invariant-loop decreases-loop
 returns-2 c =
     let l = c.before.before in
-    sym (no-parts _ _ _ _ l.before.before.before.before.before.args.x l.loop.rest (omega (arith, c.if1.false))) ∙ l.loop.invariant
+    sym (no_parts _ _ _ _ l.before.before.before.before.before.args.x l.loop.rest (omega (arith, c.if1.false))) ∙ l.loop.invariant
 
 pub is-among-spec : {M : Type 1} → statement M
 is-among-spec =

@@ -1,7 +1,7 @@
 use borrow.Author.Rules.{rules}
 use mathlib.Core.Path.{refl, sym, ◌∙◌}
 use borrow.Author.Tests.{not-true, not-false}
-use Rattle.op_scalars.proofs.Scalars.{membership-first, membership-second, membership-object, membership-both}
+use Rattle.op_scalars.proofs.Scalars.{membership_first, membership_second, membership_object, membership_both}
 use Rattle.op_scalars.proofs.equal.membership.Statement.{statement}
 use Rattle.op_scalars.proofs.equal.membership.Tie as tie
 
@@ -9,19 +9,19 @@ is-scalar-requires : tie.Need-is-scalar-requires
 is-scalar-requires c κs = search rules
 
 returns : tie.Need-returns
-returns c = membership-first _ _ _ _ (sym c.before.is-scalar.ensures ∙ not-true _ c.if1.true) refl
+returns c = membership_first _ _ _ _ (sym c.before.is-scalar.ensures ∙ not-true _ c.if1.true) refl
 
 enum-known-y : tie.Need-enum-known-y
 enum-known-y c = search rules
 
 returns-2 : tie.Need-returns-2
-returns-2 c = membership-second _ _ _ _ c.match.keys2 refl
+returns-2 c = membership_second _ _ _ _ c.match.keys2 refl
 
 is-array-requires : tie.Need-is-array-requires
 is-array-requires c κs = search rules
 
 returns-3 : tie.Need-returns-3
-returns-3 c = rw c.before.before.before.y.given.1 (membership-object _ _ _ _ (sym c.before.is-array.ensures ∙ not-true _ c.if2.true) refl)
+returns-3 c = rw c.before.before.before.y.given.1 (membership_object _ _ _ _ (sym c.before.is-array.ensures ∙ not-true _ c.if2.true) refl)
 
 is-among-requires : tie.Need-is-among-requires
 is-among-requires c κs = search rules
@@ -34,7 +34,7 @@ returns-4 c =
     let y = c.before.before.before.before.before in
     let x = y.before.before.before in
     rw y.y.given.1
-    (membership-both _ _ _ _ (sym x.is-scalar.ensures ∙ not-false _ y.before.before.if1.false) (sym c.before.before.before.is-array.ensures ∙ not-false _ c.before.before.if2.false)
+    (membership_both _ _ _ _ (sym x.is-scalar.ensures ∙ not-false _ y.before.before.if1.false) (sym c.before.before.before.is-array.ensures ∙ not-false _ c.before.before.if2.false)
     c.boolean.ensures c.before.is_among.ensures)
 
 pub membership-spec : {M : Type 1} → statement M

@@ -1,6 +1,6 @@
 use borrow.Author.Rules.{rules}
 use mathlib.Core.Path.{refl}
-use Rattle.op_scalars.proofs.Sums.{sum_first, sum-second}
+use Rattle.op_scalars.proofs.Sums.{sum_first, sum_second}
 use Rattle.op_scalars.proofs.sum.sum.Statement.{statement}
 use Rattle.op_scalars.proofs.sum.sum.Tie as tie
 
@@ -14,7 +14,7 @@ enum-known-y : tie.Need-enum-known-y
 enum-known-y c = search rules
 
 returns-2 : tie.Need-returns-2
-returns-2 c = rw c.before.before.x.given.1 (sum-second c.match2.keys2 refl)
+returns-2 c = rw c.before.before.x.given.1 (sum_second c.match2.keys2 refl)
 
 total-requires : tie.Need-total-requires
 total-requires c κs = search rules

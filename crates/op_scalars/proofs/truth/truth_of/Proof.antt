@@ -1,5 +1,5 @@
 use borrow.Author.Rules.{rules}
-use Rattle.op_scalars.proofs.Truths.{null-truth, false-truth, true-truth, integer-truth, instant-truth, string-truth, compound-truth}
+use Rattle.op_scalars.proofs.Truths.{null_truth, false_truth, true_truth, integer_truth, instant_truth, string_truth, compound_truth}
 use Rattle.op_scalars.proofs.truth.truth_of.Statement.{statement}
 use Rattle.op_scalars.proofs.truth.truth_of.Tie as tie
 
@@ -34,25 +34,25 @@ truthy-unless-requires-3 : tie.Need-truthy-unless-requires-3
 truthy-unless-requires-3 c κs = search rules
 
 returns : tie.Need-returns
-returns c = rw c.enum_told.given.1 null-truth
+returns c = rw c.enum_told.given.1 null_truth
 
 returns-2 : tie.Need-returns-2
-returns-2 c = rw c.enum-told2.given.1 false-truth
+returns-2 c = rw c.enum-told2.given.1 false_truth
 
 returns-3 : tie.Need-returns-3
-returns-3 c = rw c.enum-told3.given.1 true-truth
+returns-3 c = rw c.enum-told3.given.1 true_truth
 
 returns-4 : tie.Need-returns-4
-returns-4 c = rw (c.before.before.h.given.1, c.truthy-unless.ensures) (integer-truth _)
+returns-4 c = rw (c.before.before.h.given.1, c.truthy-unless.ensures) (integer_truth _)
 
 returns-5 : tie.Need-returns-5
-returns-5 c = rw c.enum-told4.given.1 (instant-truth _)
+returns-5 c = rw c.enum-told4.given.1 (instant_truth _)
 
 returns-6 : tie.Need-returns-6
-returns-6 c = rw (c.before.before.before.h2.given.1, c.truthy-unless2.ensures) (string-truth _)
+returns-6 c = rw (c.before.before.before.h2.given.1, c.truthy-unless2.ensures) (string_truth _)
 
 returns-7 : tie.Need-returns-7
-returns-7 c = rw (c.before.before.before.h3.given.1, c.truthy-unless3.ensures) (compound-truth _)
+returns-7 c = rw (c.before.before.before.h3.given.1, c.truthy-unless3.ensures) (compound_truth _)
 
 pub truth-of-spec : {M : Type 1} → statement M
 truth-of-spec =

@@ -1,14 +1,14 @@
 use native.Mathlib.Omega.{arith}
 use borrow.Author.Rules.{rules}
-use Rattle.paths.proofs.Digits.{plain-none, plain-one, plain_more}
+use Rattle.paths.proofs.Digits.{plain_none, plain_one, plain_more}
 use Rattle.paths.proofs.index.is_plain.Statement.{statement}
 use Rattle.paths.proofs.index.is_plain.Tie as tie
 
 returns : tie.Need-returns
-returns c = plain-none c.before.args.fragment.now c.if1.true
+returns c = plain_none c.before.args.fragment.now c.if1.true
 
 returns-2 : tie.Need-returns-2
-returns-2 c = plain-one c.before.before.args.fragment.now c.if2.true
+returns-2 c = plain_one c.before.before.args.fragment.now c.if2.true
 
 shared-slice-read-result : tie.Need-shared-slice-read-result
 shared-slice-read-result c = search rules

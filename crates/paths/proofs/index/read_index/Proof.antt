@@ -1,8 +1,8 @@
 use Prim.Native.Nat.{◌-◌}
 use native.Mathlib.Omega.{arith}
 use lib.ListN.{length}
-use Rattle.model.specs.Laws.Branches.{answered-true, answered-false}
-use Rattle.paths.proofs.Digits.{index-zero, ReadTo, index-begins, index-ends, index-low, index-high, index-past, index_on}
+use Rattle.model.specs.Laws.Branches.{answered_true, answered_false}
+use Rattle.paths.proofs.Digits.{index_zero, ReadTo, index_begins, index_ends, index_low, index_high, index_past, index_on}
 use Rattle.paths.proofs.index.read_index.Statement.{statement}
 use Rattle.paths.proofs.index.read_index.Tie as tie
 
@@ -16,19 +16,19 @@ is-plain-requires : tie.Need-is-plain-requires invariant-loop decreases-loop
 is-plain-requires c κs = tt
 
 returns : tie.Need-returns invariant-loop decreases-loop
-returns c = index-zero c.before.before.before.args.fragment.now (answered-false c.before.is_plain.ensures c.if1.true)
+returns c = index_zero c.before.before.before.args.fragment.now (answered_false c.before.is_plain.ensures c.if1.true)
 
 loop-holds : tie.Need-loop-init invariant-loop decreases-loop
-loop-holds c = index-begins c.before.before.before.args.fragment.now (answered-true c.before.is_plain.ensures c.if1.false)
+loop-holds c = index_begins c.before.before.before.args.fragment.now (answered_true c.before.is_plain.ensures c.if1.false)
 
 shared-slice-read-digit : tie.Need-shared-slice-read-digit invariant-loop decreases-loop
 shared-slice-read-digit c = omega arith
 
 returns-2 : tie.Need-returns-2 invariant-loop decreases-loop
-returns-2 c = index-low c.before.before.before.loop.invariant (omega arith) c.if2.true
+returns-2 c = index_low c.before.before.before.loop.invariant (omega arith) c.if2.true
 
 returns-3 : tie.Need-returns-3 invariant-loop decreases-loop
-returns-3 c = index-high c.before.before.before.before.loop.invariant (omega arith) c.if3.true
+returns-3 c = index_high c.before.before.before.before.loop.invariant (omega arith) c.if3.true
 
 mul_at : tie.Need-overflow-mul-at invariant-loop decreases-loop
 mul_at c = omega arith
@@ -40,7 +40,7 @@ add_at : tie.Need-overflow-add-at invariant-loop decreases-loop
 add_at c = omega arith
 
 returns-4 : tie.Need-returns-4 invariant-loop decreases-loop
-returns-4 c = index-past c.before.before.before.before.before.loop.invariant (omega arith) c.before.before.if2.false c.before.if3.false c.if4.true
+returns-4 c = index_past c.before.before.before.before.before.loop.invariant (omega arith) c.before.before.if2.false c.before.if3.false c.if4.true
 
 add-i : tie.Need-overflow-add-i invariant-loop decreases-loop
 add-i c = omega arith
@@ -52,7 +52,7 @@ loop-again : tie.Need-loop-preserved invariant-loop decreases-loop
 loop-again c = index_on c.before.before.before.before.before.loop.invariant (omega arith) c.before.before.if2.false c.before.if3.false c.if4.false
 
 returns-5 : tie.Need-returns-5 invariant-loop decreases-loop
-returns-5 c = index-ends c.before.loop.invariant (omega arith)
+returns-5 c = index_ends c.before.loop.invariant (omega arith)
 
 pub read-index-spec : {M : Type 1} → statement M
 read-index-spec =

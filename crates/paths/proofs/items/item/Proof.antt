@@ -1,5 +1,5 @@
 use borrow.Author.Tests.{not-false}
-use Rattle.paths.proofs.Rows.{item-past}
+use Rattle.paths.proofs.Rows.{item_past}
 use borrow.Author.Rules.{rules}
 use Rattle.paths.proofs.items.item.Statement.{statement}
 use Rattle.paths.proofs.items.item.Tie as tie
@@ -22,7 +22,7 @@ returns-2 c = search rules
 returns-3 : tie.Need-returns-3
 returns-3 c =
     let a = c.before.before.before.before.before.before.args in
-    item-past a.table.now a.q.first a.q.count a.at c.if3.true
+    item_past a.table.now a.q.first a.q.count a.at c.if3.true
 
 item-of-requires : tie.Need-item-of-requires
 item-of-requires c κs = (c.before.before.before.before.before.before.requires, c.before.before.before.are-items.ensures (not-false _ c.before.before.if2.false), c.if3.false)

@@ -1,4 +1,4 @@
-use Rattle.paths.proofs.Rows.{named-indexed}
+use Rattle.paths.proofs.Rows.{named_indexed}
 use native.Mathlib.Omega.{arith}
 use borrow.Author.Rules.{rules}
 use Rattle.paths.proofs.members.row_named.Statement.{statement}
@@ -19,7 +19,7 @@ find-requires c κs = search rules
 
 -- src/members.rt:57:9
 returns : tie.Need-returns
-returns c = let x = c.before.before.goes-by-index.ensures c.before.if1.true in named-indexed c.before.before.before.before.before.before.requires x.all x.some c.find.ensures
+returns c = let x = c.before.before.goes-by-index.ensures c.before.if1.true in named_indexed c.before.before.before.before.before.before.requires x.all x.some c.find.ensures
 
 -- src/members.rt:59:5
 row-among-requires : tie.Need-row-among-requires

@@ -1,4 +1,4 @@
-use Rattle.pipeline.proofs.Checking.{rule-stops, sheet-stops, can-check, both-checked}
+use Rattle.pipeline.proofs.Checking.{rule_stops, sheet_stops, can_check, both_checked}
 use borrow.Author.Rules.{rules}
 use Rattle.pipeline.proofs.check.check_texts.Statement.{statement}
 use Rattle.pipeline.proofs.check.check_texts.Tie as tie
@@ -17,7 +17,7 @@ same-length-2 c = search rules
 
 -- src/check.rt:49:9
 returns : tie.Need-returns
-returns c = rule-stops _ _ c.before.before.before.before.before.before.read-rule.ensures c.if1.true
+returns c = rule_stops _ _ c.before.before.before.before.before.before.read-rule.ensures c.if1.true
 
 -- src/check.rt:51:9
 read-sheet-requires : tie.Need-read-sheet-requires
@@ -41,11 +41,11 @@ same-length-6 c = search rules
 
 -- src/check.rt:53:9
 returns-2 : tie.Need-returns-2
-returns-2 c = sheet-stops _ _ c.before.before.before.before.before.before.before.before.before.before.before.before.before.before.before.read-rule.ensures c.before.before.before.before.before.before.before.before.before.if1.false c.before.before.before.before.before.before.read-sheet.ensures c.if2.true
+returns-2 c = sheet_stops _ _ c.before.before.before.before.before.before.before.before.before.before.before.before.before.before.before.read-rule.ensures c.before.before.before.before.before.before.before.before.before.if1.false c.before.before.before.before.before.before.read-sheet.ensures c.if2.true
 
 -- src/check.rt:55:11
 check-requires : tie.Need-check-requires
-check-requires c κs = can-check _ _ c.before.before.before.before.before.before.before.before.before.before.before.before.before.before.before.before.before.before.before.read-rule.ensures c.before.before.before.before.before.before.before.before.before.before.before.before.before.if1.false c.before.before.before.before.before.before.before.before.before.before.read-sheet.ensures c.before.before.before.before.if2.false
+check-requires c κs = can_check _ _ c.before.before.before.before.before.before.before.before.before.before.before.before.before.before.before.before.before.before.before.read-rule.ensures c.before.before.before.before.before.before.before.before.before.before.before.before.before.if1.false c.before.before.before.before.before.before.before.before.before.before.read-sheet.ensures c.before.before.before.before.if2.false
 
 -- src/check.rt:55:5
 found-requires : tie.Need-found-requires
@@ -69,7 +69,7 @@ same-length-10 c = search rules
 
 -- src/check.rt:36:1
 returns-3 : tie.Need-returns-3
-returns-3 c = both-checked _ _ c.before.before.before.before.before.before.before.before.before.before.before.before.before.before.before.before.before.before.before.before.before.read-rule.ensures c.before.before.before.before.before.before.before.before.before.before.before.before.before.before.before.if1.false c.before.before.before.before.before.before.before.before.before.before.before.before.read-sheet.ensures c.before.before.before.before.before.before.if2.false c.before.check.ensures c.found.ensures
+returns-3 c = both_checked _ _ c.before.before.before.before.before.before.before.before.before.before.before.before.before.before.before.before.before.before.before.before.before.read-rule.ensures c.before.before.before.before.before.before.before.before.before.before.before.before.before.before.before.if1.false c.before.before.before.before.before.before.before.before.before.before.before.before.read-sheet.ensures c.before.before.before.before.before.before.if2.false c.before.check.ensures c.found.ensures
 
 pub check-texts-spec : {M : Type 1} → statement M
 check-texts-spec =

@@ -1,5 +1,5 @@
 use mathlib.Core.Path.{sym, ap, ◌∙◌}
-use Rattle.pipeline.specs.Inner.{foundAs}
+use Rattle.pipeline.specs.Inner.{found_as}
 use borrow.Author.Rules.{rules}
 use Rattle.pipeline.proofs.check.found.Statement.{statement}
 use Rattle.pipeline.proofs.check.found.Tie as tie
@@ -26,11 +26,11 @@ bits-requires c κs = search rules
 
 -- src/check.rt:21:1
 returns : tie.Need-returns
-returns c = (λ i. record { stop = c.numbered.ensures i; words = 0 }) ∙ ap foundAs (sym c.before.enum_told.given.1)
+returns c = (λ i. record { stop = c.numbered.ensures i; words = 0 }) ∙ ap found_as (sym c.before.enum_told.given.1)
 
 -- src/check.rt:21:1
 returns-2 : tie.Need-returns-2
-returns-2 c = (λ i. record { stop = c.before.numbered2.ensures i; words = c.bits.ensures i }) ∙ ap foundAs (sym c.before.before.before.f.given.1)
+returns-2 c = (λ i. record { stop = c.before.numbered2.ensures i; words = c.bits.ensures i }) ∙ ap found_as (sym c.before.before.before.f.given.1)
 
 pub found-spec : {M : Type 1} → statement M
 found-spec =

@@ -1,4 +1,4 @@
-use Rattle.pipeline.proofs.Checking.{fit-sheet-stops, record-stops, can-fit, both-fit}
+use Rattle.pipeline.proofs.Checking.{fit_sheet_stops, record_stops, can_fit, both_fit}
 use borrow.Author.Rules.{rules}
 use Rattle.pipeline.proofs.fit.fit_texts.Statement.{statement}
 use Rattle.pipeline.proofs.fit.fit_texts.Tie as tie
@@ -17,7 +17,7 @@ same-length-2 c = search rules
 
 -- src/fit.rt:29:9
 returns : tie.Need-returns
-returns c = fit-sheet-stops _ _ c.before.before.before.before.before.before.read-sheet.ensures c.if1.true
+returns c = fit_sheet_stops _ _ c.before.before.before.before.before.before.read-sheet.ensures c.if1.true
 
 -- src/fit.rt:34:9
 read-text-requires : tie.Need-read-text-requires
@@ -41,11 +41,11 @@ same-length-6 c = search rules
 
 -- src/fit.rt:36:9
 returns-2 : tie.Need-returns-2
-returns-2 c = record-stops _ _ c.before.before.before.before.before.before.before.before.before.before.before.before.before.before.before.read-sheet.ensures c.before.before.before.before.before.before.before.before.before.if1.false c.before.before.before.before.before.before.read-text.ensures c.if2.true
+returns-2 c = record_stops _ _ c.before.before.before.before.before.before.before.before.before.before.before.before.before.before.before.read-sheet.ensures c.before.before.before.before.before.before.before.before.before.if1.false c.before.before.before.before.before.before.read-text.ensures c.if2.true
 
 -- src/fit.rt:41:9
 fits-requires : tie.Need-fits-requires
-fits-requires c κs = can-fit _ _ c.before.before.before.before.before.before.before.before.before.before.before.before.before.before.before.before.before.before.before.read-sheet.ensures c.before.before.before.before.before.before.before.before.before.before.before.before.before.if1.false c.before.before.before.before.before.before.before.before.before.before.read-text.ensures c.before.before.before.before.if2.false
+fits-requires c κs = can_fit _ _ c.before.before.before.before.before.before.before.before.before.before.before.before.before.before.before.before.before.before.before.read-sheet.ensures c.before.before.before.before.before.before.before.before.before.before.before.before.before.if1.false c.before.before.before.before.before.before.before.before.before.before.read-text.ensures c.before.before.before.before.if2.false
 
 -- src/fit.rt:16:1
 same-length-7 : tie.Need-same-length-7
@@ -65,7 +65,7 @@ same-length-10 c = search rules
 
 -- src/fit.rt:16:1
 returns-3 : tie.Need-returns-3
-returns-3 c = both-fit _ _ c.before.before.before.before.before.before.before.before.before.before.before.before.before.before.before.before.before.before.before.before.read-sheet.ensures c.before.before.before.before.before.before.before.before.before.before.before.before.before.before.if1.false c.before.before.before.before.before.before.before.before.before.before.before.read-text.ensures c.before.before.before.before.before.if2.false c.fits2.ensures
+returns-3 c = both_fit _ _ c.before.before.before.before.before.before.before.before.before.before.before.before.before.before.before.before.before.before.before.before.read-sheet.ensures c.before.before.before.before.before.before.before.before.before.before.before.before.before.before.if1.false c.before.before.before.before.before.before.before.before.before.before.before.read-text.ensures c.before.before.before.before.before.if2.false c.fits2.ensures
 
 pub fit-texts-spec : {M : Type 1} → statement M
 fit-texts-spec =

@@ -1,5 +1,5 @@
 use borrow.Author.Tests.{not-true, not-false}
-use Rattle.pipeline.proofs.Reading.{rule-unread, no-rule, a-rule}
+use Rattle.pipeline.proofs.Reading.{rule_unread, no_rule, a_rule}
 use borrow.Author.Rules.{rules}
 use Rattle.pipeline.proofs.text.read_rule.Statement.{statement}
 use Rattle.pipeline.proofs.text.read_rule.Tie as tie
@@ -17,7 +17,7 @@ same-length-2 : tie.Need-same-length-2
 same-length-2 c = search rules
 
 returns : tie.Need-returns
-returns c = rule-unread c.before.before.before.before.before.before.before.read-rows.ensures c.before.before.told.ensures c.if1.true
+returns c = rule_unread c.before.before.before.before.before.before.before.read-rows.ensures c.before.before.told.ensures c.if1.true
 
 is-rule-requires : tie.Need-is-rule-requires
 is-rule-requires c κs = search rules
@@ -32,7 +32,7 @@ same-length-4 : tie.Need-same-length-4
 same-length-4 c = search rules
 
 returns-2 : tie.Need-returns-2
-returns-2 c = no-rule c.before.before.before.before.before.before.before.before.before.before.before.before.before.before.read-rows.ensures c.before.before.before.before.before.before.before.before.before.told.ensures c.before.before.before.before.before.before.before.if1.false c.before.before.before.before.is-rule.result c.before.before.before.before.is-rule.ensures (not-true _ c.before.if2.true) c.numbered.ensures
+returns-2 c = no_rule c.before.before.before.before.before.before.before.before.before.before.before.before.before.before.read-rows.ensures c.before.before.before.before.before.before.before.before.before.told.ensures c.before.before.before.before.before.before.before.if1.false c.before.before.before.before.is-rule.result c.before.before.before.before.is-rule.ensures (not-true _ c.before.if2.true) c.numbered.ensures
 
 same-length-5 : tie.Need-same-length-5
 same-length-5 c = search rules
@@ -41,7 +41,7 @@ same-length-6 : tie.Need-same-length-6
 same-length-6 c = search rules
 
 returns-3 : tie.Need-returns-3
-returns-3 c = a-rule c.before.before.before.before.before.before.before.before.before.before.before.before.before.read-rows.ensures c.before.before.before.before.before.before.before.before.told.ensures c.before.before.before.before.before.before.if1.false c.before.before.before.is-rule.result c.before.before.before.is-rule.ensures (not-false _ c.if2.false)
+returns-3 c = a_rule c.before.before.before.before.before.before.before.before.before.before.before.before.before.read-rows.ensures c.before.before.before.before.before.before.before.before.told.ensures c.before.before.before.before.before.before.if1.false c.before.before.before.is-rule.result c.before.before.before.is-rule.ensures (not-false _ c.if2.false)
 
 pub read-rule-spec : {M : Type 1} → statement M
 read-rule-spec =

@@ -1,4 +1,4 @@
-use Rattle.pipeline.proofs.Reading.{text-read}
+use Rattle.pipeline.proofs.Reading.{text_read}
 use borrow.Author.Rules.{rules}
 use Rattle.pipeline.proofs.text.read_text.Statement.{statement}
 use Rattle.pipeline.proofs.text.read_text.Tie as tie
@@ -16,7 +16,7 @@ same-length-2 : tie.Need-same-length-2
 same-length-2 c = search rules
 
 returns : tie.Need-returns
-returns c = text-read c.before.before.before.before.before.before.before.before.before.before.before.args.which c.before.before.before.before.before.read-indexed.ensures c.told.ensures
+returns c = text_read c.before.before.before.before.before.before.before.before.before.before.before.args.which c.before.before.before.before.before.read-indexed.ensures c.told.ensures
 
 pub read-text-spec : {M : Type 1} → statement M
 read-text-spec = tie.close (tie.spec read-indexed-requires told-requires same_length same-length-2 returns)

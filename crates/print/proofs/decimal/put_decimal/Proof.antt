@@ -1,5 +1,5 @@
-use Rattle.model.specs.Laws.Widths.{text-below}
-use Rattle.print.proofs.Digits.{put-digits}
+use Rattle.model.specs.Laws.Widths.{text_below}
+use Rattle.print.proofs.Digits.{put_digits}
 use borrow.Author.Rules.{rules}
 use Rattle.print.proofs.decimal.put_decimal.Statement.{statement}
 use Rattle.print.proofs.decimal.put_decimal.Tie as tie
@@ -23,13 +23,13 @@ sub-result : tie.Need-overflow-sub-result
 sub-result c = search rules
 
 add-result : tie.Need-overflow-add-result
-add-result c = let below = text-below in search rules
+add-result c = let below = text_below in search rules
 
 same_length : tie.Need-same-length
 same_length c = search rules
 
 returns : tie.Need-returns
-returns c = put-digits c.before.before.before.before.before.before.before.digits_of.ensures c.before.before.put-bytes.ensures
+returns c = put_digits c.before.before.before.before.before.before.before.digits_of.ensures c.before.before.put_bytes_lem.ensures
 
 pub put-decimal-spec : {M : Type 1} → statement M
 put-decimal-spec =

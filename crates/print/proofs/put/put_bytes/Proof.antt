@@ -2,8 +2,8 @@ use mathlib.Core.Path.{sym}
 use Prim.Native.Nat.{◌-◌}
 use native.Mathlib.Omega.{arith}
 use borrow.Author.Rules.{rules}
-use Rattle.print.specs.Laws.{sets-out}
-use Rattle.print.proofs.Copy.{Copied, copied_none, copied-size, copied_more, copied_all}
+use Rattle.print.specs.Laws.{sets_out}
+use Rattle.print.proofs.Copy.{Copied, copied_none, copied_size, copied_more, copied_all}
 use Rattle.print.proofs.put.put_bytes.Statement.{statement}
 use Rattle.print.proofs.put.put_bytes.Tie as tie
 
@@ -14,7 +14,7 @@ abbrev decreases-loop : tie.decreases-loop
 decreases-loop output₀ at s n i₀ output i = n - i
 
 returns : tie.Need-returns invariant-loop decreases-loop
-returns c = sym (sets-out c.before.before.before.args.s.now c.before.before.before.args.output.now c.before.before.before.args.at (search rules))
+returns c = sym (sets_out c.before.before.before.args.s.now c.before.before.before.args.output.now c.before.before.before.args.at (search rules))
 
 sub-least : tie.Need-overflow-sub-least invariant-loop decreases-loop
 sub-least c = search rules
@@ -32,7 +32,7 @@ add-output : tie.Need-overflow-add-output invariant-loop decreases-loop
 add-output c = search rules
 
 slice-write-output : tie.Need-slice-write-output invariant-loop decreases-loop
-slice-write-output c = omega (arith, copied-size c.before.before.loop.invariant)
+slice-write-output c = omega (arith, copied_size c.before.before.loop.invariant)
 
 add-i : tie.Need-overflow-add-i invariant-loop decreases-loop
 add-i c = search rules
@@ -44,7 +44,7 @@ loop-again : tie.Need-loop-preserved invariant-loop decreases-loop
 loop-again c = copied_more c.before.before.loop.invariant c.before.loop-test.true c.before.before.before.least.ensures.0
 
 same_length : tie.Need-same-length invariant-loop decreases-loop
-same_length c = copied-size c.before.loop.invariant
+same_length c = copied_size c.before.loop.invariant
 
 returns-2 : tie.Need-returns-2 invariant-loop decreases-loop
 returns-2 c = copied_all c.before.loop.invariant c.loop-test.false c.before.before.least.ensures.0 c.before.before.least.ensures.2

@@ -1,6 +1,6 @@
 use Prim.Native.Nat.{◌-◌}
 use borrow.Author.Rules.{rules}
-use Rattle.print.proofs.Runs.{Eight, eight-none, eight-more, eight-all}
+use Rattle.print.proofs.Runs.{Eight, eight_none, eight_more, eight_all}
 use Rattle.print.proofs.string.eight_plain.Statement.{statement}
 use Rattle.print.proofs.string.eight_plain.Tie as tie
 
@@ -11,7 +11,7 @@ abbrev decreases-loop : tie.decreases-loop
 decreases-loop s from all₀ k₀ all k = 8 - k
 
 loop-holds : tie.Need-loop-init invariant-loop decreases-loop
-loop-holds c = eight-none _ _ c.before.requires
+loop-holds c = eight_none _ _ c.before.requires
 
 add-is-plain : tie.Need-overflow-add-is-plain invariant-loop decreases-loop
 add-is-plain c = search rules
@@ -29,10 +29,10 @@ loop-less : tie.Need-loop-smaller invariant-loop decreases-loop
 loop-less c = search rules
 
 loop-again : tie.Need-loop-preserved invariant-loop decreases-loop
-loop-again c = eight-more c.before.before.before.loop.all c.before.before.before.loop.invariant (search rules) c.before.before.before.before.before.requires c.is_plain.ensures
+loop-again c = eight_more c.before.before.before.loop.all c.before.before.before.loop.invariant (search rules) c.before.before.before.before.before.requires c.is_plain.ensures
 
 returns : tie.Need-returns invariant-loop decreases-loop
-returns c = eight-all c.before.loop.invariant c.loop-test.false
+returns c = eight_all c.before.loop.invariant c.loop-test.false
 
 pub eight-plain-spec : {M : Type 1} → statement M
 eight-plain-spec =

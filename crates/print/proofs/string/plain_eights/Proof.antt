@@ -2,9 +2,9 @@ use mathlib.Core.Path.{refl}
 use Prim.Native.Nat.{◌-◌}
 use borrow.Author.Rules.{rules}
 use lib.ListN.{length}
-use Rattle.model.specs.Laws.Branches.{answered-true}
+use Rattle.model.specs.Laws.Branches.{answered_true}
 use Rattle.print.specs.Inner.{Passed}
-use Rattle.print.proofs.Runs.{passed_none, passed-both}
+use Rattle.print.proofs.Runs.{passed_none, passed_both}
 use Rattle.print.proofs.string.plain_eights.Statement.{statement}
 use Rattle.print.proofs.string.plain_eights.Tie as tie
 
@@ -33,7 +33,7 @@ loop-less : tie.Need-loop-smaller invariant-loop decreases-loop
 loop-less c = search rules
 
 loop-again : tie.Need-loop-preserved invariant-loop decreases-loop
-loop-again c = passed-both c.before.before.before.loop.invariant (c.before.eight-plain.ensures (answered-true refl c.if1.false))
+loop-again c = passed_both c.before.before.before.loop.invariant (c.before.eight-plain.ensures (answered_true refl c.if1.false))
 
 returns-2 : tie.Need-returns-2 invariant-loop decreases-loop
 returns-2 c = search rules

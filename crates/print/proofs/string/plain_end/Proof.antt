@@ -1,9 +1,9 @@
 use Prim.Native.Nat.{◌-◌}
 use borrow.Author.Rules.{rules}
 use lib.ListN.{length}
-use Rattle.model.specs.Laws.Branches.{answered-true, answered-false}
+use Rattle.model.specs.Laws.Branches.{answered_true, answered_false}
 use Rattle.print.specs.Inner.{Passed}
-use Rattle.print.proofs.Runs.{passed-more, run-stop, run_end}
+use Rattle.print.proofs.Runs.{passed_more, run_stop, run_end}
 use Rattle.print.proofs.string.plain_end.Statement.{statement}
 use Rattle.print.proofs.string.plain_end.Tie as tie
 
@@ -26,7 +26,7 @@ is-plain-requires : tie.Need-is-plain-requires invariant-loop decreases-loop
 is-plain-requires c κs = search rules
 
 returns : tie.Need-returns invariant-loop decreases-loop
-returns c = run-stop c.before.before.before.before.loop.invariant (answered-false c.before.is_plain.ensures c.if1.true)
+returns c = run_stop c.before.before.before.before.loop.invariant (answered_false c.before.is_plain.ensures c.if1.true)
 
 add-i : tie.Need-overflow-add-i invariant-loop decreases-loop
 add-i c = search rules
@@ -35,7 +35,7 @@ loop-less : tie.Need-loop-smaller invariant-loop decreases-loop
 loop-less c = search rules
 
 loop-again : tie.Need-loop-preserved invariant-loop decreases-loop
-loop-again c = passed-more c.before.before.before.before.loop.invariant c.before.before.before.loop-test.true (answered-true c.before.is_plain.ensures c.if1.false)
+loop-again c = passed_more c.before.before.before.before.loop.invariant c.before.before.before.loop-test.true (answered_true c.before.is_plain.ensures c.if1.false)
 
 returns-2 : tie.Need-returns-2 invariant-loop decreases-loop
 returns-2 c = run_end c.before.loop.invariant c.loop-test.false

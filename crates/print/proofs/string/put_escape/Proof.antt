@@ -1,5 +1,5 @@
 use borrow.Author.Rules.{rules}
-use Rattle.print.proofs.Escapes.{put-short, put-long}
+use Rattle.print.proofs.Escapes.{put_short, put_long}
 use Rattle.print.proofs.string.put_escape.Statement.{statement}
 use Rattle.print.proofs.string.put_escape.Tie as tie
 
@@ -22,7 +22,7 @@ same_length : tie.Need-same-length
 same_length c = search rules
 
 returns : tie.Need-returns
-returns c = put-short c.before.before.before.before.before.before.before.before.before.before.before.args.b c.before.before.before.before.before.before.before.before.before.letter.ensures c.before.before.before.before.before.before.before.before.if1.true c.before.before.before.before.before.before.put_byte.ensures c.before.before.put-byte2.ensures
+returns c = put_short c.before.before.before.before.before.before.before.before.before.before.before.args.b c.before.before.before.before.before.before.before.before.before.letter.ensures c.before.before.before.before.before.before.before.before.if1.true c.before.before.before.before.before.before.put_byte.ensures c.before.before.put-byte2.ensures
 
 slice-aggregate-put-bytes : tie.Need-slice-aggregate-put-bytes
 slice-aggregate-put-bytes c = search rules
@@ -55,7 +55,7 @@ same-length-2 : tie.Need-same-length-2
 same-length-2 c = search rules
 
 returns-2 : tie.Need-returns-2
-returns-2 c = put-long c.before.before.before.before.before.before.before.before.before.before.before.before.before.before.before.before.before.before.args.b c.before.before.before.before.before.before.before.before.before.before.before.before.before.before.before.before.letter.ensures c.before.before.before.before.before.before.before.before.before.before.before.before.before.before.before.before.before.before.requires.1 c.before.before.before.before.before.before.before.before.before.before.before.before.before.before.before.if1.false c.before.before.before.before.before.before.before.before.hex.ensures c.before.before.before.hex2.ensures c.before.before.before.before.before.before.before.before.before.before.before.before.put-bytes.ensures c.before.before.before.before.before.before.before.put-byte3.ensures c.before.before.put-byte4.ensures
+returns-2 c = put_long c.before.before.before.before.before.before.before.before.before.before.before.before.before.before.before.before.before.before.args.b c.before.before.before.before.before.before.before.before.before.before.before.before.before.before.before.before.letter.ensures c.before.before.before.before.before.before.before.before.before.before.before.before.before.before.before.before.before.before.requires.1 c.before.before.before.before.before.before.before.before.before.before.before.before.before.before.before.if1.false c.before.before.before.before.before.before.before.before.hex.ensures c.before.before.before.hex2.ensures c.before.before.before.before.before.before.before.before.before.before.before.before.put_bytes_lem.ensures c.before.before.before.before.before.before.before.put-byte3.ensures c.before.before.put-byte4.ensures
 
 pub put-escape-spec : {M : Type 1} → statement M
 put-escape-spec =

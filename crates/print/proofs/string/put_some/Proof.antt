@@ -1,6 +1,6 @@
 use borrow.Author.Rules.{rules}
-use Rattle.model.specs.Laws.Branches.{answered-true, answered-false}
-use Rattle.print.proofs.Quoted.{goes_on, moved-escape, moved-run}
+use Rattle.model.specs.Laws.Branches.{answered_true, answered_false}
+use Rattle.print.proofs.Quoted.{goes_on, moved_escape, moved_run}
 use Rattle.print.proofs.string.put_some.Statement.{statement}
 use Rattle.print.proofs.string.put_some.Tie as tie
 
@@ -14,13 +14,13 @@ add-t12 : tie.Need-overflow-add-t12
 add-t12 c = search rules
 
 put-escape-requires : tie.Need-put-escape-requires
-put-escape-requires c κs = (c.before.before.before.before.before.before.requires.near, answered-false c.before.before.is_plain.ensures c.before.if1.true)
+put-escape-requires c κs = (c.before.before.before.before.before.before.requires.near, answered_false c.before.before.is_plain.ensures c.before.if1.true)
 
 same_length : tie.Need-same-length
 same_length c = search rules
 
 returns : tie.Need-returns
-returns c = moved-escape c.before.before.before.before.before.before.before.before.before.requires.inside c.before.before.put-escape.ensures
+returns c = moved_escape c.before.before.before.before.before.before.before.before.before.requires.inside c.before.before.put-escape.ensures
 
 plain-end-requires : tie.Need-plain-end-requires
 plain-end-requires c κs = search rules
@@ -47,7 +47,7 @@ same-length-2 : tie.Need-same-length-2
 same-length-2 c = search rules
 
 returns-2 : tie.Need-returns-2
-returns-2 c = moved-run c.before.before.before.before.before.plain-end.ensures (goes_on c.before.before.before.before.before.plain-end.ensures c.before.before.before.before.before.before.before.before.before.before.before.requires.inside (answered-true c.before.before.before.before.before.before.before.is_plain.ensures c.before.before.before.before.before.before.if1.false)) c.before.before.put-bytes.ensures
+returns-2 c = moved_run c.before.before.before.before.before.plain-end.ensures (goes_on c.before.before.before.before.before.plain-end.ensures c.before.before.before.before.before.before.before.before.before.before.before.requires.inside (answered_true c.before.before.before.before.before.before.before.is_plain.ensures c.before.before.before.before.before.before.if1.false)) c.before.before.put_bytes_lem.ensures
 
 pub put-some-spec : {M : Type 1} → statement M
 put-some-spec =

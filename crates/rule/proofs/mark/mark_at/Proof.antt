@@ -1,21 +1,21 @@
 use mathlib.Core.Path.{sym}
 use native.Mathlib.Omega.{arith}
 use lib.ListN.{get_or-eq_default}
-use Rattle.model.specs.Limits.{maxValues}
-use Rattle.syntax.specs.Layout.{rowBytes}
+use Rattle.model.specs.Limits.{max_values}
+use Rattle.syntax.specs.Layout.{row_bytes}
 use borrow.Author.Rules.{rules}
 use Rattle.rule.proofs.mark.mark_at.Statement.{statement}
 use Rattle.rule.proofs.mark.mark_at.Tie as tie
 
 returns : tie.Need-returns
-unfolding maxValues rowBytes
+unfolding max_values row_bytes
 returns c = sym (get_or-eq_default c.before.args.table.now 0 (omega (arith, c.if1.true)))
 
 sub-if2 : tie.Need-overflow-sub-if2
 sub-if2 c = search rules
 
 returns-2 : tie.Need-returns-2
-unfolding maxValues rowBytes
+unfolding max_values row_bytes
 returns-2 c = sym (get_or-eq_default c.before.before.args.table.now 0 (omega (arith, c.if2.true, c.before.if1.false)))
 
 add_at : tie.Need-overflow-add-at
@@ -25,7 +25,7 @@ shared-slice-read-result : tie.Need-shared-slice-read-result
 shared-slice-read-result c = search rules
 
 returns-3 : tie.Need-returns-3
-unfolding maxValues rowBytes
+unfolding max_values row_bytes
 returns-3 c = search rules
 
 pub mark-at-spec : {M : Type 1} → statement M

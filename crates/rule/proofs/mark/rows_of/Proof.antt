@@ -1,5 +1,5 @@
-use Rattle.model.specs.Limits.{maxValues}
-use Rattle.syntax.specs.Layout.{rowBytes, rowsPart}
+use Rattle.model.specs.Limits.{max_values}
+use Rattle.syntax.specs.Layout.{row_bytes, rows_part}
 use borrow.Author.Rules.{rules}
 use Rattle.rule.proofs.mark.rows_of.Statement.{statement}
 use Rattle.rule.proofs.mark.rows_of.Tie as tie
@@ -8,7 +8,7 @@ part-of-requires : tie.Need-part-of-requires
 part-of-requires c κs = search rules
 
 returns : tie.Need-returns
-unfolding maxValues rowBytes rowsPart
+unfolding max_values row_bytes rows_part
 returns c = c.part_of.ensures
 
 pub rows-of-spec : {M : Type 1} → statement M

@@ -1,4 +1,4 @@
-use Rattle.rule.specs.Laws.Objects.{not-single, single}
+use Rattle.rule.specs.Laws.Objects.{not_single, single}
 use borrow.Author.Rules.{rules}
 use Rattle.rule.proofs.operation.operation.Statement.{statement}
 use Rattle.rule.proofs.operation.operation.Tie as tie
@@ -13,7 +13,7 @@ enum_told : tie.Need-enum-told
 enum_told c = search rules
 
 returns : tie.Need-returns
-returns c = not-single c.before.before.before.before.before.args.rule-table.now c.before.before.before.before.before.args.rule-strings.now c.before.before.before.before.before.args.q c.before.before.single-member.ensures c.enum_told.given.1
+returns c = not_single c.before.before.before.before.before.args.rule-table.now c.before.before.before.before.before.args.rule-strings.now c.before.before.before.before.before.args.q c.before.before.single-member.ensures c.enum_told.given.1
 
 bytes-of-requires : tie.Need-bytes-of-requires
 bytes-of-requires c κs = search rules
@@ -25,7 +25,7 @@ content-shape-requires : tie.Need-content-shape-requires
 content-shape-requires c κs = search rules
 
 returns-2 : tie.Need-returns-2
-returns-2 c = single c.before.before.before.before.before.before.before.before.before.args.rule-table.now c.before.before.before.before.before.before.before.before.before.args.rule-strings.now c.before.before.before.before.before.before.before.before.before.args.q c.before.keyword-named.result c.before.before.before.before.before.before.single-member.ensures c.before.before.before.before.name.given.1 (rw c.before.before.bytes_of.ensures at c.before.keyword-named.ensures) c.content-shape.ensures
+returns-2 c = single c.before.before.before.before.before.before.before.before.before.args.rule-table.now c.before.before.before.before.before.before.before.before.before.args.rule-strings.now c.before.before.before.before.before.before.before.before.before.args.q c.before.keyword_named_lem.result c.before.before.before.before.before.before.single-member.ensures c.before.before.before.before.name.given.1 (rw c.before.before.bytes_of.ensures at c.before.keyword_named_lem.ensures) c.content-shape.ensures
 
 pub operation-spec : {M : Type 1} → statement M
 operation-spec =

@@ -55,7 +55,7 @@ returns-4 : tie.Need-returns-4
 returns-4 c = rw (c.before.before.before.before.before.before.before.if1.false, ← c.before.before.before.before.before.before.next_row.ensures, ← c.before.before.node-at2.ensures, c.enum-told3.given.1)
 
 returns-5 : tie.Need-returns-5
-returns-5 c = rw (c.plus-time-of.ensures, c.before.before.before.before.before.before.before.before.before.if1.false, ← c.before.before.before.before.before.before.before.before.next_row.ensures, ← c.before.before.before.before.before.before.before.next-row2.ensures, ← c.before.before.before.before.before.before.Node-at.ensures, ← c.before.before.before.before.node-at2.ensures, ← c.before.before.before.before.before.unit-at.ensures, c.before.before.amount.given.1)
+returns-5 c = rw (c.plus_time_of_lem.ensures, c.before.before.before.before.before.before.before.before.before.if1.false, ← c.before.before.before.before.before.before.before.before.next_row.ensures, ← c.before.before.before.before.before.before.before.next-row2.ensures, ← c.before.before.before.before.before.before.Node-at.ensures, ← c.before.before.before.before.node-at2.ensures, ← c.before.before.before.before.before.unit-at.ensures, c.before.before.amount.given.1)
 
 returns-6 : tie.Need-returns-6
 returns-6 c = rw (c.before.before.before.before.before.before.before.if1.false, ← c.before.before.before.before.before.before.next_row.ensures, ← c.before.before.node-at2.ensures, c.enum-told4.given.1)

@@ -14,7 +14,7 @@ node-at-requires : tie.Need-node-at-requires
 node-at-requires c κs = search rules
 
 returns-2 : tie.Need-returns-2
-returns-2 c = rw c.before.before.if1.false (λ i. Member (c.before.name-at.ensures i) (c.Node-at.ensures i))
+returns-2 c = rw c.before.before.if1.false (λ i. Member (c.before.name_at_lem.ensures i) (c.Node-at.ensures i))
 
 pub single-member-spec : {M : Type 1} → statement M
 single-member-spec = tie.close (tie.spec returns name-at-requires node-at-requires returns-2)

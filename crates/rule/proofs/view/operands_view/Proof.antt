@@ -1,5 +1,5 @@
-use Rattle.rule.specs.Mark.{operandsViews}
-use Rattle.rule.proofs.Marks.{no-view}
+use Rattle.rule.specs.Mark.{operands_views}
+use Rattle.rule.proofs.Marks.{no_view}
 use borrow.Author.Rules.{rules}
 use Rattle.rule.proofs.view.operands_view.Statement.{statement}
 use Rattle.rule.proofs.view.operands_view.Tie as tie
@@ -113,7 +113,7 @@ returns-23 : tie.Need-returns-23
 returns-23 c = rw (c.extract-view.ensures, c.before.match.keys23)
 
 returns-24 : tie.Need-returns-24
-returns-24 c = no-view (operandsViews c.before.before.args.rows.now c.before.before.args.q) c.before.before.args.mark c.match.rest
+returns-24 c = no_view (operands_views c.before.before.args.rows.now c.before.before.args.q) c.before.before.args.mark c.match.rest
 
 pub operands-view-spec : {M : Type 1} → statement M
 operands-view-spec =

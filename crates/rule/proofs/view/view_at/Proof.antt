@@ -1,6 +1,6 @@
 use mathlib.Core.Path.{refl, sym, ap, ◌∙◌}
-use Rattle.rule.proofs.Views.{node-view, object-view}
-use Rattle.table.specs.Node.{nodeAt}
+use Rattle.rule.proofs.Views.{node_view, object_view_lem}
+use Rattle.table.specs.Node.{node_at}
 use Rattle.model.specs.Bytes.{Bytes}
 use borrow.Author.Rules.{rules}
 use Rattle.rule.proofs.view.view_at.Statement.{statement}
@@ -40,25 +40,25 @@ object-view-requires : tie.Need-object-view-requires
 object-view-requires c κs = search rules
 
 returns : tie.Need-returns
-returns c = node-view c.before.before.before.before.before.before.requires _ (sym (rw c.before.before.before.rows_of_lem.ensures at c.before.before.Node-at.ensures) ∙ c.enum_told.given.1) refl
+returns c = node_view c.before.before.before.before.before.before.requires _ (sym (rw c.before.before.before.rows_of_lem.ensures at c.before.before.Node-at.ensures) ∙ c.enum_told.given.1) refl
 
 returns-2 : tie.Need-returns-2
-returns-2 c = node-view c.before.before.before.before.before.before.requires _ (sym (rw c.before.before.before.rows_of_lem.ensures at c.before.before.Node-at.ensures) ∙ c.enum-told2.given.1) refl
+returns-2 c = node_view c.before.before.before.before.before.before.requires _ (sym (rw c.before.before.before.rows_of_lem.ensures at c.before.before.Node-at.ensures) ∙ c.enum-told2.given.1) refl
 
 returns-3 : tie.Need-returns-3
-returns-3 c = node-view c.before.before.before.before.before.before.requires _ (sym (rw c.before.before.before.rows_of_lem.ensures at c.before.before.Node-at.ensures) ∙ c.enum-told3.given.1) refl
+returns-3 c = node_view c.before.before.before.before.before.before.requires _ (sym (rw c.before.before.before.rows_of_lem.ensures at c.before.before.Node-at.ensures) ∙ c.enum-told3.given.1) refl
 
 returns-4 : tie.Need-returns-4
-returns-4 c = node-view c.before.before.before.before.before.before.before.requires _ (sym (rw c.before.before.before.before.rows_of_lem.ensures at c.before.before.before.Node-at.ensures) ∙ c.before.node.given.1) refl
+returns-4 c = node_view c.before.before.before.before.before.before.before.requires _ (sym (rw c.before.before.before.before.rows_of_lem.ensures at c.before.before.before.Node-at.ensures) ∙ c.before.node.given.1) refl
 
 returns-5 : tie.Need-returns-5
-returns-5 c = node-view c.before.before.before.before.before.before.before.requires _ (sym (rw c.before.before.before.before.rows_of_lem.ensures at c.before.before.before.Node-at.ensures) ∙ c.before.node2.given.1) refl
+returns-5 c = node_view c.before.before.before.before.before.before.before.requires _ (sym (rw c.before.before.before.before.rows_of_lem.ensures at c.before.before.before.Node-at.ensures) ∙ c.before.node2.given.1) refl
 
 returns-6 : tie.Need-returns-6
-returns-6 c = node-view c.before.before.before.before.before.before.before.before.requires _ (sym (rw c.before.before.before.before.before.rows_of_lem.ensures at c.before.before.before.before.Node-at.ensures) ∙ c.before.before.node3.given.1) c.array_view.ensures
+returns-6 c = node_view c.before.before.before.before.before.before.before.before.requires _ (sym (rw c.before.before.before.before.before.rows_of_lem.ensures at c.before.before.before.before.Node-at.ensures) ∙ c.before.before.node3.given.1) c.array_view.ensures
 
 returns-7 : tie.Need-returns-7
-returns-7 c = object-view c.before.before.before.before.before.before.before.before.requires _ (sym (rw c.before.before.before.before.before.rows_of_lem.ensures at c.before.before.before.before.Node-at.ensures) ∙ c.before.before.node4.given.1) c.object-view.ensures
+returns-7 c = object_view_lem c.before.before.before.before.before.before.before.before.requires _ (sym (rw c.before.before.before.before.before.rows_of_lem.ensures at c.before.before.before.before.Node-at.ensures) ∙ c.before.before.node4.given.1) c.object_view_lem.ensures
 
 pub view-at-spec : {M : Type 1} → statement M
 view-at-spec =

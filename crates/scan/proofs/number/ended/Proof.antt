@@ -1,6 +1,6 @@
 use borrow.Author.Rules.{rules}
 use mathlib.Core.Path.{sym, ◌∙◌}
-use Rattle.scan.proofs.Numerals.{rest-whole, rest-failed, ending-end, ending-part, ending-whole}
+use Rattle.scan.proofs.Numerals.{rest_whole, rest_failed, ending_end, ending_part, ending_whole}
 use Rattle.scan.proofs.number.ended.Statement.{statement}
 use Rattle.scan.proofs.number.ended.Tie as tie
 
@@ -8,7 +8,7 @@ signed-requires : tie.Need-signed-requires
 signed-requires c κs = search rules
 
 returns : tie.Need-returns
-returns c = rest-whole (ending-end _ _ _ _ c.before.if1.true) c.before.before.before.requires.0 c.signed.ensures
+returns c = rest_whole (ending_end _ _ _ _ c.before.if1.true) c.before.before.before.requires.0 c.signed.ensures
 
 shared-slice-read-is-part : tie.Need-shared-slice-read-is-part
 shared-slice-read-is-part c = search rules
@@ -22,7 +22,7 @@ fault-requires c κs = search rules
 returns-2 : tie.Need-returns-2
 returns-2 c =
     let p = c.before.before in
-    rest-failed (ending-part _ _ _ _ p.before.before.if1.false (sym p.is-part.ensures ∙ c.before.if2.true)) c.fault.ensures
+    rest_failed (ending_part _ _ _ _ p.before.before.if1.false (sym p.is_part_lem.ensures ∙ c.before.if2.true)) c.fault.ensures
 
 signed-requires-2 : tie.Need-signed-requires-2
 signed-requires-2 c κs = search rules
@@ -30,7 +30,7 @@ signed-requires-2 c κs = search rules
 returns-3 : tie.Need-returns-3
 returns-3 c =
     let p = c.before.before in let l = p.before.before in
-    rest-whole (ending-whole _ _ _ _ l.if1.false (sym p.is-part.ensures ∙ c.before.if2.false)) l.before.before.requires.0 c.signed2.ensures
+    rest_whole (ending_whole _ _ _ _ l.if1.false (sym p.is_part_lem.ensures ∙ c.before.if2.false)) l.before.before.requires.0 c.signed2.ensures
 
 pub ended-spec : {M : Type 1} → statement M
 ended-spec =

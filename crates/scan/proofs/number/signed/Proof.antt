@@ -1,18 +1,18 @@
 use native.Mathlib.Omega.{arith}
-use Rattle.model.specs.Limits.{maxInteger}
-use Rattle.scan.proofs.Numerals.{signed_up, signed-down}
+use Rattle.model.specs.Limits.{max_integer}
+use Rattle.scan.proofs.Numerals.{signed_up, signed_down}
 use Rattle.scan.proofs.number.signed.Statement.{statement}
 use Rattle.scan.proofs.number.signed.Tie as tie
 
 sub-t5 : tie.Need-overflow-sub-t5
-unfolding maxInteger
+unfolding max_integer
 sub-t5 c = omega arith
 
 returns : tie.Need-returns
-returns c = signed-down c.if1.true _ _
+returns c = signed_down c.if1.true _ _
 
 add-t6 : tie.Need-overflow-add-t6
-unfolding maxInteger
+unfolding max_integer
 add-t6 c = omega arith
 
 returns-2 : tie.Need-returns-2

@@ -1,5 +1,5 @@
 use borrow.Author.Rules.{rules}
-use Rattle.scan.proofs.Words.{literal-by}
+use Rattle.scan.proofs.Words.{literal_by_lem}
 use Rattle.scan.proofs.token.literal.Statement.{statement}
 use Rattle.scan.proofs.token.literal.Tie as tie
 
@@ -31,13 +31,13 @@ compare-requires-3 : tie.Need-compare-requires-3
 compare-requires-3 c κs = search rules
 
 returns : tie.Need-returns
-returns c = literal-by c.before.before.enum_told.given.1 c.compare.ensures
+returns c = literal_by_lem c.before.before.enum_told.given.1 c.compare.ensures
 
 returns-2 : tie.Need-returns-2
-returns-2 c = literal-by c.before.before.enum-told2.given.1 c.compare2.ensures
+returns-2 c = literal_by_lem c.before.before.enum-told2.given.1 c.compare2.ensures
 
 returns-3 : tie.Need-returns-3
-returns-3 c = literal-by c.before.before.enum-told3.given.1 c.compare3.ensures
+returns-3 c = literal_by_lem c.before.before.enum-told3.given.1 c.compare3.ensures
 
 pub literal-spec : {M : Type 1} → statement M
 literal-spec =

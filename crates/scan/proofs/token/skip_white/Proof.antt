@@ -2,8 +2,8 @@ use borrow.Author.Rules.{rules}
 use Prim.Native.Nat.{◌-◌}
 use native.Mathlib.Omega.{arith}
 use lib.ListN.{length}
-use Rattle.model.specs.Laws.Branches.{answered-true, answered-false}
-use Rattle.scan.proofs.Words.{Skipping, skip-start, skip-more, skip_stop, skip-end}
+use Rattle.model.specs.Laws.Branches.{answered_true, answered_false}
+use Rattle.scan.proofs.Words.{Skipping, skip_start, skip_more, skip_stop, skip_end}
 use Rattle.scan.proofs.token.skip_white.Statement.{statement}
 use Rattle.scan.proofs.token.skip_white.Tie as tie
 
@@ -14,7 +14,7 @@ abbrev decreases-loop : tie.decreases-loop
 decreases-loop text at i₀ i = length text - i
 
 loop-holds : tie.Need-loop-init invariant-loop decreases-loop
-loop-holds c = skip-start _ _
+loop-holds c = skip_start _ _
 
 shared-slice-read-is-white : tie.Need-shared-slice-read-is-white invariant-loop decreases-loop
 shared-slice-read-is-white c = omega arith
@@ -25,7 +25,7 @@ is-white-requires c κs = search rules
 returns : tie.Need-returns invariant-loop decreases-loop
 returns c =
     let t = c.before.before.before in
-    skip_stop t.before.loop.invariant t.loop-test.true (answered-false c.before.is_white.ensures c.if1.true)
+    skip_stop t.before.loop.invariant t.loop-test.true (answered_false c.before.is_white.ensures c.if1.true)
 
 add-i : tie.Need-overflow-add-i invariant-loop decreases-loop
 add-i c = omega arith
@@ -36,10 +36,10 @@ loop-less c = omega arith
 loop-again : tie.Need-loop-preserved invariant-loop decreases-loop
 loop-again c =
     let t = c.before.before.before in
-    skip-more t.before.loop.invariant t.loop-test.true (answered-true c.before.is_white.ensures c.if1.false)
+    skip_more t.before.loop.invariant t.loop-test.true (answered_true c.before.is_white.ensures c.if1.false)
 
 returns-2 : tie.Need-returns-2 invariant-loop decreases-loop
-returns-2 c = skip-end c.before.loop.invariant c.loop-test.false
+returns-2 c = skip_end c.before.loop.invariant c.loop-test.false
 
 pub skip-white-spec : {M : Type 1} → statement M
 skip-white-spec =

@@ -1,7 +1,7 @@
 use native.Mathlib.Omega.{arith}
 use Rattle.paths.specs.Laws.Loops.{Left, begins, goes_on}
 use Rattle.sheet.specs.Inner.{AllOfKind}
-use Rattle.sheet.proofs.Belonging.{kind-end, other-kind, kind-on}
+use Rattle.sheet.proofs.Belonging.{kind_end, other_kind, kind_on}
 use Rattle.sheet.proofs.belong.all_of_kind.Statement.{statement}
 use Rattle.sheet.proofs.belong.all_of_kind.Tie as tie
 
@@ -21,7 +21,7 @@ kind-of-requires : tie.Need-kind-of-requires invariant-loop decreases-loop
 kind-of-requires c κs = tt
 
 returns : tie.Need-returns invariant-loop decreases-loop
-returns c = c.before.before.before.before.before.loop.invariant.goes _ (other-kind (omega arith) c.before.before.Node-at.ensures c.before.kind-of.ensures c.if2.true)
+returns c = c.before.before.before.before.before.loop.invariant.goes _ (other_kind (omega arith) c.before.before.Node-at.ensures c.before.kind-of.ensures c.if2.true)
 
 tail-requires : tie.Need-tail-requires invariant-loop decreases-loop
 tail-requires c κs = tt
@@ -30,10 +30,10 @@ loop-less : tie.Need-loop-smaller invariant-loop decreases-loop
 loop-less c = rw c.tail.ensures (omega arith)
 
 loop-again : tie.Need-loop-preserved invariant-loop decreases-loop
-loop-again c = goes_on c.before.before.before.before.before.before.loop.invariant (kind-on (omega arith) c.before.before.before.Node-at.ensures c.before.before.kind-of.ensures c.before.if2.false c.tail.ensures)
+loop-again c = goes_on c.before.before.before.before.before.before.loop.invariant (kind_on (omega arith) c.before.before.before.Node-at.ensures c.before.before.kind-of.ensures c.before.if2.false c.tail.ensures)
 
 returns-2 : tie.Need-returns-2 invariant-loop decreases-loop
-returns-2 c = c.before.before.loop.invariant.goes _ (kind-end (omega arith))
+returns-2 c = c.before.before.loop.invariant.goes _ (kind_end (omega arith))
 
 pub all-of-kind-spec : {M : Type 1} → statement M
 all-of-kind-spec =

@@ -1,5 +1,5 @@
 use mathlib.Core.Path.{refl, ◌∙◌}
-use Rattle.sheet.proofs.Belonging.{of-null, of-false, of-true, of-integer, of-string, of-items, of-object}
+use Rattle.sheet.proofs.Belonging.{of_null, of_false, of_true, of_integer, of_string, of_items, of_object_lem}
 use borrow.Author.Rules.{rules}
 use Rattle.sheet.proofs.belong.has_type.Statement.{statement}
 use Rattle.sheet.proofs.belong.has_type.Tie as tie
@@ -35,25 +35,25 @@ enum-told-5 : tie.Need-enum-told-5
 enum-told-5 c = search rules
 
 returns : tie.Need-returns
-returns c = rw c.enum_told.given.1 (record { byRows = refl; is = of-null c.before.before.before.before.args.s })
+returns c = rw c.enum_told.given.1 (record { by_rows = refl; is = of_null c.before.before.before.before.args.s })
 
 returns-2 : tie.Need-returns-2
-returns-2 c = rw c.enum-told2.given.1 (record { byRows = refl; is = of-false c.before.before.before.before.args.s })
+returns-2 c = rw c.enum-told2.given.1 (record { by_rows = refl; is = of_false c.before.before.before.before.args.s })
 
 returns-3 : tie.Need-returns-3
-returns-3 c = rw c.enum-told3.given.1 (record { byRows = refl; is = of-true c.before.before.before.before.args.s })
+returns-3 c = rw c.enum-told3.given.1 (record { by_rows = refl; is = of_true c.before.before.before.before.args.s })
 
 returns-4 : tie.Need-returns-4
-returns-4 c = rw c.enum-told4.given.1 (record { byRows = refl; is = of-integer c.before.before.before.before.args.s })
+returns-4 c = rw c.enum-told4.given.1 (record { by_rows = refl; is = of_integer c.before.before.before.before.args.s })
 
 returns-5 : tie.Need-returns-5
-returns-5 c = rw c.before.before.before.n.given.1 (of-string c.before.before.before.before.before.before.before.args.s (c.string-belongs.ensures ∙ rw c.before.bytes_of.ensures))
+returns-5 c = rw c.before.before.before.n.given.1 (of_string c.before.before.before.before.before.before.before.args.s (c.string-belongs.ensures ∙ rw c.before.bytes_of.ensures))
 
 returns-6 : tie.Need-returns-6
-returns-6 c = rw c.before.before.n2.given.1 (of-items c.before.before.before.before.before.before.args.s c.array-belongs.ensures)
+returns-6 c = rw c.before.before.n2.given.1 (of_items c.before.before.before.before.before.before.args.s c.array-belongs.ensures)
 
 returns-7 : tie.Need-returns-7
-returns-7 c = rw c.enum-told5.given.1 (record { byRows = refl; is = of-object c.before.before.before.before.args.s })
+returns-7 c = rw c.enum-told5.given.1 (record { by_rows = refl; is = of_object_lem c.before.before.before.before.args.s })
 
 pub has-type-spec : {M : Type 1} → statement M
 has-type-spec =

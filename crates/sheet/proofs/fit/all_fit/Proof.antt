@@ -2,7 +2,7 @@ use mathlib.Core.Path.{◌∙◌}
 use native.Mathlib.Omega.{arith}
 use Rattle.paths.specs.Laws.Loops.{Left, begins, goes_on}
 use Rattle.sheet.specs.Inner.{FitsAll}
-use Rattle.sheet.proofs.Fitting.{fit-end, one-unfit, fit_on}
+use Rattle.sheet.proofs.Fitting.{fit_end, one_unfit, fit_on}
 use Rattle.sheet.proofs.fit.all_fit.Statement.{statement}
 use Rattle.sheet.proofs.fit.all_fit.Tie as tie
 
@@ -28,7 +28,7 @@ entry-fits-requires : tie.Need-entry-fits-requires invariant-loop decreases-loop
 entry-fits-requires c κs = c.before.before.before.before.before.before.before.before.before.before.requires
 
 returns : tie.Need-returns invariant-loop decreases-loop
-returns c = c.before.before.before.before.before.before.before.loop.invariant.goes _ (one-unfit (omega arith) (c.before.before.before.bytes_of.ensures ∙ rw c.before.before.before.before.name-at.ensures) c.before.before.types-at.ensures c.before.entry-fits.ensures c.if2.true)
+returns c = c.before.before.before.before.before.before.before.loop.invariant.goes _ (one_unfit (omega arith) (c.before.before.before.bytes_of.ensures ∙ rw c.before.before.before.before.name_at_lem.ensures) c.before.before.types-at.ensures c.before.entry-fits.ensures c.if2.true)
 
 tail-requires : tie.Need-tail-requires invariant-loop decreases-loop
 tail-requires c κs = tt
@@ -37,10 +37,10 @@ loop-less : tie.Need-loop-smaller invariant-loop decreases-loop
 loop-less c = rw c.tail.ensures (omega arith)
 
 loop-again : tie.Need-loop-preserved invariant-loop decreases-loop
-loop-again c = goes_on c.before.before.before.before.before.before.before.before.loop.invariant (fit_on (omega arith) (c.before.before.before.before.bytes_of.ensures ∙ rw c.before.before.before.before.before.name-at.ensures) c.before.before.before.types-at.ensures c.before.before.entry-fits.ensures c.before.if2.false c.tail.ensures)
+loop-again c = goes_on c.before.before.before.before.before.before.before.before.loop.invariant (fit_on (omega arith) (c.before.before.before.before.bytes_of.ensures ∙ rw c.before.before.before.before.before.name_at_lem.ensures) c.before.before.before.types-at.ensures c.before.before.entry-fits.ensures c.before.if2.false c.tail.ensures)
 
 returns-2 : tie.Need-returns-2 invariant-loop decreases-loop
-returns-2 c = c.before.before.loop.invariant.goes _ (fit-end (omega arith))
+returns-2 c = c.before.before.loop.invariant.goes _ (fit_end (omega arith))
 
 pub all-fit-spec : {M : Type 1} → statement M
 all-fit-spec =

@@ -1,4 +1,4 @@
-use Rattle.sheet.proofs.Fitting.{fits-nothing, fits_all}
+use Rattle.sheet.proofs.Fitting.{fits_nothing, fits_all}
 use borrow.Author.Rules.{rules}
 use Rattle.sheet.proofs.fit.fits.Statement.{statement}
 use Rattle.sheet.proofs.fit.fits.Tie as tie
@@ -10,7 +10,7 @@ enum-known-q : tie.Need-enum-known-q
 enum-known-q c = search rules
 
 returns : tie.Need-returns
-returns c = fits-nothing c.before.Node-at.ensures c.match.keys2
+returns c = fits_nothing c.before.Node-at.ensures c.match.keys2
 
 all-fit-requires : tie.Need-all-fit-requires
 all-fit-requires c κs = search rules

@@ -1,13 +1,13 @@
 use borrow.Author.Rules.{rules}
 use borrow.Author.Tests.{lt-ltb, le-ltb}
-use Rattle.syntax.specs.Layout.{rowBytes}
-use Rattle.table.specs.Node.{nextRow}
+use Rattle.syntax.specs.Layout.{row_bytes}
+use Rattle.table.specs.Node.{next_row}
 use Rattle.table.specs.Row.{row_at}
 use Rattle.table.proofs.node.next_row.Statement.{statement}
 use Rattle.table.proofs.node.next_row.Tie as tie
 
 returns : tie.Need-returns
-unfolding nextRow rowBytes
+unfolding next_row row_bytes
 returns c = rw (le-ltb _ _ c.if1.true)
 
 mul_at : tie.Need-overflow-mul-at
@@ -20,7 +20,7 @@ add-result : tie.Need-overflow-add-result
 add-result c = search rules
 
 returns-2 : tie.Need-returns-2
-unfolding nextRow row_at rowBytes
+unfolding next_row row_at row_bytes
 returns-2 c = rw (lt-ltb _ _ c.before.before.if1.false, ← c.before.get-word.ensures.0, lt-ltb _ _ c.if2.true)
 
 add-get-word : tie.Need-overflow-add-get-word
@@ -30,7 +30,7 @@ get-word-requires-2 : tie.Need-get-word-requires-2
 get-word-requires-2 c κs = search rules
 
 returns-3 : tie.Need-returns-3
-unfolding nextRow row_at rowBytes
+unfolding next_row row_at row_bytes
 returns-3 c = rw (lt-ltb _ _ c.before.before.before.if1.false, ← c.before.before.get-word.ensures.0, le-ltb _ _ c.before.if2.false) c.get-word2.ensures.0
 
 pub next-row-spec : {M : Type 1} → statement M

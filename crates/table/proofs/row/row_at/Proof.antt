@@ -2,14 +2,14 @@ use borrow.Author.Rules.{rules}
 use Prim.Native.Nat.{◌/◌, ◌%◌}
 use native.Mathlib.Omega.{arith}
 use borrow.Author.Tests.{lt-ltb, le-ltb}
-use Rattle.syntax.specs.Layout.{rowBytes}
+use Rattle.syntax.specs.Layout.{row_bytes}
 use Rattle.table.specs.Row.{row_at}
 use Rattle.table.proofs.row.row_at.Statement.{statement}
 use Rattle.table.proofs.row.row_at.Tie as tie
 
 returns : tie.Need-returns
-unfolding row_at rowBytes
-returns c = (rw (le-ltb _ _ c.if1.true), record { first_small = omega arith; second-small = omega arith })
+unfolding row_at row_bytes
+returns c = (rw (le-ltb _ _ c.if1.true), record { first_small = omega arith; second_small = omega arith })
 
 mul_at : tie.Need-overflow-mul-at
 mul_at c = search rules
@@ -36,7 +36,7 @@ get-word-requires-4 : tie.Need-get-word-requires-4
 get-word-requires-4 c κs = search rules
 
 returns-2 : tie.Need-returns-2
-unfolding row_at rowBytes
+unfolding row_at row_bytes
 returns-2 c = (
   rw (lt-ltb _ _ c.before.before.before.before.if1.false)
       (λ i. record {
@@ -45,7 +45,7 @@ returns-2 c = (
         first = c.before.get-word3.ensures.0 i;
         second = c.get-word4.ensures.0 i;
       }),
-  record { first_small = c.before.get-word3.ensures.1; second-small = c.get-word4.ensures.1 },
+  record { first_small = c.before.get-word3.ensures.1; second_small = c.get-word4.ensures.1 },
 )
 
 pub row-at-spec : {M : Type 1} → statement M

@@ -1,6 +1,6 @@
 use borrow.Author.Rules.{rules}
 use native.Mathlib.Nat.{add-sub_cancel_left}
-use Rattle.table.proofs.Slices.{no_part, last-part}
+use Rattle.table.proofs.Slices.{no_part, last_part}
 use Rattle.table.proofs.string.part_of.Statement.{statement}
 use Rattle.table.proofs.string.part_of.Tie as tie
 
@@ -29,7 +29,7 @@ part-result-end-2 : tie.Need-slice-bounds-result-end-2
 part-result-end-2 c = search rules
 
 returns-2 : tie.Need-returns-2
-returns-2 c = last-part c.before.before.before.args.area.now c.before.before.before.args.start c.before.before.before.args.size c.before.if2.true
+returns-2 c = last_part c.before.before.before.args.area.now c.before.before.before.args.start c.before.before.before.args.size c.before.if2.true
 
 add-end : tie.Need-overflow-add-end
 add-end c = search rules

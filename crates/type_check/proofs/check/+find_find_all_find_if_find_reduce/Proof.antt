@@ -1,6 +1,6 @@
-use Rattle.type_check.proofs.All.{Rest, all_found, rest-done, rest-stops, rest-goes-on}
-use Rattle.type_check.proofs.Three.{no-guard, if-found, no_operand, no-array, no-initial, no-lambda, reduce-found}
-use Rattle.type_check.proofs.Views.{nests, literal-found, var-found, if-seen, and-seen, reduce-seen, apply-seen}
+use Rattle.type_check.proofs.All.{Rest, all_found, rest_done, rest_stops, rest_goes_on}
+use Rattle.type_check.proofs.Three.{no_guard, if_found, no_operand, no_array, no_initial, no_lambda, reduce_found}
+use Rattle.type_check.proofs.Views.{nests, literal_found, var_found, if_seen, and_seen, reduce_seen, apply_seen}
 use Rattle.type_check.specs.declared.operation.FoundAll.{FoundAll}
 use Rattle.type_check.specs.declared.operation.FoundAll.TheVariants.{NotAccepted}
 use borrow.Author.Tests.{not-true, not-false}
@@ -153,22 +153,22 @@ find-operation-types-requires : (t : ℕ) → find-lts.Need-operation-types-requ
 find-operation-types-requires t c κs = search rules
 
 find-returns : (t : ℕ) → find-lts.Need-returns (find-calls t) (find_at t) find.Post
-find-returns t c = literal-found c.before.before.before.before.view-at.ensures c.before.before.l.given.1 c.literal-types.ensures
+find-returns t c = literal_found c.before.before.before.before.view-at.ensures c.before.before.l.given.1 c.literal-types.ensures
 
 find-returns-2 : (t : ℕ) → find-lts.Need-returns-2 (find-calls t) (find_at t) find.Post
-find-returns-2 t c = var-found c.before.before.before.before.before.view-at.ensures c.before.before.before.p.given.1 c.before.bytes_of.ensures c.var-types.ensures
+find-returns-2 t c = var_found c.before.before.before.before.before.view-at.ensures c.before.before.before.p.given.1 c.before.bytes_of.ensures c.var-types.ensures
 
 find-returns-3 : (t : ℕ) → find-lts.Need-returns-3 (find-calls t) (find_at t) find.Post
-find-returns-3 t c = if-seen c.before.before.before.before.before.view-at.ensures c.before.inner.ensures c.before.before.before.q.given.1 c.find-if.ensures
+find-returns-3 t c = if_seen c.before.before.before.before.before.view-at.ensures c.before.inner.ensures c.before.before.before.q.given.1 c.find-if.ensures
 
 find-returns-4 : (t : ℕ) → find-lts.Need-returns-4 (find-calls t) (find_at t) find.Post
-find-returns-4 t c = and-seen c.before.before.before.before.before.before.view-at.ensures c.before.before.inner2.ensures c.before.find-all.ensures c.before.before.before.before.q2.given.1 c.and-types.ensures
+find-returns-4 t c = and_seen c.before.before.before.before.before.before.view-at.ensures c.before.before.inner2.ensures c.before.find-all.ensures c.before.before.before.before.q2.given.1 c.and-types.ensures
 
 find-returns-5 : (t : ℕ) → find-lts.Need-returns-5 (find-calls t) (find_at t) find.Post
-find-returns-5 t c = reduce-seen c.before.before.before.before.before.view-at.ensures c.before.inner3.ensures c.before.before.before.q3.given.1 c.find-reduce.ensures
+find-returns-5 t c = reduce_seen c.before.before.before.before.before.view-at.ensures c.before.inner3.ensures c.before.before.before.q3.given.1 c.find-reduce.ensures
 
 find-returns-6 : (t : ℕ) → find-lts.Need-returns-6 (find-calls t) (find_at t) find.Post
-find-returns-6 t c = apply-seen c.before.before.before.before.before.before.view-at.ensures c.before.before.inner4.ensures c.before.find-all2.ensures c.before.before.before.before.op.given.1 c.operation-types.ensures
+find-returns-6 t c = apply_seen c.before.before.before.before.before.before.view-at.ensures c.before.before.inner4.ensures c.before.find-all2.ensures c.before.before.before.before.op.given.1 c.operation-types.ensures
 
 abbrev find-all-Inv-loop : find-all-lts.invariant-loop
 find-all-Inv-loop rule-table rule-strings sheet-table sheet-strings s o₀ rest₀ o rest = (r : FoundAll) → Rest rule-table rule-strings sheet-table sheet-strings s o rest r → Rest rule-table rule-strings sheet-table sheet-strings s o₀ rest₀ r
@@ -192,7 +192,7 @@ find-all-enum-told : (t : ℕ) → find-all-lts.Need-enum-told (find-all-calls t
 find-all-enum-told t c = search rules
 
 find-all-returns : (t : ℕ) → find-all-lts.Need-returns (find-all-calls t) (find-all-at t) find-all.Post find-all-Inv-loop find-all-μ-loop
-find-all-returns t c = all_found c.before.before.before.before.before.before.no-operands.ensures (c.before.before.before.before.before.loop.invariant NotAccepted (rest-stops c.before.before.before.before.before.loop.rest c.before.before.find.ensures (omega (arith, c.before.before.before.if1.true)) c.before.before.before.before.before.loop.o c.enum_told.given.1))
+find-all-returns t c = all_found c.before.before.before.before.before.before.no-operands.ensures (c.before.before.before.before.before.loop.invariant NotAccepted (rest_stops c.before.before.before.before.before.loop.rest c.before.before.find.ensures (omega (arith, c.before.before.before.if1.true)) c.before.before.before.before.before.loop.o c.enum_told.given.1))
 
 find-all-one-more-requires : (t : ℕ) → find-all-lts.Need-one-more-requires (find-all-calls t) (find-all-at t) find-all.Post find-all-Inv-loop find-all-μ-loop
 find-all-one-more-requires t c κs = search rules
@@ -204,10 +204,10 @@ find-all-loop-less : (t : ℕ) → find-all-lts.Need-loop-smaller (find-all-call
 find-all-loop-less t c = rw c.tail.ensures (omega (arith, c.before.before.before.before.before.before.if1.true))
 
 find-all-loop-again : (t : ℕ) → find-all-lts.Need-loop-preserved (find-all-calls t) (find-all-at t) find-all.Post find-all-Inv-loop find-all-μ-loop
-find-all-loop-again t c = λ r a. c.before.before.before.before.before.before.before.before.loop.invariant r (rest-goes-on c.before.before.before.before.before.before.before.before.loop.rest c.before.before.before.before.before.find.ensures (omega (arith, c.before.before.before.before.before.before.if1.true)) c.before.before.before.before.before.before.before.before.loop.o c.before.before.before.found.given.1 c.before.one_more.ensures c.tail.ensures a)
+find-all-loop-again t c = λ r a. c.before.before.before.before.before.before.before.before.loop.invariant r (rest_goes_on c.before.before.before.before.before.before.before.before.loop.rest c.before.before.before.before.before.find.ensures (omega (arith, c.before.before.before.before.before.before.if1.true)) c.before.before.before.before.before.before.before.before.loop.o c.before.before.before.found.given.1 c.before.one_more.ensures c.tail.ensures a)
 
 find-all-returns-2 : (t : ℕ) → find-all-lts.Need-returns-2 (find-all-calls t) (find-all-at t) find-all.Post find-all-Inv-loop find-all-μ-loop
-find-all-returns-2 t c = all_found c.before.before.before.no-operands.ensures (c.before.before.loop.invariant _ (rest-done c.before.before.loop.o c.before.before.loop.rest (omega (arith, c.if1.false))))
+find-all-returns-2 t c = all_found c.before.before.before.no-operands.ensures (c.before.before.loop.invariant _ (rest_done c.before.before.loop.o c.before.before.loop.rest (omega (arith, c.if1.false))))
 
 find-if-find-requires : (t : ℕ) → find-if-lts.Need-find-requires (find-if-calls t) (find-if-at t) find-if.Post
 find-if-find-requires t c κs = search rules
@@ -219,7 +219,7 @@ find-if-enum-told-2 : (t : ℕ) → find-if-lts.Need-enum-told-2 (find-if-calls 
 find-if-enum-told-2 t c = search rules
 
 find-if-returns : (t : ℕ) → find-if-lts.Need-returns (find-if-calls t) (find-if-at t) find-if.Post
-find-if-returns t c = no-guard c.before.before.find.ensures c.enum-told2.given.1
+find-if-returns t c = no_guard c.before.before.find.ensures c.enum-told2.given.1
 
 find-if-tail-requires : (t : ℕ) → find-if-lts.Need-tail-requires (find-if-calls t) (find-if-at t) find-if.Post
 find-if-tail-requires t c κs = search rules
@@ -231,7 +231,7 @@ find-if-branch-types-requires : (t : ℕ) → find-if-lts.Need-branch-types-requ
 find-if-branch-types-requires t c κs = search rules
 
 find-if-returns-2 : (t : ℕ) → find-if-lts.Need-returns-2 (find-if-calls t) (find-if-at t) find-if.Post
-find-if-returns-2 t c = if-found c.before.before.before.before.before.find.ensures c.before.before.before.enum_told.given.1 c.before.before.tail.ensures c.before.find-all.ensures c.branch-types.ensures
+find-if-returns-2 t c = if_found c.before.before.before.before.before.find.ensures c.before.before.before.enum_told.given.1 c.before.before.tail.ensures c.before.find-all.ensures c.branch-types.ensures
 
 find-reduce-find-requires : (t : ℕ) → find-reduce-lts.Need-find-requires (find-reduce-calls t) (find-reduce-at t) find-reduce.Post
 find-reduce-find-requires t c κs = search rules
@@ -261,7 +261,7 @@ find-reduce-enum-told-2 : (t : ℕ) → find-reduce-lts.Need-enum-told-2 (find-r
 find-reduce-enum-told-2 t c = search rules
 
 find-reduce-returns-2 : (t : ℕ) → find-reduce-lts.Need-returns-2 (find-reduce-calls t) (find-reduce-at t) find-reduce.Post
-find-reduce-returns-2 t c = no-initial c.before.before.before.before.before.before.before.before.find.ensures c.before.before.before.before.next_row.ensures c.before.before.before.next-row2.ensures c.before.before.find2.ensures c.enum-told2.given.1
+find-reduce-returns-2 t c = no_initial c.before.before.before.before.before.before.before.before.find.ensures c.before.before.before.before.next_row.ensures c.before.before.before.next-row2.ensures c.before.before.find2.ensures c.enum-told2.given.1
 
 find-reduce-only-requires : (t : ℕ) → find-reduce-lts.Need-only-requires (find-reduce-calls t) (find-reduce-at t) find-reduce.Post
 find-reduce-only-requires t c κs = search rules
@@ -270,7 +270,7 @@ find-reduce-passes-requires : (t : ℕ) → find-reduce-lts.Need-passes-requires
 find-reduce-passes-requires t c κs = search rules
 
 find-reduce-returns-3 : (t : ℕ) → find-reduce-lts.Need-returns-3 (find-reduce-calls t) (find-reduce-at t) find-reduce.Post
-find-reduce-returns-3 t c = no-array c.before.before.before.before.before.before.before.before.before.before.before.before.find.ensures c.before.passes.result c.before.before.before.before.before.before.before.before.before.before.found.given.1 c.before.before.only.ensures c.before.passes.ensures (not-true c.before.passes.result c.if1.true)
+find-reduce-returns-3 t c = no_array c.before.before.before.before.before.before.before.before.before.before.before.before.find.ensures c.before.passes.result c.before.before.before.before.before.before.before.before.before.before.found.given.1 c.before.before.only.ensures c.before.passes.ensures (not-true c.before.passes.result c.if1.true)
 
 find-reduce-items-of-requires : (t : ℕ) → find-reduce-lts.Need-items-of-requires (find-reduce-calls t) (find-reduce-at t) find-reduce.Post
 find-reduce-items-of-requires t c κs = search rules
@@ -285,13 +285,13 @@ find-reduce-enum-told-3 : (t : ℕ) → find-reduce-lts.Need-enum-told-3 (find-r
 find-reduce-enum-told-3 t c = search rules
 
 find-reduce-returns-4 : (t : ℕ) → find-reduce-lts.Need-returns-4 (find-reduce-calls t) (find-reduce-at t) find-reduce.Post
-find-reduce-returns-4 t c = no-lambda c.before.before.before.before.before.before.before.before.before.before.before.before.before.before.before.before.find.ensures c.before.before.before.before.before.before.before.before.before.before.before.before.next_row.ensures c.before.before.before.before.before.before.before.before.before.before.before.next-row2.ensures c.before.before.before.before.before.before.before.before.before.before.find2.ensures c.before.before.before.before.before.before.before.before.before.before.before.before.before.before.found.given.1 c.before.before.before.items_of.ensures c.before.before.before.before.before.before.before.before.found2.given.1 c.before.before.find3.ensures c.enum-told3.given.1
+find-reduce-returns-4 t c = no_lambda c.before.before.before.before.before.before.before.before.before.before.before.before.before.before.before.before.find.ensures c.before.before.before.before.before.before.before.before.before.before.before.before.next_row.ensures c.before.before.before.before.before.before.before.before.before.before.before.next-row2.ensures c.before.before.before.before.before.before.before.before.before.before.find2.ensures c.before.before.before.before.before.before.before.before.before.before.before.before.before.before.found.given.1 c.before.before.before.items_of.ensures c.before.before.before.before.before.before.before.before.found2.given.1 c.before.before.find3.ensures c.enum-told3.given.1
 
 find-reduce-passing-requires : (t : ℕ) → find-reduce-lts.Need-passing-requires (find-reduce-calls t) (find-reduce-at t) find-reduce.Post
 find-reduce-passing-requires t c κs = search rules
 
 find-reduce-returns-5 : (t : ℕ) → find-reduce-lts.Need-returns-5 (find-reduce-calls t) (find-reduce-at t) find-reduce.Post
-find-reduce-returns-5 t c = reduce-found c.before.before.before.before.before.before.before.before.before.before.before.before.before.before.before.before.before.before.find.ensures c.before.before.before.before.before.before.before.before.before.before.before.before.before.before.next_row.ensures c.before.before.before.before.before.before.before.before.before.before.before.before.before.next-row2.ensures c.before.before.before.before.before.before.before.before.before.before.before.before.find2.ensures c.before.before.before.before.before.before.before.before.before.before.before.before.before.before.before.before.found.given.1 c.before.before.before.before.before.items_of.ensures c.before.before.before.before.before.before.before.before.before.before.found2.given.1 c.before.before.before.before.find3.ensures c.before.before.before.before.before.before.before.passes.result c.before.before.before.before.before.before.before.before.only.ensures c.before.before.before.before.before.before.before.passes.ensures (not-false c.before.before.before.before.before.before.before.passes.result c.before.before.before.before.before.before.if1.false) c.before.before.found3.given.1 c.passing.ensures
+find-reduce-returns-5 t c = reduce_found c.before.before.before.before.before.before.before.before.before.before.before.before.before.before.before.before.before.before.find.ensures c.before.before.before.before.before.before.before.before.before.before.before.before.before.before.next_row.ensures c.before.before.before.before.before.before.before.before.before.before.before.before.before.next-row2.ensures c.before.before.before.before.before.before.before.before.before.before.before.before.find2.ensures c.before.before.before.before.before.before.before.before.before.before.before.before.before.before.before.before.found.given.1 c.before.before.before.before.before.items_of.ensures c.before.before.before.before.before.before.before.before.before.before.found2.given.1 c.before.before.before.before.find3.ensures c.before.before.before.before.before.before.before.passes.result c.before.before.before.before.before.before.before.before.only.ensures c.before.before.before.before.before.before.before.passes.ensures (not-false c.before.before.before.before.before.before.before.passes.result c.before.before.before.before.before.before.if1.false) c.before.before.found3.given.1 c.passing.ensures
 
 pub +find-find-all-find-if-find-reduce-spec : {M : Type 1} → statement M
 +find-find-all-find-if-find-reduce-spec =

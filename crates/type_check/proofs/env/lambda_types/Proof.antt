@@ -1,8 +1,8 @@
 use lib.ListN.{length-take}
 use native.Mathlib.Omega.{arith}
 use Rattle.model.specs.Bytes.{ascii}
-use Rattle.bytes.specs.Laws.Fragment.{end-inside}
-use Rattle.type_check.proofs.Paths.{no-fragment, a-fragment}
+use Rattle.octets.specs.Laws.Fragment.{end_inside}
+use Rattle.type_check.proofs.Paths.{no_fragment, a_fragment}
 use borrow.Author.Rules.{rules}
 use Rattle.type_check.proofs.env.lambda_types.Statement.{statement}
 use Rattle.type_check.proofs.env.lambda_types.Tie as tie
@@ -11,7 +11,7 @@ only-requires : tie.Need-only-requires
 only-requires c κs = search rules
 
 returns : tie.Need-returns
-returns c = no-fragment c.before.before.before.args.path.now c.before.before.before.args.current c.before.before.before.args.accumulator c.before.if1.true c.only.ensures
+returns c = no_fragment c.before.before.before.args.path.now c.before.before.before.args.current c.before.before.before.args.accumulator c.before.if1.true c.only.ensures
 
 slice-aggregate-fragment-end : tie.Need-slice-aggregate-fragment-end
 slice-aggregate-fragment-end c = search rules
@@ -20,7 +20,7 @@ fragment-end-requires : tie.Need-fragment-end-requires
 fragment-end-requires c κs = search rules
 
 slice-aggregate-first : tie.Need-slice-aggregate-first
-slice-aggregate-first c = simp length-take (omega (arith, c.before.fragment-end.ensures, end-inside (ascii ".") c.before.before.before.before.before.args.path.now 0 (omega arith)))
+slice-aggregate-first c = simp length-take (omega (arith, c.before.fragment-end.ensures, end_inside (ascii ".") c.before.before.before.before.before.args.path.now 0 (omega arith)))
 
 slice-aggregate-same : tie.Need-slice-aggregate-same
 slice-aggregate-same c = search rules
@@ -32,7 +32,7 @@ part-types-requires : tie.Need-part-types-requires
 part-types-requires c κs = search rules
 
 returns-2 : tie.Need-returns-2
-returns-2 c = a-fragment c.before.before.before.before.before.before.before.before.before.args.path.now c.before.before.before.before.before.before.before.before.before.args.current c.before.before.before.before.before.before.before.before.before.args.accumulator c.before.before.before.before.before.before.before.if1.false c.before.before.before.before.before.fragment-end.ensures (rw (← c.before.before.same.ensures, c.before.if2.true) c.part-types.ensures)
+returns-2 c = a_fragment c.before.before.before.before.before.before.before.before.before.args.path.now c.before.before.before.before.before.before.before.before.before.args.current c.before.before.before.before.before.before.before.before.before.args.accumulator c.before.before.before.before.before.before.before.if1.false c.before.before.before.before.before.fragment-end.ensures (rw (← c.before.before.same.ensures, c.before.if2.true) c.part-types.ensures)
 
 slice-aggregate-same-2 : tie.Need-slice-aggregate-same-2
 slice-aggregate-same-2 c = search rules
@@ -44,13 +44,13 @@ part-types-requires-2 : tie.Need-part-types-requires-2
 part-types-requires-2 c κs = search rules
 
 returns-3 : tie.Need-returns-3
-returns-3 c = a-fragment c.before.before.before.before.before.before.before.before.before.before.before.before.args.path.now c.before.before.before.before.before.before.before.before.before.before.before.before.args.current c.before.before.before.before.before.before.before.before.before.before.before.before.args.accumulator c.before.before.before.before.before.before.before.before.before.before.if1.false c.before.before.before.before.before.before.before.before.fragment-end.ensures (rw (← c.before.before.before.before.before.same.ensures, c.before.before.before.before.if2.false, ← c.before.before.same2.ensures, c.before.if3.true) c.part-types2.ensures)
+returns-3 c = a_fragment c.before.before.before.before.before.before.before.before.before.before.before.before.args.path.now c.before.before.before.before.before.before.before.before.before.before.before.before.args.current c.before.before.before.before.before.before.before.before.before.before.before.before.args.accumulator c.before.before.before.before.before.before.before.before.before.before.if1.false c.before.before.before.before.before.before.before.before.fragment-end.ensures (rw (← c.before.before.before.before.before.same.ensures, c.before.before.before.before.if2.false, ← c.before.before.same2.ensures, c.before.if3.true) c.part-types2.ensures)
 
 only-requires-2 : tie.Need-only-requires-2
 only-requires-2 c κs = search rules
 
 returns-4 : tie.Need-returns-4
-returns-4 c = a-fragment c.before.before.before.before.before.before.before.before.before.before.before.before.args.path.now c.before.before.before.before.before.before.before.before.before.before.before.before.args.current c.before.before.before.before.before.before.before.before.before.before.before.before.args.accumulator c.before.before.before.before.before.before.before.before.before.before.if1.false c.before.before.before.before.before.before.before.before.fragment-end.ensures (rw (← c.before.before.before.before.before.same.ensures, c.before.before.before.before.if2.false, ← c.before.before.same2.ensures, c.before.if3.false) c.only2.ensures)
+returns-4 c = a_fragment c.before.before.before.before.before.before.before.before.before.before.before.before.args.path.now c.before.before.before.before.before.before.before.before.before.before.before.before.args.current c.before.before.before.before.before.before.before.before.before.before.before.before.args.accumulator c.before.before.before.before.before.before.before.before.before.before.if1.false c.before.before.before.before.before.before.before.before.fragment-end.ensures (rw (← c.before.before.before.before.before.same.ensures, c.before.before.before.before.if2.false, ← c.before.before.same2.ensures, c.before.if3.false) c.only2.ensures)
 
 pub lambda-types-spec : {M : Type 1} → statement M
 lambda-types-spec =

@@ -1,4 +1,4 @@
-use Rattle.type_check.proofs.Paths.{var-outside, var-in-lambda}
+use Rattle.type_check.proofs.Paths.{var_outside, var_in_lambda}
 use borrow.Author.Rules.{rules}
 use Rattle.type_check.proofs.env.var_types.Statement.{statement}
 use Rattle.type_check.proofs.env.var_types.Tie as tie
@@ -16,10 +16,10 @@ lambda-types-requires : tie.Need-lambda-types-requires
 lambda-types-requires c κs = search rules
 
 returns : tie.Need-returns
-returns c = var-outside c.before.enum_told.given.1 c.types-for.ensures
+returns c = var_outside c.before.enum_told.given.1 c.types-for.ensures
 
 returns-2 : tie.Need-returns-2
-returns-2 c = var-in-lambda c.before.before.env.given.1 c.lambda-types.ensures
+returns-2 c = var_in_lambda c.before.before.env.given.1 c.lambda-types.ensures
 
 pub var-types-spec : {M : Type 1} → statement M
 var-types-spec =

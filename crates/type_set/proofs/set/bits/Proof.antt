@@ -1,6 +1,6 @@
 use borrow.Author.Rules.{rules}
 use native.Mathlib.Omega.{arith}
-use Rattle.type_set.specs.Laws.Fields.{bits-fields}
+use Rattle.type_set.specs.Laws.Fields.{bits_fields}
 use Rattle.type_set.proofs.set.bits.Statement.{statement}
 use Rattle.type_set.proofs.set.bits.Tie as tie
 
@@ -68,7 +68,7 @@ add-result-10 : tie.Need-overflow-add-result-10
 add-result-10 c = search rules
 
 returns : tie.Need-returns
-returns c = omega (arith, bits-fields c.before.before.before.before.before.before.before.before.before.before.before.args.s)
+returns c = omega (arith, bits_fields c.before.before.before.before.before.before.before.before.before.before.before.args.s)
 
 pub bits-spec : {M : Type 1} → statement M
 bits-spec =

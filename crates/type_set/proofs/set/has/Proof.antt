@@ -1,6 +1,6 @@
 use borrow.Author.Rules.{rules}
 use Rattle.model.specs.declared.Ty.TheVariants as Ty
-use Rattle.type_set.proofs.Sets.{field-is-in}
+use Rattle.type_set.proofs.Sets.{field_is_in}
 use Rattle.type_set.proofs.set.has.Statement.{statement}
 use Rattle.type_set.proofs.set.has.Tie as tie
 
@@ -38,37 +38,37 @@ enum-told-11 : tie.Need-enum-told-11
 enum-told-11 c = search rules
 
 returns : tie.Need-returns
-returns c = field-is-in c.before.before.args.s Ty.Null c.enum_told.given.1
+returns c = field_is_in c.before.before.args.s Ty.Null c.enum_told.given.1
 
 returns-2 : tie.Need-returns-2
-returns-2 c = field-is-in c.before.before.args.s Ty.Boolean c.enum-told2.given.1
+returns-2 c = field_is_in c.before.before.args.s Ty.Boolean c.enum-told2.given.1
 
 returns-3 : tie.Need-returns-3
-returns-3 c = field-is-in c.before.before.args.s Ty.Integer c.enum-told3.given.1
+returns-3 c = field_is_in c.before.before.args.s Ty.Integer c.enum-told3.given.1
 
 returns-4 : tie.Need-returns-4
-returns-4 c = field-is-in c.before.before.args.s Ty.String c.enum-told4.given.1
+returns-4 c = field_is_in c.before.before.args.s Ty.String c.enum-told4.given.1
 
 returns-5 : tie.Need-returns-5
-returns-5 c = field-is-in c.before.before.args.s Ty.Date c.enum-told5.given.1
+returns-5 c = field_is_in c.before.before.args.s Ty.Date c.enum-told5.given.1
 
 returns-6 : tie.Need-returns-6
-returns-6 c = field-is-in c.before.before.args.s Ty.Day c.enum-told6.given.1
+returns-6 c = field_is_in c.before.before.args.s Ty.Day c.enum-told6.given.1
 
 returns-7 : tie.Need-returns-7
-returns-7 c = field-is-in c.before.before.args.s Ty.Integers c.enum-told7.given.1
+returns-7 c = field_is_in c.before.before.args.s Ty.Integers c.enum-told7.given.1
 
 returns-8 : tie.Need-returns-8
-returns-8 c = field-is-in c.before.before.args.s Ty.Strings c.enum-told8.given.1
+returns-8 c = field_is_in c.before.before.args.s Ty.Strings c.enum-told8.given.1
 
 returns-9 : tie.Need-returns-9
-returns-9 c = field-is-in c.before.before.args.s Ty.Array c.enum-told9.given.1
+returns-9 c = field_is_in c.before.before.args.s Ty.Array c.enum-told9.given.1
 
 returns-10 : tie.Need-returns-10
-returns-10 c = field-is-in c.before.before.args.s Ty.Object c.enum-told10.given.1
+returns-10 c = field_is_in c.before.before.args.s Ty.Object c.enum-told10.given.1
 
 returns-11 : tie.Need-returns-11
-returns-11 c = field-is-in c.before.before.args.s Ty.Instant c.enum-told11.given.1
+returns-11 c = field_is_in c.before.before.args.s Ty.Instant c.enum-told11.given.1
 
 pub has-spec : {M : Type 1} → statement M
 has-spec =

@@ -1,5 +1,5 @@
 use borrow.Author.Rules.{rules}
-use Rattle.type_set.proofs.Sets.{only-numbered}
+use Rattle.type_set.proofs.Sets.{only_numbered}
 use Rattle.type_set.proofs.set.only.Statement.{statement}
 use Rattle.type_set.proofs.set.only.Tie as tie
 
@@ -7,7 +7,7 @@ number-requires : tie.Need-number-requires
 number-requires c κs = search rules
 
 returns : tie.Need-returns
-returns c = only-numbered c.before.args.k c.number.ensures
+returns c = only_numbered c.before.args.k c.number.ensures
 
 pub only-spec : {M : Type 1} → statement M
 only-spec = tie.close (tie.spec number-requires returns)

@@ -1,15 +1,15 @@
 use borrow.Author.Rules.{rules}
 use mathlib.Core.Path.{◌≡◌, sym, ◌∙◌}
 use native.Mathlib.Omega.{arith}
-use Rattle.model.specs.Laws.Widths.{values-below}
+use Rattle.model.specs.Laws.Widths.{values_below}
 use Rattle.viewer.specs.declared.row.RowAnswer.TheVariants as rows
-use Rattle.viewer.specs.View.{rowSeen}
-use Rattle.viewer.proofs.Seen.{told-behind}
-use Rattle.viewer.proofs.Walk.{part_none, part-past, part-is}
+use Rattle.viewer.specs.View.{row_seen}
+use Rattle.viewer.proofs.Seen.{told_behind}
+use Rattle.viewer.proofs.Walk.{part_none, part_past, part_is}
 use Rattle.viewer.proofs.part.find_part.Statement.{statement}
 use Rattle.viewer.proofs.part.find_part.Tie as tie
 
-told : (c : tie.After-known-told) → rowSeen c.before.before.before.before.before.args.table.now c.before.before.before.before.before.args.place ≡ rows.Is c.before.r.given.0.0
+told : (c : tie.After-known-told) → row_seen c.before.before.before.before.before.args.table.now c.before.before.before.before.before.args.place ≡ rows.Is c.before.r.given.0.0
 told c =
     sym c.before.before.before.find-row.ensures ∙ c.before.r.given.1
 
@@ -33,12 +33,12 @@ count-of-requires c κs = search rules
 returns-2 : tie.Need-returns-2
 returns-2 c =
     let a = c.before.before.before.before.before.before.before.args in
-    part-past a.table.now a.place a.nth _ (told c.before.before) (omega (arith, c.before.count_of.ensures))
+    part_past a.table.now a.place a.nth _ (told c.before.before) (omega (arith, c.before.count_of.ensures))
 
 add-part-from : tie.Need-overflow-add-part-from
 add-part-from c =
     let a = c.before.before.before.before.before.before.before.args in
-    omega (arith, values-below, (told-behind a.table.now a.place _ (told c.before.before)).few)
+    omega (arith, values_below, (told_behind a.table.now a.place _ (told c.before.before)).few)
 
 part-from-requires : tie.Need-part-from-requires
 part-from-requires c κs = search rules
@@ -46,7 +46,7 @@ part-from-requires c κs = search rules
 returns-3 : tie.Need-returns-3
 returns-3 c =
     let a = c.before.before.before.before.before.before.before.before.args in
-    c.part-from.ensures ∙ part-is a.table.now a.place a.nth _ (told c.before.before.before) (omega (arith, c.before.before.count_of.ensures))
+    c.part-from.ensures ∙ part_is a.table.now a.place a.nth _ (told c.before.before.before) (omega (arith, c.before.before.count_of.ensures))
 
 pub find-part-spec : {M : Type 1} → statement M
 find-part-spec =

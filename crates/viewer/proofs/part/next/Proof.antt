@@ -2,15 +2,15 @@ use borrow.Author.Rules.{rules}
 use mathlib.Core.Path.{◌≡◌, sym, ◌∙◌}
 use native.Mathlib.Omega.{arith}
 use borrow.Author.Tests.{eq-eqb}
-use Rattle.model.specs.Laws.Widths.{values-below}
+use Rattle.model.specs.Laws.Widths.{values_below}
 use Rattle.viewer.specs.declared.row.RowAnswer.TheVariants as rows
-use Rattle.viewer.specs.View.{rowSeen}
-use Rattle.viewer.proofs.Seen.{told-behind}
-use Rattle.viewer.proofs.Walk.{after_none, after-past, after-end}
+use Rattle.viewer.specs.View.{row_seen}
+use Rattle.viewer.proofs.Seen.{told_behind}
+use Rattle.viewer.proofs.Walk.{after_none, after_past, after_end}
 use Rattle.viewer.proofs.part.next.Statement.{statement}
 use Rattle.viewer.proofs.part.next.Tie as tie
 
-told : (c : tie.After-known-told) → rowSeen c.before.before.before.before.before.before.args.table.now c.before.before.before.before.before.before.args.place ≡ rows.Is c.before.r.given.0.0
+told : (c : tie.After-known-told) → row_seen c.before.before.before.before.before.before.args.table.now c.before.before.before.before.before.before.args.place ≡ rows.Is c.before.r.given.0.0
 told c = sym c.before.before.before.find-row.ensures ∙ c.before.r.given.1
 
 returns : tie.Need-returns
@@ -28,13 +28,13 @@ enum-known-r c = search rules
 end-of-requires : tie.Need-end-of-requires
 end-of-requires c κs =
     let a = c.before.before.before.before.before.before.args in
-    omega (arith, values-below, (told-behind a.table.now a.place _ (told c)).few)
+    omega (arith, values_below, (told_behind a.table.now a.place _ (told c)).few)
 
 returns-2 : tie.Need-returns-2
 returns-2 c =
     let d = c.before.before.before.before.before.before in
     let a = d.before.before.args in
-    after-past a.table.now a.end a.place _ d.if1.false (told c.before.before) (omega (arith, c.before.end_of_lem.ensures))
+    after_past a.table.now a.end a.place _ d.if1.false (told c.before.before) (omega (arith, c.before.end_of_lem.ensures))
 
 returns-3 : tie.Need-returns-3
 returns-3 c =
@@ -46,7 +46,7 @@ returns-4 : tie.Need-returns-4
 returns-4 c =
     let d = c.before.before.before.before.before.before in
     let a = d.before.before.args in
-    c.before.end_of_lem.ensures ∙ after-end a.table.now a.end a.place _ d.if1.false (told c.before.before) (omega (arith, c.before.end_of_lem.ensures))
+    c.before.end_of_lem.ensures ∙ after_end a.table.now a.end a.place _ d.if1.false (told c.before.before) (omega (arith, c.before.end_of_lem.ensures))
 
 pub next-spec : {M : Type 1} → statement M
 next-spec =

@@ -2,8 +2,8 @@ use borrow.Author.Rules.{rules}
 use mathlib.Core.Path.{ap, ◌∙◌}
 use native.Mathlib.Omega.{arith}
 use borrow.Author.Tests.{lt-ltb, le-ltb, eq-eqb, ne_eqb}
-use Rattle.viewer.specs.Form.{isInteger}
-use Rattle.viewer.proofs.Tests.{sum-zero}
+use Rattle.viewer.specs.Form.{is_integer}
+use Rattle.viewer.proofs.Tests.{sum_zero}
 use Rattle.viewer.proofs.row.has_content.Statement.{statement}
 use Rattle.viewer.proofs.row.has_content.Tie as tie
 
@@ -16,7 +16,7 @@ add-result c = search rules
 returns-2 : tie.Need-returns-2
 returns-2 c =
     let r = c.before.before.before.args.r in
-    rw (ne_eqb _ _ c.before.before.if1.false, lt-ltb _ _ c.before.if2.true) (sum-zero r.first r.second)
+    rw (ne_eqb _ _ c.before.before.if1.false, lt-ltb _ _ c.before.if2.true) (sum_zero r.first r.second)
 
 join-requires : tie.Need-join-requires
 join-requires c κs = search rules
@@ -28,7 +28,7 @@ returns-3 : tie.Need-returns-3
 returns-3 c =
     let d = c.before.before in
     rw (ne_eqb _ _ d.before.before.if1.false, le-ltb _ _ d.before.if2.false, eq-eqb _ _ d.if3.true)
-    (c.is-integer.ensures ∙ ap isInteger c.before.join.ensures)
+    (c.is-integer.ensures ∙ ap is_integer c.before.join.ensures)
 
 is-within-requires : tie.Need-is-within-requires
 is-within-requires c κs = search rules

@@ -2,8 +2,8 @@ use mathlib.Core.Path.{sym, ap, ◌∙◌}
 use native.Mathlib.Omega.{arith}
 use borrow.Author.Rules.{rules}
 use Rattle.syntax.specs.Layout.{unbiased}
-use Rattle.viewer.specs.Form.{isInteger}
-use Rattle.viewer.proofs.Integers.{integer-small, minus-fits, integer-is, an-integer-in, no-integer-in, too_large}
+use Rattle.viewer.specs.Form.{is_integer}
+use Rattle.viewer.proofs.Integers.{integer_small, minus_fits, integer_is, an_integer_in, no_integer_in, too_large}
 use Rattle.viewer.proofs.row.integer_of.Statement.{statement}
 use Rattle.viewer.proofs.row.integer_of.Tie as tie
 
@@ -26,13 +26,13 @@ cast-result-2 : tie.Need-overflow-cast-result-2
 cast-result-2 c = search rules
 
 sub-result : tie.Need-overflow-sub-result
-sub-result c = minus-fits c.before.before.join.result (integer-small c.before.before.join.result (sym c.before.is-integer.ensures ∙ c.if3.true))
+sub-result c = minus_fits c.before.before.join.result (integer_small c.before.before.join.result (sym c.before.is-integer.ensures ∙ c.if3.true))
 
 returns-3 : tie.Need-returns-3
-returns-3 c = integer-is c.before.before.join.result (integer-small c.before.before.join.result (sym c.before.is-integer.ensures ∙ c.if3.true)) ∙ ap unbiased c.before.before.join.ensures ∙ an-integer-in c.before.before.before.before.before.before.before.args.r (ap isInteger (sym c.before.before.join.ensures) ∙ sym c.before.is-integer.ensures ∙ c.if3.true)
+returns-3 c = integer_is c.before.before.join.result (integer_small c.before.before.join.result (sym c.before.is-integer.ensures ∙ c.if3.true)) ∙ ap unbiased c.before.before.join.ensures ∙ an_integer_in c.before.before.before.before.before.before.before.args.r (ap is_integer (sym c.before.before.join.ensures) ∙ sym c.before.is-integer.ensures ∙ c.if3.true)
 
 returns-4 : tie.Need-returns-4
-returns-4 c = no-integer-in c.before.before.before.before.before.before.before.args.r (ap isInteger (sym c.before.before.join.ensures) ∙ sym c.before.is-integer.ensures ∙ c.if3.false)
+returns-4 c = no_integer_in c.before.before.before.before.before.before.before.args.r (ap is_integer (sym c.before.before.join.ensures) ∙ sym c.before.is-integer.ensures ∙ c.if3.false)
 
 pub integer-of-spec : {M : Type 1} → statement M
 integer-of-spec =

@@ -4,7 +4,7 @@ use Prim.Native.Nat.{◌+◌, ◌-◌}
 use native.Mathlib.Omega.{arith}
 use borrow.Author.Tests.{lt-ltb, le-ltb, le-leb, lt-leb, eq-eqb, ne_eqb}
 use lib.Dec.{leb}
-use Rattle.model.specs.Laws.Tests.{same-eq}
+use Rattle.model.specs.Laws.Tests.{same_eq}
 use Rattle.viewer.proofs.row.is_span.Statement.{statement}
 use Rattle.viewer.proofs.row.is_span.Tie as tie
 
@@ -24,7 +24,7 @@ returns-3 : tie.Need-returns-3
 returns-3 c =
     let a = c.before.before.before.args in
     rw (lt-ltb _ _ c.before.before.if1.false, le-leb _ _ c.before.if2.false, eq-eqb _ _ c.if3.true)
-    (same-eq (a.end - a.place - 1) 0 a.end (a.place + 1) (λ e. omega arith) (λ e. omega arith))
+    (same_eq (a.end - a.place - 1) 0 a.end (a.place + 1) (λ e. omega arith) (λ e. omega arith))
 
 returns-4 : tie.Need-returns-4
 returns-4 c =

@@ -37,10 +37,10 @@ use denote.Triple.Table.{entered, cited}
 use denote.Triple.Walked.{says, Stays, stay_none, walk_of, Goes-none, Walks, ends_at, walked, walk_Meets}
 use denote.Exit.{yes}
 use denote.Triple.Clauses.{ensured, lasts}
-use Rattle.viewer.specs.View.{partSeen}
+use Rattle.viewer.specs.View.{part_seen}
 use Rattle.viewer.specs.declared.view.Viewer.{Viewer}
 use Rattle.viewer.specs.declared.part.PartAnswer.{PartAnswer}
-use Rattle.viewer.proofs.Viewing.{B, machine, OfTable, OfViewer, table-out}
+use Rattle.viewer.proofs.Viewing.{B, machine, OfTable, OfViewer, table_out}
 use Rattle.viewer.specs.contracts.view.Viewer as T
 use Rattle.viewer.proofs.view.Viewer.TheLaws as T'
 use Rattle.viewer.specs.contracts.part.PartAnswer as S
@@ -72,7 +72,7 @@ module _ {M : Type 1} {𝓤 : Ura M} (𝓛 : Logic 𝓤) (mem : Memory → SProp
   at = (mach ∷ [], (vint w64 n ∷ [], tt))
 
   abbrev found : PartAnswer
-  found = partSeen d.table.now d.place n
+  found = part_seen d.table.now d.place n
 
   abbrev Post : Val → SProp 𝓤
   Post = (walk_of 𝓛 part.ended stayed (part.clauses 𝓛 mem run)).post (((κ, tt), (q, tt), tt, (d, (n, tt)), at), tt)
@@ -91,7 +91,7 @@ module _ {M : Type 1} {𝓤 : Ura M} (𝓛 : Logic 𝓤) (mem : Memory → SProp
   apart : d.place < 2 ^ 64 → ent 𝓤 (on_entry 𝓛 part.signature (κ, tt) (q, tt) (d, (n, tt)) at) (sep 𝓤 ((FindPart 𝓛 mem run).pre to) (sem 𝓛 (OfViewer κ d)))
   apart fits =
       qed 𝓛 ((‵ (flft κ q) ⊛ ‵ ftrue) ∷ ‵ (owns (B (κ, tt) ∷ usize ∷ []) (d, (n, tt)) at) ∷ []) ∵
-      move ! (1 ∷ []) $ fsplit ! $ move ! (1 ∷ []) $ drop ! $ use1 𝓛 (‵ (OfTable κ d.table) ⊛ ‵ (OfViewer κ d)) (table-out 𝓛 κ d) $ split ! $
+      move ! (1 ∷ []) $ fsplit ! $ move ! (1 ∷ []) $ drop ! $ use1 𝓛 (‵ (OfTable κ d.table) ⊛ ‵ (OfViewer κ d)) (table_out 𝓛 κ d) $ split ! $
       -- [what table owns; what the struct owns; the token]
       nothing ! $ owned ! usize (Is usize) (uint_Makes 𝓛 w64) n _ (refl, ok) $ fjoin ! $ owned ! usize (Is usize) (uint_Makes 𝓛 w64) d.place _ (refl, fits) $ fjoin ! $ move ! (1 ∷ 0 ∷ []) $ fjoin ! $
       move ! (2 ∷ 0 ∷ []) $ use2 𝓛 (raw ((FindPart 𝓛 mem run).pre to)) asked $ frame ! $ done !

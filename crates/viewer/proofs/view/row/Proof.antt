@@ -37,10 +37,10 @@ use denote.Triple.Table.{entered, cited}
 use denote.Triple.Walked.{says, Stays, stay_none, walk_of, Goes-none, Walks, ends_at, walked, walk_Meets}
 use denote.Exit.{yes}
 use denote.Triple.Clauses.{ensured, lasts}
-use Rattle.viewer.specs.View.{rowSeen}
+use Rattle.viewer.specs.View.{row_seen}
 use Rattle.viewer.specs.declared.view.Viewer.{Viewer}
 use Rattle.viewer.specs.declared.row.RowAnswer.{RowAnswer}
-use Rattle.viewer.proofs.Viewing.{B, machine, OfTable, OfViewer, table-out}
+use Rattle.viewer.proofs.Viewing.{B, machine, OfTable, OfViewer, table_out}
 use Rattle.viewer.specs.contracts.view.Viewer as T
 use Rattle.viewer.proofs.view.Viewer.TheLaws as T'
 use Rattle.viewer.specs.contracts.row.RowAnswer as S
@@ -69,7 +69,7 @@ module _ {M : Type 1} {𝓤 : Ura M} (𝓛 : Logic 𝓤) (mem : Memory → SProp
   mach = T'.lowered d
 
   abbrev found : RowAnswer
-  found = rowSeen d.table.now d.place
+  found = row_seen d.table.now d.place
 
   abbrev Post : Val → SProp 𝓤
   Post = (walk_of 𝓛 row.ended stayed (row.clauses 𝓛 mem run)).post (((κ, tt), (q, tt), tt, (d, tt), (mach ∷ [], tt)), tt)
@@ -88,7 +88,7 @@ module _ {M : Type 1} {𝓤 : Ura M} (𝓛 : Logic 𝓤) (mem : Memory → SProp
   apart : d.place < 2 ^ 64 → ent 𝓤 (on_entry 𝓛 row.signature (κ, tt) (q, tt) (d, tt) (mach ∷ [], tt)) (sep 𝓤 ((FindRow 𝓛 mem run).pre to) (sem 𝓛 (OfViewer κ d)))
   apart fits =
       qed 𝓛 ((‵ (flft κ q) ⊛ ‵ ftrue) ∷ ‵ (owns (B (κ, tt) ∷ []) (d, tt) (mach ∷ [], tt)) ∷ []) ∵
-      move ! (1 ∷ []) $ fsplit ! $ move ! (1 ∷ []) $ drop ! $ use1 𝓛 (‵ (OfTable κ d.table) ⊛ ‵ (OfViewer κ d)) (table-out 𝓛 κ d) $ split ! $
+      move ! (1 ∷ []) $ fsplit ! $ move ! (1 ∷ []) $ drop ! $ use1 𝓛 (‵ (OfTable κ d.table) ⊛ ‵ (OfViewer κ d)) (table_out 𝓛 κ d) $ split ! $
       -- [what table owns; what the struct owns; the token]
       nothing ! $ owned ! usize (Is usize) (uint_Makes 𝓛 w64) d.place _ (refl, fits) $ fjoin ! $ move ! (1 ∷ 0 ∷ []) $ fjoin ! $
       move ! (2 ∷ 0 ∷ []) $ use2 𝓛 (raw ((FindRow 𝓛 mem run).pre to)) asked $ frame ! $ done !

@@ -36,10 +36,10 @@ use denote.Triple.Table.{entered, cited}
 use denote.Triple.Walked.{says, Stays, stay_none, stay_none_slice, walk_of, Goes-none, Goes-none_slice, Walks, ends_at, walked, walk_Meets}
 use denote.Exit.{yes}
 use denote.Triple.Clauses.{ensured, lasts}
-use Rattle.viewer.specs.View.{rowSeen}
+use Rattle.viewer.specs.View.{row_seen}
 use Rattle.viewer.specs.declared.view.Viewer.{Viewer}
 use Rattle.viewer.specs.declared.row.RowAnswer.{RowAnswer}
-use Rattle.viewer.proofs.Viewing.{B, machine, OfTable, New, to-new, goes-new, new-said}
+use Rattle.viewer.proofs.Viewing.{B, machine, OfTable, New, to_new, goes_new, new_said}
 use Rattle.viewer.specs.contracts.view.Viewer as T
 use Rattle.viewer.proofs.view.Viewer.TheLaws as T'
 use Rattle.viewer.specs.contracts.row.RowAnswer as S
@@ -72,7 +72,7 @@ module _ {M : Type 1} {𝓤 : Ura M} (𝓛 : Logic 𝓤) (mem : Memory → SProp
   at = (machine s ∷ [], (vint w64 n ∷ [], tt))
 
   abbrev found : RowAnswer
-  found = rowSeen s.now n
+  found = row_seen s.now n
 
   -- the struct's type as a local of a body has it
   abbrev αᵉ : NamedLft
@@ -88,12 +88,12 @@ module _ {M : Type 1} {𝓤 : Ura M} (𝓛 : Logic 𝓤) (mem : Memory → SProp
   goes-row : (r : Viewer) (u : Val) → ent 𝓤 (⋆ 𝓛 (‵ ((B (κ, tt)).own_val r (u ∷ [])) ∷ (‵ (flft κ q) ⊛ ‵ ftrue) ∷ [])) ((Row 𝓛 mem run).pre (to_row r u))
   goes-row r u = qed 𝓛 (‵ ((B (κ, tt)).own_val r (u ∷ [])) ∷ (‵ (flft κ q) ⊛ ‵ ftrue) ∷ []) ∵ nothing ! $ move ! (1 ∷ 0 ∷ []) $ fjoin ! $ move ! (1 ∷ 0 ∷ []) $ join ! $ frame ! $ done !
 
-  row-said : (r : Viewer) (t : RowAnswer) → ent 𝓤 (ensured 𝓛 row.ended (row.clauses 𝓛 mem run) (κ, tt) (r, tt) tt t) (fact 𝓤 (t ≡ rowSeen r.table.now r.place))
-  row-said r t = ex_e 𝓤 _ (λ ws. snd∗ 𝓤 (sem 𝓛 (lasts row.ended (κ, tt) (r, tt) ws)) (fact 𝓤 (t ≡ rowSeen r.table.now r.place)))
+  row-said : (r : Viewer) (t : RowAnswer) → ent 𝓤 (ensured 𝓛 row.ended (row.clauses 𝓛 mem run) (κ, tt) (r, tt) tt t) (fact 𝓤 (t ≡ row_seen r.table.now r.place))
+  row-said r t = ex_e 𝓤 _ (λ ws. snd∗ 𝓤 (sem 𝓛 (lasts row.ended (κ, tt) (r, tt) ws)) (fact 𝓤 (t ≡ row_seen r.table.now r.place)))
 
   -- what `row` says of the struct that `new` made
-  same : (r : Viewer) (t : RowAnswer) → (r.table ≡ s) × (r.place ≡ n) → t ≡ rowSeen r.table.now r.place → t ≡ found
-  same r t e e' = e' ∙ (ap (λ (x : Bor (List ℕ)). rowSeen x.now r.place) e.0 ∙ ap (λ (p : ℕ). rowSeen s.now p) e.1)
+  same : (r : Viewer) (t : RowAnswer) → (r.table ≡ s) × (r.place ≡ n) → t ≡ row_seen r.table.now r.place → t ≡ found
+  same r t e e' = e' ∙ (ap (λ (x : Bor (List ℕ)). row_seen x.now r.place) e.0 ∙ ap (λ (p : ℕ). row_seen s.now p) e.1)
 
   exits : (t : RowAnswer) (u : Val) → t ≡ found → ent 𝓤 (⋆ 𝓛 (‵ ((S.the_row).own_val t (u ∷ [])) ∷ (‵ (flft κ q) ⊛ ‵ ftrue) ∷ ‵ (OfTable κ s) ∷ [])) (Post u)
   exits t u e =
@@ -107,17 +107,17 @@ module _ {M : Type 1} {𝓤 : Ura M} (𝓛 : Logic 𝓤) (mem : Memory → SProp
         qed 𝓛 ((‵ (flft κ q) ⊛ ‵ ftrue) ∷ ‵ (owns (ShrSlice (named 0) κ u8 ∷ usize ∷ []) (s, (n, tt)) at) ∷ []) ∵ enter ! C Λ code.function (machine s ∷ vint w64 n ∷ []) _ $
         alloc1 ! (λ l₀. alloc1 ! (λ l₁. alloc1 ! (λ l₂. alloc1 ! (λ l₃. alloc0 ! $ params1 ! $ pass1 ! (init ! 4 refl ((shr_slice_Lawful 𝓛 (named 0) κ u8).typed s (machine s ∷ []) p).0) $ pass1 ! (init ! 2 refl (tt, record { fits = ok })) $ pass0 ! $
         -- [room for _3; …; _2; …; _1; …; room for _0; …; the token; what the parameters own]
-        move ! (9 ∷ []) $ fsplit ! $ move ! (1 ∷ []) $ drop ! $ move ! (9 ∷ 0 ∷ []) $ use2 𝓛 (raw ((New 𝓛 mem run).pre (to-new 𝓛 mem run κ q s n)) ⊛ ‵ (OfTable κ s)) (goes-new 𝓛 mem run κ q s n ok) $ split ! $
-        calls_at ! fm (New 𝓛 mem run) known-new (to-new 𝓛 mem run κ q s n) (and_then ! (load ! (from ! (stop !)) (look ! 6 refl)) (and_then ! (load ! (from ! (stop !)) (look ! 4 refl)) (no_more !))) (λ u.
+        move ! (9 ∷ []) $ fsplit ! $ move ! (1 ∷ []) $ drop ! $ move ! (9 ∷ 0 ∷ []) $ use2 𝓛 (raw ((New 𝓛 mem run).pre (to_new 𝓛 mem run κ q s n)) ⊛ ‵ (OfTable κ s)) (goes_new 𝓛 mem run κ q s n ok) $ split ! $
+        calls_at ! fm (New 𝓛 mem run) known-new (to_new 𝓛 mem run κ q s n) (and_then ! (load ! (from ! (stop !)) (look ! 6 refl)) (and_then ! (load ! (from ! (stop !)) (look ! 4 refl)) (no_more !))) (λ u.
         use1 𝓛 (later (some (λ (r : Viewer). ((‵ (flft κ q) ⊛ ‵ ftrue) ⊛ ‵ ((B (κ, tt)).own_val r (u ∷ []))) ⊛ raw (ensured 𝓛 new.ended (new.clauses 𝓛 mem run) (κ, tt) (s, (n, tt)) tt r)))) (id⊢ 𝓤 _) $ await ! tt $ pick ! (λ r.
-        split ! $ move ! (1 ∷ []) $ use1 𝓛 (raw (fact 𝓤 ((r.table ≡ s) × (r.place ≡ n)))) (new-said 𝓛 mem run κ q s n r) $ heard ! ((r.table ≡ s) × (r.place ≡ n)) (λ e. split ! $ move ! (1 ∷ []) $
+        split ! $ move ! (1 ∷ []) $ use1 𝓛 (raw (fact 𝓤 ((r.table ≡ s) × (r.place ≡ n)))) (new_said 𝓛 mem run κ q s n r) $ heard ! ((r.table ≡ s) × (r.place ≡ n)) (λ e. split ! $ move ! (1 ∷ []) $
         -- [what the struct owns; the token; what s owns; room for _3; …; _2; …; _1; …; room for _0; …]
         peeks ! (B (κ, tt)) (Is (B (κ, tt))) (shows 𝓛 (B (κ, tt))) r (u ∷ []) (λ is.
         land ! (from ! (stop !)) (init ! 3 refl ((LL.lawful (T.the_type αᵉ) (T'.the_laws αᵉ) 𝓛).typed r _ is).0) $
         use2 𝓛 (raw ((Row 𝓛 mem run).pre (to_row r u))) (goes-row r u) $
         calls_at ! fm (Row 𝓛 mem run) known-row (to_row r u) (and_then ! (load ! (from ! (stop !)) (look ! 2 refl)) (no_more !)) (λ u'.
         use1 𝓛 (later (some (λ (t : RowAnswer). ((‵ (flft κ q) ⊛ ‵ ftrue) ⊛ ‵ ((S.the_row).own_val t (u' ∷ []))) ⊛ raw (ensured 𝓛 row.ended (row.clauses 𝓛 mem run) (κ, tt) (r, tt) tt t)))) (id⊢ 𝓤 _) $ await ! tt $ pick ! (λ t.
-        split ! $ move ! (1 ∷ []) $ use1 𝓛 (raw (fact 𝓤 (t ≡ rowSeen r.table.now r.place))) (row-said r t) $ heard ! (t ≡ rowSeen r.table.now r.place) (λ e'. split ! $ move ! (1 ∷ []) $
+        split ! $ move ! (1 ∷ []) $ use1 𝓛 (raw (fact 𝓤 (t ≡ row_seen r.table.now r.place))) (row-said r t) $ heard ! (t ≡ row_seen r.table.now r.place) (λ e'. split ! $ move ! (1 ∷ []) $
         -- [the result; the token; what s owns; _3; …; _2; …; _1; …; room for _0; …]
         peeks ! S.the_row (Is S.the_row) (shows 𝓛 S.the_row) t (u' ∷ []) (λ is'.
         land ! (from ! (stop !)) (init ! 9 refl ((EL.lawful S.the_type S'.the_laws 𝓛 tt).typed t _ is').0) $

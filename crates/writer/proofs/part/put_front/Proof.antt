@@ -1,7 +1,7 @@
 use borrow.Author.Rules.{rules}
-use Rattle.model.specs.Laws.Widths.{text-below}
+use Rattle.model.specs.Laws.Widths.{text_below}
 use Rattle.print.specs.Laws.{put_byte}
-use Rattle.writer.proofs.Tokens.{then-puts}
+use Rattle.writer.proofs.Tokens.{then_puts}
 use Rattle.writer.proofs.part.put_front.Statement.{statement}
 use Rattle.writer.proofs.part.put_front.Tie as tie
 
@@ -12,7 +12,7 @@ put-byte-requires : tie.Need-put-byte-requires
 put-byte-requires c κs = search rules
 
 add-put-label : tie.Need-overflow-add-put-label
-add-put-label c = let below = text-below in search rules
+add-put-label c = let below = text_below in search rules
 
 put-label-requires : tie.Need-put-label-requires
 put-label-requires c κs = search rules
@@ -21,7 +21,7 @@ same_length : tie.Need-same-length
 same_length c = search rules
 
 returns : tie.Need-returns
-returns c = rw (c.before.before.before.before.before.before.before.before.if1.true, ← c.before.before.before.before.before.before.before.before.before.name_of.ensures) (then-puts (put_byte c.before.before.before.before.before.before.put_byte.ensures) c.before.before.put-label.ensures)
+returns c = rw (c.before.before.before.before.before.before.before.before.if1.true, ← c.before.before.before.before.before.before.before.before.before.name_of.ensures) (then_puts (put_byte c.before.before.before.before.before.before.put_byte.ensures) c.before.before.put-label.ensures)
 
 put-label-requires-2 : tie.Need-put-label-requires-2
 put-label-requires-2 c κs = search rules

@@ -1,11 +1,11 @@
 use borrow.Author.Rules.{rules}
 use mathlib.Core.Path.{ap}
 use native.Mathlib.Omega.{arith}
-use Rattle.model.specs.Laws.Widths.{text-below}
-use Rattle.model.specs.Writing.{stringText}
-use Rattle.print.specs.Laws.{put-none, put_byte, put-bytes, string-near}
-use Rattle.writer.proofs.Pieces.{put-puts}
-use Rattle.writer.proofs.Tokens.{puts-as, puts_then, string-puts}
+use Rattle.model.specs.Laws.Widths.{text_below}
+use Rattle.model.specs.Writing.{string_text}
+use Rattle.print.specs.Laws.{put_none, put_byte, put_bytes_lem, string_near}
+use Rattle.writer.proofs.Pieces.{put_puts}
+use Rattle.writer.proofs.Tokens.{puts_as, puts_then, string_puts}
 use Rattle.writer.proofs.part.put_label.Statement.{statement}
 use Rattle.writer.proofs.part.put_label.Tie as tie
 
@@ -25,7 +25,7 @@ put-byte-requires : tie.Need-put-byte-requires
 put-byte-requires c κs = search rules
 
 add-result : tie.Need-overflow-add-result
-add-result c = omega (arith, text-below, string-near c.before.before.before.before.before.before.put-string.ensures)
+add-result c = omega (arith, text_below, string_near c.before.before.before.before.before.before.put-string.ensures)
 
 enum-told-2 : tie.Need-enum-told-2
 enum-told-2 c = search rules
@@ -37,7 +37,7 @@ put-bytes-requires : tie.Need-put-bytes-requires
 put-bytes-requires c κs = search rules
 
 add-result-2 : tie.Need-overflow-add-result-2
-add-result-2 c = let below = text-below in search rules
+add-result-2 c = let below = text_below in search rules
 
 enum-told-3 : tie.Need-enum-told-3
 enum-told-3 c = search rules
@@ -49,28 +49,28 @@ put-bytes-requires-2 : tie.Need-put-bytes-requires-2
 put-bytes-requires-2 c κs = search rules
 
 add-result-3 : tie.Need-overflow-add-result-3
-add-result-3 c = let below = text-below in search rules
+add-result-3 c = let below = text_below in search rules
 
 returns : tie.Need-returns
-returns c = rw c.enum_told.given.1 (put-puts (put-none c.before.before.before.before.args.at _))
+returns c = rw c.enum_told.given.1 (put_puts (put_none c.before.before.before.before.args.at _))
 
 same_length : tie.Need-same-length
 same_length c = search rules
 
 returns-2 : tie.Need-returns-2
-returns-2 c = rw c.before.before.before.before.before.before.before.before.before.before.name.given.1 (puts_then (puts-as (string-puts c.before.before.before.before.before.before.put-string.ensures) (ap stringText c.before.before.before.before.before.before.before.bytes_of.ensures)) (put_byte c.before.before.put_byte.ensures))
+returns-2 c = rw c.before.before.before.before.before.before.before.before.before.before.name.given.1 (puts_then (puts_as (string_puts c.before.before.before.before.before.before.put-string.ensures) (ap string_text c.before.before.before.before.before.before.before.bytes_of.ensures)) (put_byte c.before.before.put_byte.ensures))
 
 same-length-2 : tie.Need-same-length-2
 same-length-2 c = search rules
 
 returns-3 : tie.Need-returns-3
-returns-3 c = rw c.before.before.before.before.before.enum-told2.given.1 (put-puts (put-bytes c.before.before.put-bytes.ensures))
+returns-3 c = rw c.before.before.before.before.before.enum-told2.given.1 (put_puts (put_bytes_lem c.before.before.put_bytes_lem.ensures))
 
 same-length-3 : tie.Need-same-length-3
 same-length-3 c = search rules
 
 returns-4 : tie.Need-returns-4
-returns-4 c = rw c.before.before.before.before.before.enum-told3.given.1 (put-puts (put-bytes c.before.before.put-bytes2.ensures))
+returns-4 c = rw c.before.before.before.before.before.enum-told3.given.1 (put_puts (put_bytes_lem c.before.before.put-bytes2.ensures))
 
 pub put-label-spec : {M : Type 1} → statement M
 put-label-spec =

@@ -1,9 +1,9 @@
 use borrow.Author.Rules.{rules}
 use mathlib.Core.Path.{sym, ap, ◌∙◌}
-use Rattle.model.specs.Laws.Widths.{text-below}
-use Rattle.calendar.specs.Contract.{instantResult}
-use Rattle.print.specs.Laws.{put-bytes, put_as}
-use Rattle.writer.proofs.Tokens.{instant-in, instant-out}
+use Rattle.model.specs.Laws.Widths.{text_below}
+use Rattle.calendar.specs.Contract.{instant_result}
+use Rattle.print.specs.Laws.{put_bytes_lem, put_as}
+use Rattle.writer.proofs.Tokens.{instant_in, instant_out}
 use Rattle.writer.proofs.scalar.put_since.Statement.{statement}
 use Rattle.writer.proofs.scalar.put_since.Tie as tie
 
@@ -23,13 +23,13 @@ put-bytes-requires : tie.Need-put-bytes-requires
 put-bytes-requires c κs = search rules
 
 add-result : tie.Need-overflow-add-result
-add-result c = let below = text-below in search rules
+add-result c = let below = text_below in search rules
 
 same_length : tie.Need-same-length
 same_length c = search rules
 
 returns : tie.Need-returns
-returns c = put_as (put-bytes c.before.before.put-bytes.ensures) (instant-out c.before.before.before.before.before.before.before.before.before.args.since (sym (ap instantResult c.before.before.before.before.before.enum_told.given.1) ∙ c.before.before.before.before.before.before.before.from-year-0.ensures))
+returns c = put_as (put_bytes_lem c.before.before.put_bytes_lem.ensures) (instant_out c.before.before.before.before.before.before.before.before.before.args.since (sym (ap instant_result c.before.before.before.before.before.enum_told.given.1) ∙ c.before.before.before.before.before.before.before.from-year-0.ensures))
 
 put-instant-requires : tie.Need-put-instant-requires
 put-instant-requires c κs = search rules
@@ -38,7 +38,7 @@ same-length-2 : tie.Need-same-length-2
 same-length-2 c = search rules
 
 returns-2 : tie.Need-returns-2
-returns-2 c = put_as c.before.before.put-instant.ensures (instant-in c.before.before.before.before.before.before.before.before.before.args.since (sym (ap instantResult c.before.before.before.before.before.t.given.1) ∙ c.before.before.before.before.before.before.before.from-year-0.ensures))
+returns-2 c = put_as c.before.before.put-instant.ensures (instant_in c.before.before.before.before.before.before.before.before.before.args.since (sym (ap instant_result c.before.before.before.before.before.t.given.1) ∙ c.before.before.before.before.before.before.before.from-year-0.ensures))
 
 pub put-since-spec : {M : Type 1} → statement M
 put-since-spec =

@@ -2,11 +2,11 @@ use mathlib.Core.Path.{ap}
 use Prim.Native.Nat.{ℕ, ◌+◌, ◌*◌, ◌<◌}
 use native.Mathlib.Omega.{arith}
 use borrow.Author.Rules.{rules}
-use Rattle.model.specs.Laws.Widths.{text-below}
-use Rattle.model.specs.Limits.{maxTextBytes}
+use Rattle.model.specs.Laws.Widths.{text_below}
+use Rattle.model.specs.Limits.{max_text_bytes}
 use Rattle.heap.specs.Unfold.{areas, unfolded}
-use Rattle.writer.proofs.Values.{scalarlike, none_left, too_long, too-deep, scalar-value, compound-over, compound-closes, writes_short, opening-small}
-use Rattle.writer.proofs.Loop.{PartsInv, parts-done, parts-stop, parts_next}
+use Rattle.writer.proofs.Values.{scalarlike, none_left, too_long, too_deep, scalar_value, compound_over, compound_closes, writes_short, opening_small}
+use Rattle.writer.proofs.Loop.{PartsInv, parts_done, parts_stop, parts_next}
 use borrow.Fn.Kinds.{In}
 use borrow.Fn.PlainCycle.{Measures, is, falls, and}
 use Rattle.writer.proofs.value.write_compound.Reads as write-compound
@@ -80,7 +80,7 @@ abbrev write-value-calls : ℕ → write-value-lts.Claims
 write-value-calls t = (put-scalar-reads.Asked, put-scalar-reads.Learnt, up-to-reads.Asked, up-to-reads.Learnt, write-compound-below t, write-compound.Post)
 
 write-compound-returns : (t : ℕ) → write-compound-lts.Need-returns (write-compound-calls t) (write-compound-at t) write-compound.Post
-write-compound-returns t c = record { writes = too-deep (areas c.before.before.before.before.before.before.args.rule-strings.now c.before.before.before.before.before.before.args.record-strings.now c.before.before.before.before.before.before.args.record-table.now c.before.before.before.before.before.before.args.cells.now) c.before.before.before.before.before.before.args.p c.if1.true }
+write-compound-returns t c = record { writes = too_deep (areas c.before.before.before.before.before.before.args.rule-strings.now c.before.before.before.before.before.before.args.record-strings.now c.before.before.before.before.before.before.args.record-table.now c.before.before.before.before.before.before.args.cells.now) c.before.before.before.before.before.before.args.p c.if1.true }
 
 write-compound-opening-requires : (t : ℕ) → write-compound-lts.Need-opening-requires (write-compound-calls t) (write-compound-at t) write-compound.Post
 write-compound-opening-requires t c κs = search rules
@@ -92,7 +92,7 @@ write-compound-sub-inner : (t : ℕ) → write-compound-lts.Need-overflow-sub-in
 write-compound-sub-inner t c = search rules
 
 write-compound-add-start : (t : ℕ) → write-compound-lts.Need-overflow-add-start (write-compound-calls t) (write-compound-at t) write-compound.Post
-write-compound-add-start t c = let below = text-below in search rules
+write-compound-add-start t c = let below = text_below in search rules
 
 write-compound-sub-others : (t : ℕ) → write-compound-lts.Need-overflow-sub-others (write-compound-calls t) (write-compound-at t) write-compound.Post
 write-compound-sub-others t c = search rules
@@ -110,16 +110,16 @@ write-compound-same-length : (t : ℕ) → write-compound-lts.Need-same-length (
 write-compound-same-length t c = search rules
 
 write-compound-returns-2 : (t : ℕ) → write-compound-lts.Need-returns-2 (write-compound-calls t) (write-compound-at t) write-compound.Post
-write-compound-returns-2 t c = compound-over (areas c.before.before.before.before.before.before.before.before.before.before.before.before.before.before.before.before.before.args.rule-strings.now c.before.before.before.before.before.before.before.before.before.before.before.before.before.before.before.before.before.args.record-strings.now c.before.before.before.before.before.before.before.before.before.before.before.before.before.before.before.before.before.args.record-table.now c.before.before.before.before.before.before.before.before.before.before.before.before.before.before.before.before.before.args.cells.now) c.before.before.before.before.before.before.before.before.before.before.before.before.before.before.before.before.before.args.p c.before.before.before.before.before.before.before.before.before.before.before.before.before.before.before.before.before.args.deep c.before.before.before.before.before.before.before.before.before.before.before.before.before.before.before.before.before.args.left c.before.before.before.before.before.before.before.before.before.before.before.before.before.before.before.before.before.args.at (omega (arith, c.before.before.before.before.before.before.before.before.before.before.before.if1.false)) c.before.before.before.before.before.before.before.before.before.before.before.before.before.before.before.before.before.requires.1.1 c.before.before.before.before.before.before.before.before.before.before.before.before.before.before.before.before.before.args.output.now c.before.before.before.before.before.before.before.before.put_byte.new.0 c.before.before.before.before.before.before.before.before.before.before.opening.result c.before.before.before.before.before.before.before.before.before.before.opening.ensures c.before.before.before.before.before.before.before.before.put_byte.ensures c.before.before.before.before.write-parts.result c.before.before.before.before.write-parts.ensures c.enum_told.given.1
+write-compound-returns-2 t c = compound_over (areas c.before.before.before.before.before.before.before.before.before.before.before.before.before.before.before.before.before.args.rule-strings.now c.before.before.before.before.before.before.before.before.before.before.before.before.before.before.before.before.before.args.record-strings.now c.before.before.before.before.before.before.before.before.before.before.before.before.before.before.before.before.before.args.record-table.now c.before.before.before.before.before.before.before.before.before.before.before.before.before.before.before.before.before.args.cells.now) c.before.before.before.before.before.before.before.before.before.before.before.before.before.before.before.before.before.args.p c.before.before.before.before.before.before.before.before.before.before.before.before.before.before.before.before.before.args.deep c.before.before.before.before.before.before.before.before.before.before.before.before.before.before.before.before.before.args.left c.before.before.before.before.before.before.before.before.before.before.before.before.before.before.before.before.before.args.at (omega (arith, c.before.before.before.before.before.before.before.before.before.before.before.if1.false)) c.before.before.before.before.before.before.before.before.before.before.before.before.before.before.before.before.before.requires.1.1 c.before.before.before.before.before.before.before.before.before.before.before.before.before.before.before.before.before.args.output.now c.before.before.before.before.before.before.before.before.put_byte.new.0 c.before.before.before.before.before.before.before.before.before.before.opening.result c.before.before.before.before.before.before.before.before.before.before.opening.ensures c.before.before.before.before.before.before.before.before.put_byte.ensures c.before.before.before.before.write-parts.result c.before.before.before.before.write-parts.ensures c.enum_told.given.1
 
 write-compound-add-put-byte : (t : ℕ) → write-compound-lts.Need-overflow-add-put-byte (write-compound-calls t) (write-compound-at t) write-compound.Post
-write-compound-add-put-byte t c = record { fits = omega (arith, c.before.before.before.before.before.before.before.before.before.before.before.before.opening.ensures, opening-small c.before.before.before.before.before.before.before.before.before.before.before.before.before.before.before.before.before.before.before.args.p.form) }
+write-compound-add-put-byte t c = record { fits = omega (arith, c.before.before.before.before.before.before.before.before.before.before.before.before.opening.ensures, opening_small c.before.before.before.before.before.before.before.before.before.before.before.before.before.before.before.before.before.before.before.args.p.form) }
 
 write-compound-put-byte-requires-2 : (t : ℕ) → write-compound-lts.Need-put-byte-requires-2 (write-compound-calls t) (write-compound-at t) write-compound.Post
 write-compound-put-byte-requires-2 t c κs = search rules
 
 write-compound-add-up-to : (t : ℕ) → write-compound-lts.Need-overflow-add-up-to (write-compound-calls t) (write-compound-at t) write-compound.Post
-write-compound-add-up-to t c = record { fits = omega (arith, text-below, writes_short _ c.before.before.before.before.before.before.before.before.before.write-parts.ensures.writes c.before.before.before.before.before.end.given.1) }
+write-compound-add-up-to t c = record { fits = omega (arith, text_below, writes_short _ c.before.before.before.before.before.before.before.before.before.write-parts.ensures.writes c.before.before.before.before.before.end.given.1) }
 
 write-compound-up-to-requires : (t : ℕ) → write-compound-lts.Need-up-to-requires (write-compound-calls t) (write-compound-at t) write-compound.Post
 write-compound-up-to-requires t c κs = search rules
@@ -128,7 +128,7 @@ write-compound-same-length-2 : (t : ℕ) → write-compound-lts.Need-same-length
 write-compound-same-length-2 t c = search rules
 
 write-compound-returns-3 : (t : ℕ) → write-compound-lts.Need-returns-3 (write-compound-calls t) (write-compound-at t) write-compound.Post
-write-compound-returns-3 t c = compound-closes (areas c.before.before.before.before.before.before.before.before.before.before.before.before.before.before.before.before.before.before.before.before.before.before.before.args.rule-strings.now c.before.before.before.before.before.before.before.before.before.before.before.before.before.before.before.before.before.before.before.before.before.before.before.args.record-strings.now c.before.before.before.before.before.before.before.before.before.before.before.before.before.before.before.before.before.before.before.before.before.before.before.args.record-table.now c.before.before.before.before.before.before.before.before.before.before.before.before.before.before.before.before.before.before.before.before.before.before.before.args.cells.now) c.before.before.before.before.before.before.before.before.before.before.before.before.before.before.before.before.before.before.before.before.before.before.before.args.p c.before.before.before.before.before.before.before.before.before.before.before.before.before.before.before.before.before.before.before.before.before.before.before.args.deep c.before.before.before.before.before.before.before.before.before.before.before.before.before.before.before.before.before.before.before.before.before.before.before.args.left c.before.before.before.before.before.before.before.before.before.before.before.before.before.before.before.before.before.before.before.before.before.before.before.args.at (omega (arith, c.before.before.before.before.before.before.before.before.before.before.before.before.before.before.before.before.before.if1.false)) c.before.before.before.before.before.before.before.before.before.before.before.before.before.before.before.before.before.before.before.before.before.before.before.requires.1.1 c.before.before.before.before.before.before.before.before.before.before.before.before.before.before.before.before.before.before.before.before.before.before.before.args.output.now c.before.before.before.before.before.before.before.before.before.before.before.before.before.before.put_byte.new.0 c.before.before.before.before.before.before.before.before.before.before.before.before.before.before.before.before.opening.result c.before.before.before.before.before.before.before.before.before.before.before.before.before.before.before.before.opening.ensures c.before.before.before.before.before.before.before.before.before.before.before.before.before.before.put_byte.ensures c.before.before.before.before.before.before.before.before.before.before.write-parts.result c.before.before.before.before.before.before.before.before.before.before.write-parts.ensures c.before.before.before.before.before.before.end.given.0.0 c.before.before.before.before.before.before.end.given.0.1.0 c.up_to.result c.before.before.before.before.before.before.end.given.1 c.before.before.before.put-byte2.ensures c.up_to.ensures
+write-compound-returns-3 t c = compound_closes (areas c.before.before.before.before.before.before.before.before.before.before.before.before.before.before.before.before.before.before.before.before.before.before.before.args.rule-strings.now c.before.before.before.before.before.before.before.before.before.before.before.before.before.before.before.before.before.before.before.before.before.before.before.args.record-strings.now c.before.before.before.before.before.before.before.before.before.before.before.before.before.before.before.before.before.before.before.before.before.before.before.args.record-table.now c.before.before.before.before.before.before.before.before.before.before.before.before.before.before.before.before.before.before.before.before.before.before.before.args.cells.now) c.before.before.before.before.before.before.before.before.before.before.before.before.before.before.before.before.before.before.before.before.before.before.before.args.p c.before.before.before.before.before.before.before.before.before.before.before.before.before.before.before.before.before.before.before.before.before.before.before.args.deep c.before.before.before.before.before.before.before.before.before.before.before.before.before.before.before.before.before.before.before.before.before.before.before.args.left c.before.before.before.before.before.before.before.before.before.before.before.before.before.before.before.before.before.before.before.before.before.before.before.args.at (omega (arith, c.before.before.before.before.before.before.before.before.before.before.before.before.before.before.before.before.before.if1.false)) c.before.before.before.before.before.before.before.before.before.before.before.before.before.before.before.before.before.before.before.before.before.before.before.requires.1.1 c.before.before.before.before.before.before.before.before.before.before.before.before.before.before.before.before.before.before.before.before.before.before.before.args.output.now c.before.before.before.before.before.before.before.before.before.before.before.before.before.before.put_byte.new.0 c.before.before.before.before.before.before.before.before.before.before.before.before.before.before.before.before.opening.result c.before.before.before.before.before.before.before.before.before.before.before.before.before.before.before.before.opening.ensures c.before.before.before.before.before.before.before.before.before.before.before.before.before.before.put_byte.ensures c.before.before.before.before.before.before.before.before.before.before.write-parts.result c.before.before.before.before.before.before.before.before.before.before.write-parts.ensures c.before.before.before.before.before.before.end.given.0.0 c.before.before.before.before.before.before.end.given.0.1.0 c.up_to.result c.before.before.before.before.before.before.end.given.1 c.before.before.before.put-byte2.ensures c.up_to.ensures
 
 abbrev write-parts-Inv-loop : write-parts-lts.invariant-loop
 write-parts-Inv-loop rule-strings record-strings record-table cells output₀ deep at left rest₀ comma₀ here₀ more₀ output rest comma here more =
@@ -160,7 +160,7 @@ write-parts-same-length : (t : ℕ) → write-parts-lts.Need-same-length (write-
 write-parts-same-length t c = search rules
 
 write-parts-returns : (t : ℕ) → write-parts-lts.Need-returns (write-parts-calls t) (write-parts-at t) write-parts.Post write-parts-Inv-loop write-parts-μ-loop
-write-parts-returns t c = parts-stop c.before.before.before.before.before.before.before.before.before.before.before.before.before.loop.invariant (omega (arith, c.before.before.before.before.before.before.before.before.before.before.before.if1.true)) c.before.before.before.before.before.before.before.before.before.put_front.ensures c.before.before.before.before.before.head.result c.before.before.before.before.before.head.ensures c.before.before.before.before.write-value.result c.before.before.before.before.write-value.ensures c.enum_told.given.1
+write-parts-returns t c = parts_stop c.before.before.before.before.before.before.before.before.before.before.before.before.before.loop.invariant (omega (arith, c.before.before.before.before.before.before.before.before.before.before.before.if1.true)) c.before.before.before.before.before.before.before.before.before.put_front.ensures c.before.before.before.before.before.head.result c.before.before.before.before.before.head.ensures c.before.before.before.before.write-value.result c.before.before.before.before.write-value.ensures c.enum_told.given.1
 
 write-parts-tail-requires : (t : ℕ) → write-parts-lts.Need-tail-requires (write-parts-calls t) (write-parts-at t) write-parts.Post write-parts-Inv-loop write-parts-μ-loop
 write-parts-tail-requires t c κs = search rules
@@ -178,20 +178,20 @@ write-parts-same-length-2 : (t : ℕ) → write-parts-lts.Need-same-length-2 (wr
 write-parts-same-length-2 t c = search rules
 
 write-parts-returns-2 : (t : ℕ) → write-parts-lts.Need-returns-2 (write-parts-calls t) (write-parts-at t) write-parts.Post write-parts-Inv-loop write-parts-μ-loop
-write-parts-returns-2 t c = parts-done c.before.before.before.loop.invariant c.up_to.result (omega (arith, c.before.if1.false)) c.up_to.ensures
+write-parts-returns-2 t c = parts_done c.before.before.before.loop.invariant c.up_to.result (omega (arith, c.before.if1.false)) c.up_to.ensures
 
 write-value-returns : (t : ℕ) → write-value-lts.Need-returns (write-value-calls t) (write-value-at t) write-value.Post
 write-value-returns t c = record { writes = none_left (unfolded (areas c.before.before.before.before.before.before.args.rule-strings.now c.before.before.before.before.before.before.args.record-strings.now c.before.before.before.before.before.before.args.record-table.now c.before.before.before.before.before.before.args.cells.now) c.before.before.before.before.before.before.args.deep c.before.before.before.before.before.before.args.h) c.if1.true }
 
 write-value-returns-2 : (t : ℕ) → write-value-lts.Need-returns-2 (write-value-calls t) (write-value-at t) write-value.Post
-unfolding maxTextBytes
+unfolding max_text_bytes
 write-value-returns-2 t c = record { writes = too_long (unfolded (areas c.before.before.before.before.before.before.before.args.rule-strings.now c.before.before.before.before.before.before.before.args.record-strings.now c.before.before.before.before.before.before.before.args.record-table.now c.before.before.before.before.before.before.before.args.cells.now) c.before.before.before.before.before.before.before.args.deep c.before.before.before.before.before.before.before.args.h) c.if2.true }
 
 write-value-enum-known-h : (t : ℕ) → write-value-lts.Need-enum-known-h (write-value-calls t) (write-value-at t) write-value.Post
 write-value-enum-known-h t c = search rules
 
 write-value-put-scalar-requires : (t : ℕ) → write-value-lts.Need-put-scalar-requires (write-value-calls t) (write-value-at t) write-value.Post
-unfolding maxTextBytes
+unfolding max_text_bytes
 write-value-put-scalar-requires t c κs = omega (arith, c.before.before.if2.false)
 
 write-value-sub-up-to : (t : ℕ) → write-value-lts.Need-overflow-sub-up-to (write-value-calls t) (write-value-at t) write-value.Post
@@ -204,10 +204,10 @@ write-value-same-length : (t : ℕ) → write-value-lts.Need-same-length (write-
 write-value-same-length t c = search rules
 
 write-value-returns-3 : (t : ℕ) → write-value-lts.Need-returns-3 (write-value-calls t) (write-value-at t) write-value.Post
-write-value-returns-3 t c = scalar-value (areas c.before.before.before.before.before.before.before.before.before.before.before.before.before.args.rule-strings.now c.before.before.before.before.before.before.before.before.before.before.before.before.before.args.record-strings.now c.before.before.before.before.before.before.before.before.before.before.before.before.before.args.record-table.now c.before.before.before.before.before.before.before.before.before.before.before.before.before.args.cells.now) c.before.before.before.before.before.before.before.before.before.before.before.before.before.args.deep c.up_to.result (scalarlike c.before.before.before.before.before.before.before.before.before.before.before.before.before.args.h c.before.before.before.before.before.match.keys2) (omega (arith, c.before.before.before.before.before.before.before.if1.false)) c.before.before.before.put-scalar.ensures c.up_to.ensures
+write-value-returns-3 t c = scalar_value (areas c.before.before.before.before.before.before.before.before.before.before.before.before.before.args.rule-strings.now c.before.before.before.before.before.before.before.before.before.before.before.before.before.args.record-strings.now c.before.before.before.before.before.before.before.before.before.before.before.before.before.args.record-table.now c.before.before.before.before.before.before.before.before.before.before.before.before.before.args.cells.now) c.before.before.before.before.before.before.before.before.before.before.before.before.before.args.deep c.up_to.result (scalarlike c.before.before.before.before.before.before.before.before.before.before.before.before.before.args.h c.before.before.before.before.before.match.keys2) (omega (arith, c.before.before.before.before.before.before.before.if1.false)) c.before.before.before.put-scalar.ensures c.up_to.ensures
 
 write-value-write-compound-requires : (t : ℕ) → write-value-lts.Need-write-compound-requires (write-value-calls t) (write-value-at t) write-value.Post
-unfolding maxTextBytes
+unfolding max_text_bytes
 write-value-write-compound-requires t c κs = (omega arith, (omega (arith, c.before.before.before.before.if2.false), omega (arith, c.before.before.before.before.before.if1.false)))
 
 write-value-same-length-2 : (t : ℕ) → write-value-lts.Need-same-length-2 (write-value-calls t) (write-value-at t) write-value.Post
