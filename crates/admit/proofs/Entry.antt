@@ -10,7 +10,7 @@ use lib.Seq.{take-append_seam}
 use Rattle.model.specs.Bytes.{Bytes}
 use Rattle.model.specs.Judgement.{Judged, done, refuses, judged_number, Answer}
 use Rattle.model.specs.Limits.{max_steps}
-use Rattle.model.specs.Main.{steps_within_limit}
+use Rattle.model.proofs.Main.{steps_within_limit}
 use Rattle.model.specs.Refusal.{Refusal, number}
 use Rattle.syntax.specs.Layout.{padded, table_bytes, strings_bytes}
 use Rattle.pipeline.specs.Stage.{Stage, passed, refused}

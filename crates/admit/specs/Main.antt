@@ -7,7 +7,7 @@ use Rattle.model.specs.Limits.{max_text_bytes, max_values, max_nesting, max_inte
 use Rattle.model.specs.Shape.{shape}
 use Rattle.model.specs.Size.{value_count, nesting}
 use Rattle.model.specs.Writing.{decimal, value_text}
-use Rattle.syntax.specs.Main.{over_long}
+use Rattle.syntax.proofs.Main.{over_long}
 use Rattle.syntax.specs.Read.{read, answer, text, white, then, ◌>>=◌, give, fail, if, peek, eat, value, on_start, name, quoted, chars, char, tails, on_lead, on_piece, grow, among, int, first_digit, after_zero, digits, end_number, is_part, signed, on_separator, ended}
 use Rattle.syntax.specs.Tokens.{within, is_white, is_digit, is_point, is_e, counted, nested, start_of, separator_of}
 use Rattle.syntax.specs.Utf8.{lead_of}

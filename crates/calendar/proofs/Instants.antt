@@ -12,9 +12,9 @@ use mir.Val.{SFits, Fits}
 use Rattle.model.specs.Calendar.{day_number, is_valid}
 use Rattle.model.specs.DateText.{midnight}
 use Rattle.model.specs.Instant.{earliest, latest, ms_before1970, ms_per_day, in_range, ranged, from_year0, since_year0}
-use Rattle.model.specs.Laws.Calendar.{day_in_year, valid_parts, year_mono, year_10000}
-use Rattle.model.specs.Laws.DateText.{from_in_range}
-use Rattle.model.specs.Laws.Logic.{and_l, true→t, T→true}
+use Rattle.model.proofs.Laws.Calendar.{day_in_year, valid_parts, year_mono, year_10000}
+use Rattle.model.proofs.Laws.DateText.{from_in_range}
+use Rattle.model.proofs.Laws.Logic.{and_l, true→t, T→true}
 use Rattle.model.specs.Refusal.{bad_date, out_of_range}
 use Rattle.model.specs.Result.{ok, refuse}
 use Rattle.model.specs.declared.Date.{Date}

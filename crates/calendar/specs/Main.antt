@@ -13,10 +13,10 @@ use Rattle.model.specs.Shift.{shift}
 use Rattle.model.specs.declared.Date.{Date}
 use Rattle.model.specs.declared.TimeUnit.{TimeUnit}
 use Rattle.model.specs.declared.TimeUnit.TheVariants.{Year, Month, Day, Hour}
-use Rattle.model.specs.Laws.Calendar as CalendarLaws
-use Rattle.model.specs.Laws.DayCount as DayCountLaws
-use Rattle.model.specs.Laws.DayCount.{days_after, earlier}
-use Rattle.model.specs.Laws.InstantText as InstantTextLaws
+use Rattle.model.proofs.Laws.Calendar as CalendarLaws
+use Rattle.model.proofs.Laws.DayCount as DayCountLaws
+use Rattle.model.proofs.Laws.DayCount.{days_after, earlier}
+use Rattle.model.proofs.Laws.InstantText as InstantTextLaws
 use Rattle.calendar.specs.Contract.{date_number, date_result, instant_number, instant_result, shifted}
 use Rattle.calendar.specs.Laws.Answer as AnswerLaws
 use Rattle.calendar.specs.declared.instant.DateAnswer.{DateAnswer}

@@ -12,7 +12,7 @@ use Rattle.syntax.specs.declared.Lead.TheVariants.{Backslash, Char}
 use Rattle.syntax.specs.declared.Escape.TheVariants.{Letter, Unicode, NoEscape}
 use Rattle.syntax.specs.declared.Unit as units
 use Rattle.syntax.specs.declared.Unit.TheVariants.{Plain, High, Low}
-use Rattle.syntax.specs.Laws.Utf8.{utf8_most}
+use Rattle.syntax.proofs.Laws.Utf8.{utf8_most}
 use Rattle.syntax.specs.Read.{ok, bad, then, give, bytes, unit, hexes, char, chars, clear, high}
 use Rattle.syntax.specs.Tokens.{escape_of}
 use Rattle.syntax.specs.Utf8.{unit_of, utf8, pair_of}

@@ -15,8 +15,8 @@ use Rattle.model.specs.Bytes.{Bytes, ascii}
 use Rattle.model.specs.Calendar.{day_number, is_valid}
 use Rattle.model.specs.DateText.{starts_like, digit_run, milliseconds, zoned, after_seconds, two_digits, date_in, is_time, time_text, midnight}
 use Rattle.model.specs.Instant.{from_year0, since_year0, ms_per_day, in_range}
-use Rattle.model.specs.Laws.DateText.{midnight_ok, since_bound}
-use Rattle.model.specs.Laws.Logic.{true→t, clash}
+use Rattle.model.proofs.Laws.DateText.{midnight_ok, since_bound}
+use Rattle.model.proofs.Laws.Logic.{true→t, clash}
 use Rattle.model.specs.Refusal.{bad_date, out_of_range, Fault}
 use Rattle.model.specs.Result.{Result, ok, refuse, provided}
 use Rattle.model.specs.declared.Date.{Date}

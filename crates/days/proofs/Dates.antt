@@ -8,7 +8,7 @@ use borrow.Author.Tests.{le-leb, lt-leb}
 use lib.Dec.{leb}
 use lib.ListN.{get_or-eq_default}
 use Rattle.model.specs.Calendar.{months, month_days, is_valid, year_days, year_start, is_leap}
-use Rattle.model.specs.Laws.Calendar.{months_twelve, row_below, year_days_row}
+use Rattle.model.proofs.Laws.Calendar.{months_twelve, row_below, year_days_row}
 use Rattle.model.specs.declared.Date.{Date}
 
 pub no_month : (y m : ℕ) → 12 < m → month_days y m ≡ 0

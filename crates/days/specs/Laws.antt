@@ -3,8 +3,8 @@ use Rattle.std.specs.Prelude.{Bool, true, false, cond, ◌≡◌, refl, ℕ, suc
 use Rattle.std.proofs.Common.{sym, ◌∙◌, arith, leb-true, leb-false, ltb-true, ltb-false, lit≤}
 use Rattle.model.specs.Calendar.{date, is_valid, day_number}
 use Rattle.model.specs.Shift.{month_start}
-use Rattle.model.specs.Laws.Calendar.{day_bound, month_day, parts_valid, valid_parts}
-use Rattle.model.specs.Laws.Logic.{clash, true→t}
+use Rattle.model.proofs.Laws.Calendar.{day_bound, month_day, parts_valid, valid_parts}
+use Rattle.model.proofs.Laws.Logic.{clash, true→t}
 use Rattle.model.specs.declared.Date.{Date}
 use Rattle.days.specs.Contract.{day_answer, month_answer, WithinYears}
 use Rattle.days.specs.declared.day.DayAnswer.{DayAnswer}

@@ -8,7 +8,7 @@ use borrow.Author.Tests.{eqb-false}
 use lib.Dec.{eqb}
 use Rattle.model.specs.Bytes.{Bytes}
 use Rattle.model.specs.EvalPlain.{Plain, gives, continue, plain_body, eval_plain}
-use Rattle.model.specs.Laws.Logic.{clash}
+use Rattle.model.proofs.Laws.Logic.{clash}
 use Rattle.model.specs.Rule.{Literal as ModelLiteral, Rule, literal, literal_value}
 use Rattle.model.specs.Shape.{shape}
 use Rattle.model.specs.Value.{Value}

@@ -7,7 +7,7 @@ use native.Mathlib.Omega.{arith}
 use Rattle.model.specs.Bytes.{Bytes}
 use Rattle.model.specs.Eval.{context}
 use Rattle.model.specs.EvalPlain.{Plain, gives, denies, continue, branch, fold, plain_and, eval_plain}
-use Rattle.model.specs.Laws.Logic.{clash}
+use Rattle.model.proofs.Laws.Logic.{clash}
 use Rattle.model.specs.Refusal.{fault, wrong_kind}
 use Rattle.model.specs.Rule.{Rule, Rules, no_rules, rule}
 use Rattle.model.specs.Truth.{Truth, truthy, falsy, neither, truth}

@@ -8,9 +8,9 @@ use Rattle.area.specs.Words.{zero_from}
 use Rattle.model.specs.Bytes.{Bytes}
 use Rattle.model.specs.Eval.{run}
 use Rattle.model.specs.EvalPlain.{gives, denies, eval_plain, plain_outcome, left}
-use Rattle.model.specs.Laws.Logic.{clash}
-use Rattle.model.specs.Laws.Plain.{plain_agrees}
-use Rattle.model.specs.Laws.Widths.{steps_have_cells}
+use Rattle.model.proofs.Laws.Logic.{clash}
+use Rattle.model.proofs.Laws.Plain.{plain_agrees}
+use Rattle.model.proofs.Laws.Widths.{steps_have_cells}
 use Rattle.model.specs.Limits.{max_nesting, max_steps, heap_cells}
 use Rattle.model.specs.Refusal.{eval_number}
 use Rattle.model.specs.Rule.{Rule}

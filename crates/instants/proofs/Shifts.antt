@@ -16,9 +16,9 @@ use Rattle.model.specs.Instant.{from_year0, in_range, ms_per_day, ms_per_hour, r
 use Rattle.model.specs.Refusal.{out_of_range}
 use Rattle.model.specs.Result.{Result, ok, refuse, provided, ◌>>=◌}
 use Rattle.model.specs.Shift.{after, month_first, month_number, month_start, moved_by_months, shift, shift_months}
-use Rattle.model.specs.Laws.Calendar.{Dated}
-use Rattle.model.specs.Laws.DateText.{ranged_ok, since_back, since_bound}
-use Rattle.model.specs.Laws.Logic.{true→t, clash}
+use Rattle.model.proofs.Laws.Calendar.{Dated}
+use Rattle.model.proofs.Laws.DateText.{ranged_ok, since_back, since_bound}
+use Rattle.model.proofs.Laws.Logic.{true→t, clash}
 use Rattle.model.specs.declared.Date.{Date}
 use Rattle.model.specs.declared.TimeUnit.{TimeUnit}
 use Rattle.model.specs.declared.TimeUnit.TheVariants.{Year, Month, Day, Hour}

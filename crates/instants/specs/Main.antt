@@ -7,7 +7,7 @@ use Rattle.model.specs.Instant.{in_range}
 use Rattle.model.specs.Refusal.{out_of_range}
 use Rattle.model.specs.Result.{refuse}
 use Rattle.model.specs.declared.TimeUnit.TheVariants.{Year, Month}
-use Rattle.model.specs.Laws.Shift.{date_of}
+use Rattle.model.proofs.Laws.Shift.{date_of}
 use Rattle.calendar.specs.Contract.{shifted}
 use Rattle.instants.specs.Laws.Shift as ShiftLaws
 use Rattle.instants.specs.Laws.Shift.{Lands, month_to}

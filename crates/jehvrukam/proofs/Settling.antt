@@ -8,7 +8,7 @@ use lib.ListN.{length}
 use Rattle.area.specs.Laws.{zero_from_all}
 use Rattle.area.specs.Words.{zero_from}
 use Rattle.model.specs.Bytes.{Bytes}
-use Rattle.model.specs.Laws.Logic.{clash}
+use Rattle.model.proofs.Laws.Logic.{clash}
 use Rattle.model.specs.Limits.{max_values}
 use Rattle.syntax.specs.Layout.{row_bytes}
 use Rattle.pipeline.specs.Areas.{text_areas, zeroed}

@@ -4,7 +4,7 @@ use mathlib.Core.Option.{Option, none, some}
 use Prim.Native.Nat.{ℕ}
 use borrow.Author.Tests.{eq-eqb, ne_eqb}
 use Rattle.model.specs.Bytes.{Bytes}
-use Rattle.model.specs.Laws.Logic.{T→true}
+use Rattle.model.proofs.Laws.Logic.{T→true}
 use Rattle.syntax.specs.Layout.{unbiased}
 use Rattle.viewer.specs.Answer.{integer_of, string_of}
 use Rattle.viewer.specs.Form.{is_integer, integer_in}

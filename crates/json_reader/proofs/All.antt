@@ -13,7 +13,7 @@ use Rattle.area.specs.Laws.{length_zero_between, length_zero_from, drop_zero_bet
 use Rattle.model.specs.Bytes.{Bytes}
 use Rattle.model.specs.Limits.{max_text_bytes, max_values}
 use Rattle.model.specs.Refusal.{ReadFault, not_json, repeated_name, lone_surrogate, bad_number, too_large, read_number, number, invalid_argument}
-use Rattle.model.specs.Laws.Logic.{clash}
+use Rattle.model.proofs.Laws.Logic.{clash}
 use Rattle.model.specs.Size.{value_count}
 use Rattle.model.specs.Value.{Value}
 use Rattle.name_index.specs.Contract.{entry}
@@ -25,7 +25,7 @@ use Rattle.scan.specs.Contract.{fault_of, Skipped}
 use Rattle.scan.specs.Laws.{white_by, ended_in, ended_end}
 use Rattle.syntax.specs.Entry.{ReadAnswer, too_short, read_into, read_entry}
 use Rattle.syntax.specs.Layout.{row_bytes, entry_bytes, rows_part, table_bytes, strings_bytes, unnamed, rows_of, strings_of, padded, table_of, strings_area_of}
-use Rattle.syntax.specs.Laws.Layout.{length_rows}
+use Rattle.syntax.proofs.Laws.Layout.{length_rows}
 use Rattle.syntax.specs.Read.{Parsed, then, ◌>>=◌, white, value, ended, text, Read, done, refuse, answer, read}
 use Rattle.table.specs.WasRead.{WasRead}
 use Rattle.table.specs.Laws.WasRead.{SameRows, was_read_cleared, was_read_same}

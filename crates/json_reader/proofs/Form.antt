@@ -16,7 +16,7 @@ use Rattle.scan.specs.declared.Fault.{Fault}
 use Rattle.scan.specs.Laws.{Gone}
 use Rattle.syntax.specs.Layout.{row_bytes, rows_part, rows_of, strings_of}
 use Rattle.syntax.specs.Layout as layout
-use Rattle.syntax.specs.Laws.Layout.{length_row}
+use Rattle.syntax.proofs.Laws.Layout.{length_row}
 use Rattle.syntax.specs.Read.{Parsed, ok, bad, Parser, then, give}
 use Rattle.json_reader.specs.declared.row.Label.{Label}
 use Rattle.json_reader.specs.declared.step.Cursor.{Cursor}

@@ -9,7 +9,7 @@ use Rattle.model.specs.Size.{value_count, items_count, members_count}
 use Rattle.model.specs.Value.{Value, scalar, instant, array, object, Values, no_items, item, Members, no_members, member}
 use Rattle.name_index.specs.Contract.{Entry, Between, HasRow, entry}
 use Rattle.name_index.specs.Laws.Entries.{indexed_frame}
-use Rattle.syntax.specs.Laws.Layout.{count_positive}
+use Rattle.syntax.proofs.Laws.Layout.{count_positive}
 use Rattle.json_reader.specs.Index.{entries_of, IndexedValue, IndexedItems, IndexedMembers}
 
 -- ---- rows of members

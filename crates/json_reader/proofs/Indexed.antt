@@ -16,7 +16,7 @@ use Rattle.name_index.specs.Laws.Arrays.{table_indexed}
 use Rattle.name_index.specs.Table.{entries_at, IndexedObject, IndexedNames, IndexedTable}
 use Rattle.syntax.specs.Layout.{row_bytes, entry_bytes, table_bytes, rows_of, member_rows, strings_of, member_strings}
 use Rattle.syntax.specs.Layout as layout
-use Rattle.syntax.specs.Laws.Stands.{front, back}
+use Rattle.syntax.proofs.Laws.Stands.{front, back}
 use Rattle.table.specs.declared.node.Node.TheVariants.{Array, Object}
 use Rattle.table.specs.declared.node.Rows.{Rows}
 use Rattle.table.specs.declared.row.Span.{Span}

@@ -13,7 +13,7 @@ use Rattle.scan.specs.Laws.{eat_next, white_by, separator_by}
 use Rattle.syntax.specs.declared.Separator.{Separator}
 use Rattle.syntax.specs.declared.Separator.TheVariants.{Comma, Close, Neither}
 use Rattle.syntax.specs.Layout.{unnamed, rows_of, strings_of, item_count}
-use Rattle.syntax.specs.Laws.Layout.{length_rows}
+use Rattle.syntax.proofs.Laws.Layout.{length_rows}
 use Rattle.syntax.specs.Read.{Parsed, ok, then, ◌>>=◌, give, fail, peek, eat, white, on_separator, value, items}
 use Rattle.syntax.specs.Tokens.{separator_of}
 use Rattle.json_reader.specs.declared.step.Cursor.{Cursor}

@@ -14,7 +14,7 @@ use Rattle.model.specs.Limits.{max_text_bytes, max_values}
 use Rattle.model.specs.Refusal.{not_json}
 use Rattle.model.specs.Size.{value_count}
 use Rattle.model.specs.Value.{Value, Members, no_members, member}
-use Rattle.model.specs.Laws.Logic.{clash}
+use Rattle.model.proofs.Laws.Logic.{clash}
 use Rattle.name_index.specs.Laws.Entries.{indexed_empty, indexed_frame}
 use Rattle.name_index.specs.Contract.{Entry, Indexed, Between, HasRow, names_of, part}
 use Rattle.scan.specs.declared.Fault.{Fault}
@@ -24,7 +24,7 @@ use Rattle.syntax.specs.declared.Separator.{Separator}
 use Rattle.syntax.specs.declared.Separator.TheVariants.{Comma, Close, Neither}
 use Rattle.syntax.specs.Layout.{row_bytes, rows_part, table_bytes, rows_of, strings_of, member_rows, member_strings}
 use Rattle.syntax.specs.Layout as layout
-use Rattle.syntax.specs.Laws.Layout.{count_positive, length_rows}
+use Rattle.syntax.proofs.Laws.Layout.{count_positive, length_rows}
 use Rattle.syntax.specs.Read.{Parsed, ok, bad, then, ◌>>=◌, give, fail, peek, eat, white, on_separator, name, value, members}
 use Rattle.syntax.specs.Tokens.{separator_of}
 use Rattle.json_reader.specs.declared.step.Cursor.{Cursor}

@@ -10,13 +10,13 @@ use Rattle.area.specs.Words.{word, word_at}
 use Rattle.area.specs.Laws.{sets_append, take_sets, drop_sets_behind, word_at_word, word_at_append}
 use Rattle.model.specs.Bytes.{Bytes}
 use Rattle.model.specs.Limits.{max_text_bytes, max_values}
-use Rattle.model.specs.Laws.Widths.{text_below}
+use Rattle.model.proofs.Laws.Widths.{text_below}
 use Rattle.model.specs.Size.{items_count, members_count}
 use Rattle.model.specs.Value.{Value, scalar, instant, array, object, Scalar, null, boolean, integer, string, member_count}
 use Rattle.name_index.specs.Contract.{entry}
 use Rattle.name_index.specs.Slots as slots
 use Rattle.syntax.specs.Layout.{row_bytes, rows_part, entry_bytes, table_bytes, Label, row, rows_of, item_rows, member_rows, scalar_row, item_count}
-use Rattle.syntax.specs.Laws.Layout.{size_above}
+use Rattle.syntax.proofs.Laws.Layout.{size_above}
 
 -- ---- the first row
 pub record First (v : Value) (at used : ℕ) (name : Label) : Type 0 where

@@ -12,7 +12,7 @@ use Rattle.model.specs.Bytes.{Bytes}
 use Rattle.model.specs.Limits.{max_values}
 use Rattle.model.specs.Refusal.{ReadFault, not_json, too_large}
 use Rattle.model.specs.Size.{value_count}
-use Rattle.model.specs.Laws.Logic.{clash}
+use Rattle.model.proofs.Laws.Logic.{clash}
 use Rattle.model.specs.Value.{Value, scalar, array, object, integer, string, no_items, no_members}
 use Rattle.name_index.specs.Contract.{entry}
 use Rattle.name_index.specs.Laws.Entries.{indexed_empty}
@@ -33,7 +33,7 @@ use Rattle.syntax.specs.declared.Word.{Word}
 use Rattle.syntax.specs.declared.Word.TheVariants.{TrueWord, FalseWord, NullWord}
 use Rattle.syntax.specs.Layout.{row_bytes, rows_part, rows_of, scalar_row, strings_of, item_count}
 use Rattle.syntax.specs.Layout as layout
-use Rattle.syntax.specs.Laws.Layout.{length_row}
+use Rattle.syntax.proofs.Laws.Layout.{length_row}
 use Rattle.syntax.specs.Read.{Parsed, ok, bad, Parser, then, ◌>>=◌, give, fail, if, eat, literal, int, chars, clear, quoted, name, value, items, members, on_start}
 use Rattle.json_reader.specs.declared.list.After.{After}
 use Rattle.json_reader.specs.declared.list.After.TheVariants.{Closed, More, Broken}

@@ -29,5 +29,3 @@ pub mod Writing
 pub mod Size
 pub mod Textual
 pub mod Judgement
-pub mod Main
-pub mod Laws

@@ -12,7 +12,7 @@ use lib.ListN.{length}
 use lib.Seq.{sets}
 use Rattle.area.specs.Words.{word, word_at}
 use Rattle.model.specs.Bytes.{Bytes}
-use Rattle.model.specs.Laws.Logic.{both}
+use Rattle.model.proofs.Laws.Logic.{both}
 use Rattle.model.specs.Limits.{max_values}
 use Rattle.syntax.specs.Layout.{row_bytes, entry_bytes, table_bytes}
 use Rattle.table.specs.contracts.node.Node.{the_type}

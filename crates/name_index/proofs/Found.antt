@@ -10,7 +10,7 @@ use lib.ListN.{length, take, drop}
 use lib.Seq.{take_all}
 use Rattle.model.specs.Bytes.{Bytes, same_bytes}
 use Rattle.model.specs.Limits.{max_values}
-use Rattle.model.specs.Laws.Logic.{bytes→≡, bytes_refl}
+use Rattle.model.proofs.Laws.Logic.{bytes→≡, bytes_refl}
 use Rattle.syntax.specs.Layout.{table_bytes}
 use Rattle.area.specs.Words.{word_at}
 use Rattle.name_index.specs.declared.Ended.{Ended}

@@ -5,7 +5,7 @@ use mathlib.Core.Logic.{◌⊎◌, inl, inr, ⊎_elim}
 use Prim.Native.Nat.{ℕ, ◌+◌, ◌*◌, ◌<◌, ◌≤◌}
 use native.Mathlib.Omega.{arith}
 use Rattle.model.specs.Bytes.{Bytes}
-use Rattle.model.specs.Laws.Logic.{clash}
+use Rattle.model.proofs.Laws.Logic.{clash}
 use Rattle.name_index.specs.Bits.{bit_at, Agree, Critical}
 use Rattle.name_index.specs.Trie.{Trie, leaf, node, Leaf, Node, Apart, Ordered, Walk, here, down, Ends}
 use Rattle.name_index.specs.Slots.{rank_at, link_at, Holds}

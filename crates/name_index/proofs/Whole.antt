@@ -9,9 +9,9 @@ use native.Mathlib.Nat.{add-zero}
 use lib.ListN.{length, take}
 use lib.Seq.{sets, length-sets}
 use Rattle.model.specs.Bytes.{Bytes}
-use Rattle.model.specs.Laws.Widths.{values_below, values_linked}
+use Rattle.model.proofs.Laws.Widths.{values_below, values_linked}
 use Rattle.model.specs.Limits.{max_values}
-use Rattle.model.specs.Laws.Logic.{clash}
+use Rattle.model.proofs.Laws.Logic.{clash}
 use Rattle.syntax.specs.Layout.{row_bytes, entry_bytes, table_bytes}
 use Rattle.area.specs.Words.{word, word_at}
 use Rattle.area.specs.Laws.{take_sets_before, length_word, word_read}

@@ -11,7 +11,7 @@ use mir.Syntax.{w64}
 use mir.Val.{SFits, of_z, to_z}
 use Rattle.model.specs.Limits.{max_integer}
 use Rattle.model.specs.Value.{within_limits}
-use Rattle.model.specs.Laws.Logic.{and_l}
+use Rattle.model.proofs.Laws.Logic.{and_l}
 use Rattle.syntax.specs.Layout.{biased}
 use Rattle.calendar.specs.Laws.Instant.{minus, minus_below}
 use Rattle.op_dates.specs.Inner.{Unbiased}

@@ -19,9 +19,9 @@ use Rattle.model.specs.Refusal.{Fault, wrong_kind, bad_date, out_of_range}
 use Rattle.model.specs.Result.{Result, ok, refuse, ◌>>=◌}
 use Rattle.model.specs.Shift.{shift}
 use Rattle.model.specs.Value.{Value, scalar, instant, string, as_string}
-use Rattle.model.specs.Laws.DateText.{date_in_range, day_in_range}
-use Rattle.model.specs.Laws.Logic.{clash}
-use Rattle.model.specs.Laws.Shift.{shift_in_range}
+use Rattle.model.proofs.Laws.DateText.{date_in_range, day_in_range}
+use Rattle.model.proofs.Laws.Logic.{clash}
+use Rattle.model.proofs.Laws.Shift.{shift_in_range}
 use Rattle.model.specs.declared.TimeUnit.{TimeUnit}
 use Rattle.calendar.specs.Contract.{instant_result, date_result, shifted}
 use Rattle.calendar.specs.Laws.Answer.{own_in}

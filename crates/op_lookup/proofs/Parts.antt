@@ -16,7 +16,7 @@ use Rattle.model.specs.Limits.{heap_cells}
 use Rattle.model.specs.Option.{◌>>=◌}
 use Rattle.model.specs.Path.{index_of, item_at, part}
 use Rattle.model.specs.Value.{Value, array, Values, no_items, item}
-use Rattle.model.specs.Laws.Logic.{clash}
+use Rattle.model.proofs.Laws.Logic.{clash}
 use Rattle.syntax.specs.Layout.{item_count}
 use Rattle.table.specs.declared.node.Node.{Node}
 use Rattle.table.specs.declared.node.Node.TheVariants as nodes

@@ -5,7 +5,7 @@ use mathlib.Core.List.{List, [], ◌∷◌}
 use mathlib.Core.Option.{Option, none}
 use Prim.Native.Nat.{ℕ}
 use lib.IntN.{ℤ}
-use Rattle.model.specs.Laws.Logic.{clash}
+use Rattle.model.proofs.Laws.Logic.{clash}
 use Rattle.model.specs.Operations.{bool, as_number, compares, chain}
 use Rattle.model.specs.Refusal.{wrong_kind}
 use Rattle.model.specs.Result.{Result, ok, ◌>>=◌, required}

@@ -7,14 +7,14 @@ use Prim.Native.Nat.{ℕ}
 use denote.Enum.Declared.{tag_of}
 use types.Run.{OneOf, miss}
 use Rattle.model.specs.Bytes.{Bytes}
-use Rattle.model.specs.Laws.Logic.{clash}
+use Rattle.model.proofs.Laws.Logic.{clash}
 use Rattle.model.specs.Value.{Value, Scalar, null, boolean, integer, string, as_scalar, as_array, as_integer, as_instant}
 use Rattle.syntax.specs.Layout.{unbiased}
 use Rattle.heap.specs.contracts.handle.Handle.{the_type}
 use Rattle.heap.specs.declared.handle.Handle.{Handle}
 use Rattle.heap.specs.declared.handle.Handle.TheVariants.{Null, False, True, Integer, Instant, String, Compound}
 use Rattle.heap.specs.declared.handle.Parts.{Parts}
-use Rattle.syntax.specs.Laws.Biased.{unbiased_biased}
+use Rattle.syntax.proofs.Laws.Biased.{unbiased_biased}
 use Rattle.heap.specs.Means.{Means, means_null, means_false, means_true, means_integer, means_instant, means_string, means_items, means_members, means_list, means_context}
 use Rattle.heap.specs.Strings.{span_bytes}
 use Rattle.heap.specs.Unfold.{Areas}

@@ -9,8 +9,8 @@ use lib.Dec.{T, eqb, leb, ltb, leb→le}
 use lib.IntN.{ℤ, pos, negsuc, sub_ℕ, ◌+ℤ◌}
 use lib.Signed.{le_z, lt_z}
 use Rattle.model.specs.Instant.{in_range, since_year0}
-use Rattle.model.specs.Laws.Logic.{and_l}
-use Rattle.model.specs.Laws.Tests.{same_le, same_eq}
+use Rattle.model.proofs.Laws.Logic.{and_l}
+use Rattle.model.proofs.Laws.Tests.{same_le, same_eq}
 use Rattle.model.specs.Limits.{max_integer}
 use Rattle.model.specs.Value.{same_integer, within_limits}
 use Rattle.syntax.specs.Layout.{biased, unbiased}

@@ -10,7 +10,7 @@ use types.Run.{OneOf, miss}
 use lib.Dec.{eqb}
 use Rattle.model.specs.Bytes.{Bytes}
 use Rattle.model.specs.Operations as operations
-use Rattle.model.specs.Laws.Logic.{clash}
+use Rattle.model.proofs.Laws.Logic.{clash}
 use Rattle.model.specs.Option.{holds}
 use Rattle.model.specs.Result.{ok}
 use Rattle.model.specs.Value.{Value, array, Scalar, null, boolean, integer, string, Values, no_items, item, as_scalar, as_array, same_scalar}

@@ -6,14 +6,14 @@ use native.Mathlib.Omega.{arith}
 use borrow.Author.Tests.{le-leb, lt-leb}
 use lib.Dec.{leb}
 use lib.IntN.{ℤ, ◌+ℤ◌}
-use Rattle.model.specs.Laws.Logic.{true→t}
+use Rattle.model.proofs.Laws.Logic.{true→t}
 use Rattle.model.specs.Operations as operations
 use Rattle.model.specs.Refusal.{out_of_range}
 use Rattle.model.specs.Result.{Result, ok, provided}
 use Rattle.model.specs.Value.{Value, scalar, integer, as_integer, within_limits}
 use Rattle.heap.specs.declared.handle.Handle.{Handle}
 use Rattle.heap.specs.declared.handle.Handle.TheVariants.{Integer}
-use Rattle.syntax.specs.Laws.Biased.{biased_small}
+use Rattle.syntax.proofs.Laws.Biased.{biased_small}
 use Rattle.heap.specs.Means.{Means, means_integer}
 use Rattle.heap.specs.Unfold.{Areas}
 use Rattle.op_result.specs.Contract.{Gives, gives_value, gives_out_of_range}

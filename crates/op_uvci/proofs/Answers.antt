@@ -17,7 +17,7 @@ use Rattle.model.specs.Operations.{extract_from_uvci, nth_string}
 use Rattle.model.specs.Refusal.{wrong_kind}
 use Rattle.model.specs.Result.{ok, refuse}
 use Rattle.model.specs.Value.{Value, scalar, null, string}
-use Rattle.model.specs.Laws.Logic.{clash}
+use Rattle.model.proofs.Laws.Logic.{clash}
 use Rattle.syntax.specs.Layout.{unbiased}
 use Rattle.heap.specs.contracts.handle.Handle.{the_type}
 use Rattle.heap.specs.declared.handle.Area.{Area}
@@ -31,7 +31,7 @@ use Rattle.heap.specs.Means.{Means, means_null, means_false, means_true, means_i
 use Rattle.table.specs.Strings.{part}
 use Rattle.heap.specs.Strings.{area_bytes, span_bytes}
 use Rattle.heap.specs.Unfold.{Areas}
-use Rattle.syntax.specs.Laws.Biased.{unbiased_biased}
+use Rattle.syntax.proofs.Laws.Biased.{unbiased_biased}
 use Rattle.op_result.specs.declared.Operated.{Operated}
 use Rattle.op_result.specs.declared.Operated.TheVariants as Operateds
 use Rattle.op_result.specs.Contract.{Gives, gives_value, gives_wrong_kind}

@@ -7,7 +7,7 @@ use Prim.Native.Nat.{ℕ, zero, suc, ◌≤◌}
 use native.Mathlib.Omega.{arith}
 use Rattle.model.specs.Bytes.{Bytes, same_bytes}
 use Rattle.model.specs.Limits.{max_values}
-use Rattle.model.specs.Laws.Widths.{values_below}
+use Rattle.model.proofs.Laws.Widths.{values_below}
 use Rattle.model.specs.Option.{◌>>=◌}
 use Rattle.model.specs.Path.{Path, index_of, item_at, member_named, part, path_of, value_at}
 use Rattle.model.specs.Value.{Value, Values, no_items, item, Members, no_members, member, member_count}

@@ -13,7 +13,7 @@ use lib.Seq.{drop-cons}
 use Rattle.model.specs.Bytes.{Bytes, is_digit, digit_value}
 use Rattle.model.specs.Option.{when}
 use Rattle.model.specs.Path.{index_of, decimal_from}
-use Rattle.model.specs.Laws.Option.{when_some}
+use Rattle.model.proofs.Laws.Option.{when_some}
 use Rattle.paths.specs.declared.index.Index.TheVariants.{Outside, At}
 use Rattle.paths.specs.Contract.{limit, below_limit, index_in}
 use Rattle.paths.specs.Inner.{plain}

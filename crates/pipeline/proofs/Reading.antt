@@ -9,7 +9,7 @@ use Rattle.json_reader.specs.Contract.{RowsRead, answer_of}
 use Rattle.json_reader.specs.declared.Answer as reading
 use Rattle.model.specs.Bytes.{Bytes}
 use Rattle.model.specs.Judgement.{Judged, done, refuses, or_refuse, rule_in, sheet_in}
-use Rattle.model.specs.Laws.Logic.{clash}
+use Rattle.model.proofs.Laws.Logic.{clash}
 use Rattle.model.specs.Option.{is_some}
 use Rattle.model.specs.Refusal.{Refusal, number, invalid_argument, not_rule, not_sheet, reading as ofReading}
 use Rattle.model.specs.Rule.{Rule}

@@ -6,7 +6,7 @@ use Prim.Native.Nat.{ℕ, zero, suc, ◌+◌, ◌-◌, ◌≤◌, ◌<◌}
 use native.Mathlib.Nat.{eq-or-lt_of_le, le_of_suc-le-suc}
 use native.Mathlib.Omega.{arith}
 use lib.Dec.{T, eqb, eqb→eq}
-use Rattle.model.specs.Laws.Logic.{and_l, and_r}
+use Rattle.model.proofs.Laws.Logic.{and_l, and_r}
 use Rattle.model.specs.Writing.{hex_digit}
 
 -- A test holds of every number below k.

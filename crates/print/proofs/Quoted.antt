@@ -9,7 +9,7 @@ use lib.ListN.{length, get_or, set, take, drop, length-drop}
 use lib.Seq.{sets, drop-cons, take-add, take_all, length-take-le}
 use Rattle.model.specs.Bytes.{Bytes}
 use Rattle.model.specs.InstantText.{instant_text}
-use Rattle.model.specs.Laws.InstantText.{text_24}
+use Rattle.model.proofs.Laws.InstantText.{text_24}
 use Rattle.model.specs.Writing.{escaped, escaped_all, string_text}
 use Rattle.print.specs.declared.string.Move.{Move}
 use Rattle.print.specs.Contract.{Put}

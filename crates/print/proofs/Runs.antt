@@ -11,7 +11,7 @@ use lib.ListN.{length, get_or, take, drop, length-drop}
 use lib.Seq.{get_or-take, get_or-drop, length-take-le}
 use Rattle.model.specs.Bytes.{Bytes}
 use Rattle.model.specs.Lists.{all}
-use Rattle.model.specs.Laws.Logic.{and_i, true→t}
+use Rattle.model.proofs.Laws.Logic.{and_i, true→t}
 use Rattle.model.specs.Writing.{escaped_all}
 use Rattle.print.specs.Inner.{plain, Passed, Run}
 use Rattle.print.specs.Laws.{escaped_all_plain}

@@ -10,7 +10,7 @@ use Rattle.model.specs.Bytes.{Bytes, digit_byte}
 use Rattle.model.specs.InstantText.{instant_text}
 use Rattle.model.specs.Limits.{max_text_bytes}
 use Rattle.model.specs.Lists.{find, all}
-use Rattle.model.specs.Laws.Logic.{and_l, and_r, T→true}
+use Rattle.model.proofs.Laws.Logic.{and_l, and_r, T→true}
 use Rattle.model.specs.Option.{or_else}
 use Rattle.model.specs.Writing.{decimal_within, decimal, short_escapes, long_escape, escaped, escaped_all, string_text}
 use Rattle.print.specs.Contract.{Put, StringPut}

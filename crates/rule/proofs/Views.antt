@@ -8,8 +8,8 @@ use borrow.Author.Tests.{eqb-true, eqb-false}
 use lib.Dec.{eqb}
 use lib.ListN.{length}
 use Rattle.model.specs.Bytes.{Bytes}
-use Rattle.model.specs.Laws.Logic.{clash}
-use Rattle.model.specs.Laws.Option.{none_some, bind_some}
+use Rattle.model.proofs.Laws.Logic.{clash}
+use Rattle.model.proofs.Laws.Option.{none_some, bind_some}
 use Rattle.model.specs.Limits.{max_values}
 use Rattle.model.specs.Option.{◌>>=◌}
 use Rattle.model.specs.Path.{path_of}

@@ -7,7 +7,7 @@ use borrow.Author.Tests.{ltb-true, ltb-false, leb-true}
 use Rattle.model.specs.Bytes.{Bytes}
 use Rattle.model.specs.Refusal.{ReadFault, not_json}
 use Rattle.model.specs.Value.{Value, scalar, array, object, integer, string, no_items, no_members}
-use Rattle.model.specs.Laws.Logic.{clash}
+use Rattle.model.proofs.Laws.Logic.{clash}
 use Rattle.syntax.specs.declared.Start.{Start}
 use Rattle.syntax.specs.declared.Start.TheVariants.{NoValue}
 use Rattle.syntax.specs.declared.Separator.{Separator}

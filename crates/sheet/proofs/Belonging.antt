@@ -8,7 +8,7 @@ use Rattle.model.specs.Bytes.{Bytes}
 use Rattle.model.specs.DateText.{is_date, is_day}
 use Rattle.model.specs.Types.{belongs, has_type}
 use Rattle.model.specs.Value.{Value, scalar, array, object, null, boolean, integer, string, Values, all_items, is_integer, is_string}
-use Rattle.model.specs.Laws.DateText.{is_day→is_date}
+use Rattle.model.proofs.Laws.DateText.{is_day→is_date}
 use Rattle.paths.specs.Laws.Loops.{no_item, some_item}
 use Rattle.table.specs.declared.node.Node.{Node}
 use Rattle.table.specs.declared.node.Node.TheVariants.{Null, False, True, Integer, String, Array, Object}

@@ -13,7 +13,7 @@ use Rattle.model.specs.Sheet.{type_named, types_of, non_empty, content_types}
 use Rattle.model.specs.Types.{Types, same_ty, ty_number, is_in}
 use Rattle.model.specs.Value.{Value, scalar, instant, array, object, null, boolean, integer, string, Values, item, as_string}
 use Rattle.model.specs.declared.Ty.{Ty}
-use Rattle.model.specs.Laws.Logic.{or_mix}
+use Rattle.model.proofs.Laws.Logic.{or_mix}
 use Rattle.octets.specs.Laws.Fragment.{eqb_sym}
 use Rattle.paths.specs.Laws.Loops.{no_item, some_item}
 use Rattle.table.specs.declared.node.Node.{Node}

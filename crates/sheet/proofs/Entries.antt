@@ -10,7 +10,7 @@ use Rattle.model.specs.Path.{Path, path_of}
 use Rattle.model.specs.Sheet.{Sheet, non_empty, content_types, entry_path, entries_of, sheet_of}
 use Rattle.model.specs.Types.{Types}
 use Rattle.model.specs.Value.{Value, scalar, instant, array, object, Members, member, member_count}
-use Rattle.model.specs.Laws.Option.{none_some, bind_some, when_some}
+use Rattle.model.proofs.Laws.Option.{none_some, bind_some, when_some}
 use Rattle.table.specs.declared.node.Node.{Node}
 use Rattle.table.specs.declared.node.Node.TheVariants.{Object}
 use Rattle.table.specs.declared.node.Rows.{Rows}

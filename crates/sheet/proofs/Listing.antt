@@ -12,7 +12,7 @@ use Rattle.model.specs.Sheet.{Sheet, entries_of}
 use Rattle.model.specs.TypeCheck.{outside, var_types}
 use Rattle.model.specs.Types.{Types, any_of_record}
 use Rattle.model.specs.Value.{Value, Members}
-use Rattle.model.specs.Laws.Logic.{clash}
+use Rattle.model.proofs.Laws.Logic.{clash}
 use Rattle.name_index.specs.declared.find.Found.TheVariants.{Nowhere, At}
 use Rattle.paths.specs.Contract.{row_named}
 use Rattle.paths.specs.Laws.Loops.{no_member, some_member}

@@ -13,8 +13,8 @@ use Rattle.model.specs.Lists.{all}
 use Rattle.model.specs.Option.{◌>>=◌, is_some, when}
 use Rattle.model.specs.Path.{Path, path_of, same_path}
 use Rattle.model.specs.Sheet.{non_empty, entry_path}
-use Rattle.model.specs.Laws.Logic.{and_l, and_r, and_i, T→true, bytes→≡, bytes_refl, clash}
-use Rattle.model.specs.Laws.Option.{when_some}
+use Rattle.model.proofs.Laws.Logic.{and_l, and_r, and_i, T→true, bytes→≡, bytes_refl, clash}
+use Rattle.model.proofs.Laws.Option.{when_some}
 
 -- ---- the text of a path
 -- What path_of asks of each fragment.

@@ -12,7 +12,3 @@ pub mod Layout
 pub mod Entry
 pub mod Output
 pub mod ReadsBack
-pub mod Main
-pub mod Demand2
-pub mod Demand3
-pub mod Laws

@@ -9,7 +9,7 @@ use lib.Dec.{ltb, leb}
 use lib.ListN.{length, get_or, drop, drop_of_length-le}
 use lib.Seq.{drop-cons}
 use Rattle.model.specs.Bytes.{Bytes, is_digit, digit_value}
-use Rattle.model.specs.Laws.Logic.{both}
+use Rattle.model.proofs.Laws.Logic.{both}
 use Rattle.test_vectors.specs.declared.Number.{Number}
 use Rattle.test_vectors.specs.Cases.{takes_digit, digits_from, number_at}
 

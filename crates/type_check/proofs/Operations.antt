@@ -5,7 +5,7 @@ use mathlib.Core.Path.{◌≡◌, refl, sym, ap, ap₂, ◌∙◌}
 use Prim.Native.Nat.{ℕ}
 use native.Mathlib.Omega.{arith}
 use lib.ListN.{length}
-use Rattle.model.specs.Laws.Logic.{clash}
+use Rattle.model.proofs.Laws.Logic.{clash}
 use Rattle.model.specs.Lists.{any}
 use Rattle.model.specs.Rule.{Operation}
 use Rattle.model.specs.TypeCheck.{one_operand, two_operands, every_operand, domain_type, allowed, array_types, given, union}

@@ -10,8 +10,8 @@ use lib.Dec.{eqb}
 use lib.ListN.{length, take, drop, length-drop}
 use Rattle.model.specs.Bytes.{Bytes, ascii, byte, same_bytes, split_on}
 use Rattle.model.specs.Eval.{current, accumulator}
-use Rattle.model.specs.Laws.Logic.{clash}
-use Rattle.model.specs.Laws.Option.{when_some}
+use Rattle.model.proofs.Laws.Logic.{clash}
+use Rattle.model.proofs.Laws.Option.{when_some}
 use Rattle.model.specs.Lists.{all}
 use Rattle.model.specs.Path.{Path, path_of}
 use Rattle.model.specs.TypeCheck.{Env as ModelEnv, part_types, lambda_types, var_types}

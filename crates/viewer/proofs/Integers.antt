@@ -11,7 +11,7 @@ use mir.Facts.{to_z-of_z, to_z_pos}
 use mir.Syntax.{w64}
 use mir.Val.{SFits, of_z, to_z}
 use Rattle.model.specs.Limits.{max_integer}
-use Rattle.model.specs.Laws.Logic.{and_r}
+use Rattle.model.proofs.Laws.Logic.{and_r}
 use Rattle.syntax.specs.Layout.{unbiased}
 use Rattle.table.specs.declared.row.Row.{Row}
 use Rattle.table.specs.Row.{joined}

@@ -6,7 +6,7 @@ use native.Mathlib.Decide.{ℕ_discrete}
 use native.Mathlib.Omega.{arith}
 use borrow.Author.Tests.{eq-eqb, ne_eqb}
 use lib.Dec.{eqb}
-use Rattle.model.specs.Laws.Tests.{same_eq}
+use Rattle.model.proofs.Laws.Tests.{same_eq}
 
 pub held : {A : Type 0} (b : Bool) (x y : A) → b ≡ true → x ≡ cond b x y
 held b x y e = rw e

@@ -13,7 +13,7 @@ use lib.Seq.{sets}
 use Rattle.area.specs.Laws.{sets_append}
 use Rattle.model.specs.Bytes.{Bytes}
 use Rattle.model.specs.Limits.{max_text_bytes}
-use Rattle.model.specs.Laws.Logic.{clash}
+use Rattle.model.proofs.Laws.Logic.{clash}
 use Rattle.print.specs.Contract.{Put}
 use Rattle.writer.specs.declared.value.Progress.{Progress}
 use Rattle.writer.specs.declared.value.Progress.TheVariants.{TooLarge, At}

@@ -15,7 +15,7 @@ use Rattle.model.specs.Refusal.{out_of_range}
 use Rattle.model.specs.Result.{ok, refuse, provided}
 use Rattle.model.specs.Value.{scalar, instant, null}
 use Rattle.model.specs.Writing.{decimal, integer_text, string_text, value_text}
-use Rattle.model.specs.Laws.Logic.{clash}
+use Rattle.model.proofs.Laws.Logic.{clash}
 use Rattle.syntax.specs.Layout.{unbiased}
 use Rattle.heap.specs.Unfold.{instant_at}
 use Rattle.print.specs.Contract.{Put, StringPut}

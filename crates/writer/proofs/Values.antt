@@ -17,8 +17,8 @@ use Rattle.model.specs.Limits.{max_text_bytes}
 use Rattle.model.specs.Size.{value_count, nesting}
 use Rattle.model.specs.Value.{Value, scalar, instant, null}
 use Rattle.model.specs.Writing.{value_text}
-use Rattle.model.specs.Laws.Logic.{clash}
-use Rattle.syntax.specs.Laws.Layout.{count_positive}
+use Rattle.model.proofs.Laws.Logic.{clash}
+use Rattle.syntax.proofs.Laws.Layout.{count_positive}
 use Rattle.heap.specs.contracts.handle.Handle.{the_type}
 use Rattle.heap.specs.declared.handle.Handle.{Handle}
 use Rattle.heap.specs.declared.handle.Handle.TheVariants.{Null, False, True, Integer, Instant, String, Compound}

@@ -14,7 +14,7 @@ use Rattle.model.specs.Limits.{max_text_bytes, max_values, max_nesting}
 use Rattle.model.specs.Size.{value_count, nesting, is_too_large}
 use Rattle.model.specs.Value.{Value}
 use Rattle.model.specs.Writing.{value_text}
-use Rattle.model.specs.Laws.Logic.{clash}
+use Rattle.model.proofs.Laws.Logic.{clash}
 use Rattle.syntax.specs.Layout.{padded}
 use Rattle.syntax.specs.Output.{value_written}
 use Rattle.writer.specs.declared.Answer.TheVariants as Answers

@@ -7,12 +7,12 @@ use Rattle.model.specs.InstantText.{instant_text}
 use Rattle.model.specs.Refusal.{out_of_range}
 use Rattle.model.specs.Result.{ok, refuse, ◌>>=◌, provided}
 use Rattle.model.specs.Shift.{shift}
-use Rattle.model.specs.Laws.DateText.{ranged_ok}
-use Rattle.model.specs.Laws.InstantText.{reads_back}
-use Rattle.model.specs.Laws.Shift.{shift_in_range, shift_none, days_twice, hours_twice, twelve_months, hours_24}
+use Rattle.model.proofs.Laws.DateText.{ranged_ok}
+use Rattle.model.proofs.Laws.InstantText.{reads_back}
+use Rattle.model.proofs.Laws.Shift.{shift_in_range, shift_none, days_twice, hours_twice, twelve_months, hours_24}
 use Rattle.model.specs.declared.TimeUnit.{TimeUnit}
 use Rattle.model.specs.declared.TimeUnit.TheVariants.{Year, Month, Day, Hour}
-use Rattle.model.specs.Laws.Logic.{clash}
+use Rattle.model.proofs.Laws.Logic.{clash}
 use Rattle.calendar.specs.Contract.{instant_result, date_result, shifted}
 use Rattle.calendar.specs.declared.instant.DateAnswer.{DateAnswer}
 use Rattle.calendar.specs.declared.instant.Instant.{Instant}

@@ -1,7 +1,7 @@
 use borrow.Author.Rules.{rules}
 use mathlib.Core.Path.{sym, ◌∙◌}
 use Rattle.model.specs.DateText.{date_text}
-use Rattle.model.specs.Laws.Branches.{taken, passed}
+use Rattle.model.proofs.Laws.Branches.{taken, passed}
 use Rattle.dates.proofs.read_date.Statement.{statement}
 use Rattle.dates.proofs.read_date.Tie as tie
 

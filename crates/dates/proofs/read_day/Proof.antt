@@ -2,7 +2,7 @@ use borrow.Author.Rules.{rules}
 use mathlib.Core.Path.{refl, ◌∙◌, ap}
 use Prim.Native.Nat.{ℕ}
 use Rattle.model.specs.DateText.{day_text, midnight, last_of_year, last_of_month}
-use Rattle.model.specs.Laws.Branches.{taken, passed}
+use Rattle.model.proofs.Laws.Branches.{taken, passed}
 use Rattle.dates.proofs.read_day.Statement.{statement}
 use Rattle.dates.proofs.read_day.Tie as tie
 

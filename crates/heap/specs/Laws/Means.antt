@@ -11,14 +11,14 @@ use native.Mathlib.Omega.{arith}
 use Rattle.model.specs.Bytes.{Bytes}
 use Rattle.model.specs.Eval.{context}
 use Rattle.model.specs.Judgement.{written_within}
-use Rattle.model.specs.Laws.DateText.{since_bound}
+use Rattle.model.proofs.Laws.DateText.{since_bound}
 use Rattle.model.specs.Limits.{max_nesting, heap_cells}
 use Rattle.model.specs.Size.{nesting, items_nesting}
 use Rattle.model.specs.Value.{Value, scalar, array, object, integer, string, Values, item, Members, member, member_count}
-use Rattle.model.specs.Laws.Logic.{clash}
+use Rattle.model.proofs.Laws.Logic.{clash}
 use Rattle.syntax.specs.Layout.{item_count, unbiased}
-use Rattle.syntax.specs.Laws.Biased.{biased_small, unbiased_biased}
-use Rattle.syntax.specs.Laws.Widths.{text_small, values_small}
+use Rattle.syntax.proofs.Laws.Biased.{biased_small, unbiased_biased}
+use Rattle.syntax.proofs.Laws.Widths.{text_small, values_small}
 use Rattle.table.specs.Denotes.{row_item, row_member}
 use Rattle.table.specs.Laws.Denotes.{items_row, members_row}
 use Rattle.heap.specs.declared.handle.Handle.{Handle}

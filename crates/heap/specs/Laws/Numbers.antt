@@ -2,9 +2,9 @@
 use Rattle.std.specs.Prelude.{◌≡◌, ℕ, ◌≤◌, ◌<◌, T, ℤ}
 use Rattle.std.proofs.Common.{ap, arith}
 use Rattle.model.specs.Instant.{in_range, since_year0}
-use Rattle.model.specs.Laws.DateText.{since_back}
-use Rattle.model.specs.Laws.Logic.{T→true}
-use Rattle.model.specs.Laws.Widths.{cells_below}
+use Rattle.model.proofs.Laws.DateText.{since_back}
+use Rattle.model.proofs.Laws.Logic.{T→true}
+use Rattle.model.proofs.Laws.Widths.{cells_below}
 use Rattle.model.specs.Limits.{heap_cells}
 use Rattle.model.specs.Value.{instant}
 use Rattle.heap.specs.Unfold.{instant_at}

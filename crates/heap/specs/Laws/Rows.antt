@@ -5,7 +5,7 @@ use Rattle.std.proofs.Math.Decide.{dec_lt}
 use Rattle.model.specs.Size.{nesting, items_nesting, members_nesting}
 use Rattle.model.specs.Value.{Value, scalar, array, object, null, integer, string, Values, Members, item, member, member_count}
 use Rattle.syntax.specs.Layout.{item_count, unbiased}
-use Rattle.syntax.specs.Laws.Biased.{unbiased_biased}
+use Rattle.syntax.proofs.Laws.Biased.{unbiased_biased}
 use Rattle.table.specs.declared.node.Node.{Node}
 use Rattle.table.specs.declared.node.Node.TheVariants as nodes
 use Rattle.table.specs.Denotes.{Denotes, denotes_null, denotes_false, denotes_true, denotes_integer, denotes_string, denotes_array, denotes_object, RowItems, no_row_items, row_item, RowMembers, no_row_members, row_member}

@@ -9,14 +9,14 @@ use Rattle.model.specs.Instant.{from_year0, in_range, ms_per_day, ranged, since_
 use Rattle.model.specs.Refusal.{out_of_range}
 use Rattle.model.specs.Result.{ok, refuse}
 use Rattle.model.specs.Shift.{after, month_first, month_number, month_start, shift}
-use Rattle.model.specs.Laws.Calendar.{Dated, Valid, dated, date_of_day_lem, day_bound, december, month_28, month_day, sum_step, year_10000, year_mono}
-use Rattle.model.specs.Laws.DateText.{from_in_range, ranged_ok, since_bound}
-use Rattle.model.specs.Laws.DayCount.{date_again}
-use Rattle.model.specs.Laws.Shift.{date_of, instant_of, month_first_lem, month_next, shift_year, time_of}
+use Rattle.model.proofs.Laws.Calendar.{Dated, Valid, dated, date_of_day_lem, day_bound, december, month_28, month_day, sum_step, year_10000, year_mono}
+use Rattle.model.proofs.Laws.DateText.{from_in_range, ranged_ok, since_bound}
+use Rattle.model.proofs.Laws.DayCount.{date_again}
+use Rattle.model.proofs.Laws.Shift.{date_of, instant_of, month_first_lem, month_next, shift_year, time_of}
 use Rattle.model.specs.declared.Date.{Date}
 use Rattle.model.specs.declared.TimeUnit.{TimeUnit}
 use Rattle.model.specs.declared.TimeUnit.TheVariants.{Year, Month}
-use Rattle.model.specs.Laws.Logic.{clash}
+use Rattle.model.proofs.Laws.Logic.{clash}
 use Rattle.calendar.specs.Contract.{shifted}
 use Rattle.instants.specs.Inner.{in_month, month_of}
 use Rattle.calendar.specs.Laws.Answer.{own_in, year_months}

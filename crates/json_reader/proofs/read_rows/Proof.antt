@@ -1,6 +1,6 @@
 -- Each way out is a law of All.
 use native.Mathlib.Omega.{arith}
-use Rattle.model.specs.Laws.Widths.{values_below}
+use Rattle.model.proofs.Laws.Widths.{values_below}
 use Rattle.model.specs.Limits.{max_text_bytes, max_values}
 use Rattle.syntax.specs.Layout.{row_bytes, entry_bytes}
 use Rattle.json_reader.proofs.All.{told, number_small, rows_few, law_short_table, law_short_strings, law_refused, law_done}

@@ -5,7 +5,7 @@ use Rattle.std.proofs.Math.Option.{Option, none, some}
 use Rattle.std.proofs.lemmas.Bool.{eqb-false}
 use types.Run.{OneOf}
 use Rattle.model.specs.Bytes.{Bytes, same_bytes}
-use Rattle.model.specs.Laws.Logic.{bytes→≡, and_l, and_r}
+use Rattle.model.proofs.Laws.Logic.{bytes→≡, and_l, and_r}
 use Rattle.model.specs.Lists.{find, any, all}
 use Rattle.model.specs.Shape.{keywords, keyword_named}
 

@@ -3,7 +3,7 @@ use Rattle.std.specs.Prelude.{Bool, true, false, List, [], ◌∷◌, ◌≡◌,
 use Rattle.std.proofs.Math.Option.{Option, none, some}
 use Rattle.std.proofs.Common.{ap, arith, leb-true, leb-false}
 use Rattle.model.specs.Bytes.{Bytes, same_bytes}
-use Rattle.model.specs.Laws.Option.{All, all_cond}
+use Rattle.model.proofs.Laws.Option.{All, all_cond}
 use Rattle.model.specs.Lists.{find}
 use Rattle.model.specs.Shape.{Keyword as ModelKeyword, keywords, keyword_named}
 use Rattle.syntax.specs.Layout.{biased, unbiased}

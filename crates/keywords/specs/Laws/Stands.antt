@@ -4,7 +4,7 @@ use Rattle.std.proofs.Common.{sym, ap, ◌∙◌}
 use Rattle.model.specs.Rule.{Operation}
 use Rattle.model.specs.Value.{within_limits}
 use Rattle.syntax.specs.Layout.{biased, unbiased}
-use Rattle.syntax.specs.Laws.Biased.{unbiased_biased}
+use Rattle.syntax.proofs.Laws.Biased.{unbiased_biased}
 use Rattle.keywords.specs.declared.Op.{Op}
 use Rattle.keywords.specs.Contract.{operation_of, Stands, stands_array, stands_equal, stands_member_of, stands_plus, stands_not, stands_date_of_birth, stands_compare, stands_plus_time, stands_extract}
 

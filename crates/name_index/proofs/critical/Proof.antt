@@ -1,6 +1,6 @@
 -- The names are the same, or part at the highest bit in which the symbols differ.
 use Rattle.name_index.proofs.Bits.{names_same, names_part}
-use Rattle.model.specs.Laws.Widths.{text_below}
+use Rattle.model.proofs.Laws.Widths.{text_below}
 use mathlib.Core.Path.{sym, ◌∙◌}
 use native.Mathlib.Omega.{arith}
 use borrow.Author.Rules.{rules}

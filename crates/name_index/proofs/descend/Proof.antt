@@ -3,7 +3,7 @@ use Rattle.name_index.proofs.Steps.{Going, going_first, going_side, going_left, 
 use Rattle.name_index.specs.Slots.{place}
 use Rattle.name_index.specs.Bits.{part, bit_at}
 use Rattle.syntax.specs.Layout.{row_bytes, entry_bytes}
-use Rattle.model.specs.Laws.Widths.{values_below}
+use Rattle.model.proofs.Laws.Widths.{values_below}
 use Prim.Native.Nat.{◌+◌, ◌-◌}
 use native.Mathlib.Omega.{arith}
 use Rattle.name_index.proofs.descend.Statement.{statement}

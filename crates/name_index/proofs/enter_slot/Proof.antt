@@ -4,7 +4,7 @@ use Rattle.name_index.specs.Inner.{Ranked, ToldOf}
 use Rattle.name_index.specs.Slots.{place}
 use Rattle.name_index.specs.Bits.{part}
 use Rattle.syntax.specs.Layout.{row_bytes, entry_bytes}
-use Rattle.model.specs.Laws.Widths.{values_below}
+use Rattle.model.proofs.Laws.Widths.{values_below}
 use mathlib.Core.Path.{subst}
 use native.Mathlib.Omega.{arith}
 use borrow.Author.Rules.{rules}

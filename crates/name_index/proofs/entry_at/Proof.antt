@@ -1,6 +1,6 @@
 -- The limit is the model's.
 use Rattle.name_index.specs.Slots.{place}
-use Rattle.model.specs.Laws.Widths.{values_below}
+use Rattle.model.proofs.Laws.Widths.{values_below}
 use Rattle.model.specs.Limits.{max_values}
 use Rattle.syntax.specs.Layout.{row_bytes, entry_bytes}
 use mathlib.Core.Path.{refl}

@@ -1,6 +1,6 @@
 -- The link is changed first, then the new node's entry is made.
 use Rattle.name_index.proofs.Table.{fork_left, fork_right}
-use Rattle.model.specs.Laws.Widths.{values_below, values_linked}
+use Rattle.model.proofs.Laws.Widths.{values_below, values_linked}
 use native.Mathlib.Omega.{arith}
 use borrow.Author.Rules.{rules}
 use Rattle.name_index.proofs.fork.Statement.{statement}

@@ -2,7 +2,7 @@
 use Rattle.name_index.proofs.Table.{two_words}
 use Rattle.name_index.specs.Slots.{place}
 use Rattle.syntax.specs.Layout.{row_bytes, entry_bytes}
-use Rattle.model.specs.Laws.Widths.{values_below}
+use Rattle.model.proofs.Laws.Widths.{values_below}
 use native.Mathlib.Omega.{arith}
 use borrow.Author.Rules.{rules}
 use Rattle.name_index.proofs.put_node.Statement.{statement}

@@ -10,7 +10,7 @@ use native.Mathlib.Omega.{arith}
 use Rattle.std.proofs.Math.Dec.{leb}
 use Rattle.area.specs.Words.{word_at}
 use Rattle.model.specs.Bytes.{Bytes}
-use Rattle.model.specs.Laws.Logic.{both}
+use Rattle.model.proofs.Laws.Logic.{both}
 use Rattle.model.specs.Limits.{max_values}
 use Rattle.syntax.specs.Layout.{row_bytes, table_bytes}
 use Rattle.table.specs.declared.node.Node.{Node}

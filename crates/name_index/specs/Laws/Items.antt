@@ -11,7 +11,7 @@ use Rattle.std.proofs.Math.Seq.{length-sets}
 use Rattle.area.specs.Laws.{length_word, word_read, take_sets_before}
 use Rattle.area.specs.Words.{word, word_at}
 use Rattle.model.specs.Bytes.{Bytes}
-use Rattle.model.specs.Laws.Widths.{values_below}
+use Rattle.model.proofs.Laws.Widths.{values_below}
 use Rattle.model.specs.Limits.{max_values}
 use Rattle.syntax.specs.Layout.{row_bytes, entry_bytes, rows_part, table_bytes}
 use Rattle.table.specs.declared.node.Rows.{Rows}

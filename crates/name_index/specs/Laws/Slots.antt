@@ -9,7 +9,7 @@ use Rattle.std.proofs.Math.ListN.{take}
 use Rattle.std.proofs.lemmas.List.Edits.{sets}
 use Rattle.model.specs.Bytes.{Bytes, same_bytes}
 use Rattle.model.specs.Limits.{max_values}
-use Rattle.model.specs.Laws.Logic.{bytes→≡, bytes_refl}
+use Rattle.model.proofs.Laws.Logic.{bytes→≡, bytes_refl}
 use Rattle.area.specs.Words.{word_at}
 use Rattle.area.specs.Laws.{drop_sets_behind, drop_sets_add, take_sets_before, word_at_take, word_at_drop}
 use Rattle.syntax.specs.Layout.{row_bytes, entry_bytes}

@@ -3,7 +3,7 @@ use Prim.Native.Nat.{◌-◌}
 use native.Mathlib.Omega.{arith}
 use borrow.Author.Rules.{rules}
 use lib.ListN.{length}
-use Rattle.model.specs.Laws.Branches.{answered_true}
+use Rattle.model.proofs.Laws.Branches.{answered_true}
 use Rattle.octets.specs.Inner.{SameTo}
 use Rattle.octets.proofs.Bytewise.{same_to_none, same_to_more}
 use Rattle.octets.proofs.same_eights.Statement.{statement}

@@ -1,6 +1,6 @@
 use native.Mathlib.Omega.{arith}
 use borrow.Author.Rules.{rules}
-use Rattle.model.specs.Laws.Branches.{answered_true, answered_false}
+use Rattle.model.proofs.Laws.Branches.{answered_true, answered_false}
 use Rattle.op_uvci.proofs.Fragments.{ends_inside, prefix_alone, first_other, second_other, prefix_dropped}
 use Rattle.op_uvci.proofs.numbered_from.Statement.{statement}
 use Rattle.op_uvci.proofs.numbered_from.Tie as tie

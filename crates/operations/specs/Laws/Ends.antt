@@ -3,7 +3,7 @@ use Rattle.std.specs.Prelude.{◌≡◌, refl, ℕ}
 use Rattle.std.proofs.Common.{ap, ◌∙◌, arith}
 use Rattle.model.specs.Bytes.{Bytes}
 use Rattle.model.specs.EvalPlain.{Plain, gives, denies, lift}
-use Rattle.model.specs.Laws.Logic.{clash}
+use Rattle.model.proofs.Laws.Logic.{clash}
 use Rattle.model.specs.Refusal as models
 use Rattle.model.specs.Result.{Result, refuse}
 use Rattle.model.specs.Value.{Value}

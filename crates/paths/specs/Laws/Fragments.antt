@@ -8,8 +8,8 @@ use Rattle.model.specs.Lists.{all, any}
 use Rattle.model.specs.Option.{◌>>=◌}
 use Rattle.model.specs.Path.{Path, lookup, part, path_of, value_at}
 use Rattle.model.specs.Value.{Value}
-use Rattle.model.specs.Laws.Logic.{clash}
-use Rattle.model.specs.Laws.Option.{when_some}
+use Rattle.model.proofs.Laws.Logic.{clash}
+use Rattle.model.proofs.Laws.Option.{when_some}
 use Rattle.octets.specs.Fragment.{fragment_length}
 use Rattle.octets.specs.Laws.Fragment.{is_dot_lem, others, first_fragment}
 use Rattle.paths.specs.Contract.{fragments}

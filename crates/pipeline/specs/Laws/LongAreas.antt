@@ -2,7 +2,7 @@
 use Rattle.std.specs.Prelude.{Bool, true, false, cond, ◌≡◌, refl, ℕ}
 use Rattle.std.proofs.Common.{sym, ap, ◌∙◌}
 use Rattle.model.specs.Bytes.{Bytes}
-use Rattle.model.specs.Laws.Logic.{clash}
+use Rattle.model.proofs.Laws.Logic.{clash}
 use Rattle.model.specs.Refusal.{invalid_argument}
 use Rattle.model.specs.Rule.{Rule}
 use Rattle.model.specs.Sheet.{Sheet}

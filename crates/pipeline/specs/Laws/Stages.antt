@@ -4,7 +4,7 @@ use Rattle.std.specs.Prelude.{◌≡◌, refl, ℕ, length}
 use Rattle.std.proofs.Common.{sym, ap, ◌∙◌, arith}
 use Rattle.model.specs.Bytes.{Bytes}
 use Rattle.model.specs.Judgement.{Judged, done, refuses, or_refuse, rule_in, sheet_in}
-use Rattle.model.specs.Laws.Logic.{clash}
+use Rattle.model.proofs.Laws.Logic.{clash}
 use Rattle.model.specs.Limits.{max_nesting}
 use Rattle.model.specs.Refusal.{Refusal, number, invalid_argument, reading, not_rule, evaluating, answer_too_large, output_too_short, not_accepted, not_sheet, fault, wrong_kind, bad_date, out_of_range, out_of_steps, ReadFault, not_json, repeated_name, lone_surrogate, bad_number, too_large, read_number}
 use Rattle.model.specs.Rule.{Rule}

@@ -1,8 +1,8 @@
 -- Bits: the bits of a number of words tell the types that it names; of no type at all it is 0.
 use Rattle.std.specs.Prelude.{Bool, true, false, cond, [], ◌∷◌, ◌≡◌, refl, ℕ, ◌+◌, ◌*◌, ◌/◌, ◌%◌, ◌≤◌}
 use Rattle.std.proofs.Common.{sym, ap, ◌∙◌, arith}
-use Rattle.model.specs.Laws.Logic.{T→true, clash}
-use Rattle.model.specs.Laws.Types.{same_ty_refl}
+use Rattle.model.proofs.Laws.Logic.{T→true, clash}
+use Rattle.model.proofs.Laws.Types.{same_ty_refl}
 use Rattle.model.specs.Types.{Types, is_in, same_ty, type_bits}
 use Rattle.model.specs.declared.Ty.{Ty}
 use Rattle.model.specs.declared.Ty.TheVariants as Ty

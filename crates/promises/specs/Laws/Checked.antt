@@ -5,8 +5,8 @@ use Rattle.std.proofs.Math.Option.{Option, none, some}
 use Rattle.model.specs.Bytes.{Bytes}
 use Rattle.model.specs.Eval.{run, Outcome, value, refusal, outcome}
 use Rattle.model.specs.Judgement.{Judged, done, refuses, judged_number, sheet_in, or_refuse, written_within, written, Answer, answer_of}
-use Rattle.model.specs.Laws.Logic.{or_false_l, or_false_r}
-use Rattle.model.specs.Main.{found_some}
+use Rattle.model.proofs.Laws.Logic.{or_false_l, or_false_r}
+use Rattle.model.proofs.Main.{found_some}
 use Rattle.model.specs.Refusal.{Refusal, number, not_json, repeated_name, lone_surrogate, bad_number, too_large, not_rule, not_sheet, not_accepted, fault, wrong_kind, bad_date, out_of_range, out_of_steps}
 use Rattle.model.specs.Rule.{Rule}
 use Rattle.model.specs.Shape.{shape}

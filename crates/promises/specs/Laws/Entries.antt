@@ -3,7 +3,7 @@ use Rattle.std.specs.Prelude.{Bool, true, false, ◌||◌, cond, ◌≡◌, refl
 use Rattle.std.proofs.Common.{ap, ◌∙◌, arith, ltb-false}
 use Rattle.model.specs.Bytes.{Bytes}
 use Rattle.model.specs.Judgement.{done, refuses, judged_number, written_within}
-use Rattle.model.specs.Laws.Logic.{or_false_l}
+use Rattle.model.proofs.Laws.Logic.{or_false_l}
 use Rattle.model.specs.Limits.{max_steps}
 use Rattle.model.specs.Refusal.{answer_too_large, output_too_short}
 use Rattle.model.specs.Rule.{Rule}

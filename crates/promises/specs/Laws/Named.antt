@@ -4,10 +4,10 @@ use Rattle.std.proofs.Common.{inl, inr, sym, ap, subst, ◌∙◌, arith}
 use Rattle.model.specs.Bytes.{Bytes}
 use Rattle.model.specs.Eval.{run, Outcome, value, refusal, outcome}
 use Rattle.model.specs.Judgement.{Judged, done, refuses, judged_number, rule_in, sheet_in, written_within, written, answer_of}
-use Rattle.model.specs.Laws.Logic.{or_e, T→true}
-use Rattle.model.specs.Laws.Types.{same_ty_refl}
+use Rattle.model.proofs.Laws.Logic.{or_e, T→true}
+use Rattle.model.proofs.Laws.Types.{same_ty_refl}
 use Rattle.model.specs.Limits.{max_steps}
-use Rattle.model.specs.Main.{EndsWell}
+use Rattle.model.proofs.Main.{EndsWell}
 use Rattle.model.specs.Refusal.{not_rule, not_sheet}
 use Rattle.model.specs.Run.{steps}
 use Rattle.model.specs.Shape.{shape}
@@ -15,7 +15,7 @@ use Rattle.model.specs.Sheet.{sheet_of, fits}
 use Rattle.model.specs.Types.{Types, belongs, has_type, is_in, same_ty, type_bits}
 use Rattle.model.specs.Value.{Value}
 use Rattle.model.specs.declared.Ty.{Ty}
-use Rattle.syntax.specs.Demand3.{demand_3a_bytes}
+use Rattle.syntax.proofs.Demand3.{demand_3a_bytes}
 use Rattle.pipeline.specs.Areas.{is_short}
 use Rattle.pipeline.specs.Laws.Stages.{text_held, record_held, not_refused, number_some, check_held, fits_held}
 use Rattle.pipeline.specs.Stage.{Stage, passed, refused, rule_text, sheet_text, record_text, read_as}

@@ -9,7 +9,7 @@ use Rattle.model.specs.Refusal.{not_rule}
 use Rattle.model.specs.Rule.{Rule}
 use Rattle.model.specs.Run.{steps}
 use Rattle.model.specs.Shape.{shape}
-use Rattle.syntax.specs.Demand3.{demand_3b_bytes}
+use Rattle.syntax.proofs.Demand3.{demand_3b_bytes}
 use Rattle.pipeline.specs.Laws.Stages.{TextHeld, text_held, record_held, not_refused, EvaluateHeld, evaluate_held}
 use Rattle.pipeline.specs.Stage.{passed, rule_text}
 use Rattle.pipeline.specs.Texts.{TextRead, rule_stage, TextsRead, evaluate_stage}

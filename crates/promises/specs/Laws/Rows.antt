@@ -5,9 +5,9 @@ use Rattle.std.proofs.Common.{sym, ap, subst, ◌∙◌}
 use Prim.Native.String.{String}
 use Rattle.model.specs.Bytes.{Bytes, ascii}
 use Rattle.model.specs.Judgement.{Judged, done, refuses, judged_number, Answer, answer_of}
-use Rattle.model.specs.Laws.Option.{bind_some}
-use Rattle.model.specs.Laws.Rows as rows
-use Rattle.model.specs.Laws.Rows.{arr, op, str, var, int, row_record, reduce_rule}
+use Rattle.model.proofs.Laws.Option.{bind_some}
+use Rattle.model.proofs.Laws.Rows as rows
+use Rattle.model.proofs.Laws.Rows.{arr, op, str, var, int, row_record, reduce_rule}
 use Rattle.model.specs.Limits.{max_text_bytes, max_values, max_nesting, max_integer, max_steps}
 use Rattle.model.specs.Refusal.{Refusal, evaluating, fault, wrong_kind, out_of_range, out_of_steps}
 use Rattle.model.specs.Rule.{Rule}

@@ -3,7 +3,7 @@ use Rattle.std.specs.Prelude.{Bool, true, false, ◌≡◌, refl, ℕ, ltb, leng
 use Rattle.std.proofs.Common.{sym, ap, subst, ◌∙◌, ltb-false}
 use Rattle.model.specs.Bytes.{Bytes}
 use Rattle.model.specs.Judgement.{Judged, done, refuses, rule_in, sheet_in, answer_of}
-use Rattle.model.specs.Laws.Logic.{or_false_l, or_false_r}
+use Rattle.model.proofs.Laws.Logic.{or_false_l, or_false_r}
 use Rattle.model.specs.Refusal.{number, invalid_argument, reading}
 use Rattle.model.specs.Rule.{Rule}
 use Rattle.model.specs.Sheet.{Sheet}

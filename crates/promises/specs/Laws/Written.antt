@@ -5,13 +5,13 @@ use Rattle.std.proofs.Math.Seq.{take-append_seam}
 use Rattle.model.specs.Bytes.{Bytes}
 use Rattle.model.specs.Eval.{run}
 use Rattle.model.specs.Judgement.{Judged, done, refuses, rule_in, answer_of}
-use Rattle.model.specs.Laws.Logic.{clash}
+use Rattle.model.proofs.Laws.Logic.{clash}
 use Rattle.model.specs.Limits.{max_text_bytes}
 use Rattle.model.specs.Refusal.{not_json, not_rule}
 use Rattle.model.specs.Run.{steps}
 use Rattle.model.specs.Shape.{shape}
 use Rattle.model.specs.Value.{Value}
-use Rattle.syntax.specs.Demand2.{answer_reads_back}
+use Rattle.syntax.proofs.Demand2.{answer_reads_back}
 use Rattle.syntax.specs.Layout.{padded}
 use Rattle.syntax.specs.Read as readings
 use Rattle.syntax.specs.Read.{then, ◌>>=◌, give, fail, if, peek, eat, white, value, on_start, text, answer, read}

@@ -3,8 +3,8 @@ use Rattle.std.specs.Prelude.{◌≡◌, refl, suc, length}
 use Rattle.std.proofs.Common.{ap, arith}
 use Rattle.std.proofs.Math.Option.{Option, none, some}
 use Rattle.model.specs.Bytes.{Bytes}
-use Rattle.model.specs.Laws.Logic.{clash}
-use Rattle.model.specs.Laws.Option.{none_some}
+use Rattle.model.proofs.Laws.Logic.{clash}
+use Rattle.model.proofs.Laws.Option.{none_some}
 use Rattle.model.specs.Option.{◌>>=◌}
 use Rattle.model.specs.Rule.{Rule, Rules, no_rules, rule}
 use Rattle.model.specs.Shape.{Operand, operands_of, exactly2, exactly3, unit_named}

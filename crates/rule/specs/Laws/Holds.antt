@@ -3,8 +3,8 @@ use Rattle.std.proofs.Math.Option.{some}
 use Rattle.std.specs.Prelude.{◌≡◌, refl, ℕ, suc, ◌≤◌}
 use Rattle.std.proofs.Common.{sym, ap, ◌∙◌, arith}
 use Rattle.model.specs.Bytes.{Bytes}
-use Rattle.model.specs.Laws.Logic.{clash}
-use Rattle.model.specs.Laws.Option.{bind_some}
+use Rattle.model.proofs.Laws.Logic.{clash}
+use Rattle.model.proofs.Laws.Option.{bind_some}
 use Rattle.model.specs.Rule.{Rule, Rules, no_rules, rule}
 use Rattle.model.specs.Shape.{shape, rules_of, operands_of}
 use Rattle.model.specs.Size.{items_nesting}

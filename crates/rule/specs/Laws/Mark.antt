@@ -3,7 +3,7 @@ use Rattle.std.specs.Prelude.{◌≡◌, refl, Bool, true, false, cond, ℕ, eqb
 use Rattle.std.proofs.Common.{sym, ap, ◌∙◌}
 use Rattle.std.proofs.Math.Option.{Option, none, some}
 use Rattle.model.specs.Bytes.{Bytes}
-use Rattle.model.specs.Laws.Option.{All}
+use Rattle.model.proofs.Laws.Option.{All}
 use Rattle.model.specs.Rule.{Operation}
 use Rattle.model.specs.Shape.{Keyword as ModelKeyword, var, if, reduce, and, plus_time, extract_from_uvci, counted, keyword_named}
 use Rattle.model.specs.declared.Comparison.TheVariants.{Greater, Less, GreaterOrEqual, LessOrEqual}

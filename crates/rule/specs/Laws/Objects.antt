@@ -5,7 +5,7 @@ use Rattle.std.proofs.Common.{sym, ◌∙◌, arith}
 use Rattle.std.proofs.Math.Option.{none, some}
 use borrow.Author.Tests.{eqb-true, eq-eqb}
 use Rattle.model.specs.Bytes.{Bytes}
-use Rattle.model.specs.Laws.Logic.{clash}
+use Rattle.model.proofs.Laws.Logic.{clash}
 use Rattle.model.specs.Option.{◌>>=◌}
 use Rattle.model.specs.Path.{path_of}
 use Rattle.model.specs.Rule.{Rule}

@@ -7,9 +7,9 @@ use Prim.Native.Nat.{ℕ, zero, suc, ◌+◌, ◌≤◌, ◌<◌}
 use Rattle.std.proofs.Math.Decide.{dec_lt}
 use Rattle.std.proofs.lemmas.Bool.{lt-leb, eqb-false}
 use Rattle.model.specs.Bytes.{Bytes}
-use Rattle.model.specs.Laws.Logic.{clash}
-use Rattle.model.specs.Laws.Option.{none_some}
-use Rattle.model.specs.Laws.Widths.{two_values}
+use Rattle.model.proofs.Laws.Logic.{clash}
+use Rattle.model.proofs.Laws.Option.{none_some}
+use Rattle.model.proofs.Laws.Widths.{two_values}
 use Rattle.model.specs.Option.{◌>>=◌, when, is_some}
 use Rattle.model.specs.Rule.{Operation, Rule, apply, Rules, no_rules, rule}
 use Rattle.model.specs.Shape.{Keyword as ModelKeyword, keyword_named, unit_named, rules_of, operands_of, exactly2, exactly3, and_of, content_of, build, shape}

@@ -6,7 +6,7 @@ use borrow.Author.Tests.{lt-ltb, le-ltb}
 use Rattle.std.proofs.Math.Seq.{get_or-take, length-take-le}
 use Rattle.area.specs.Words.{word_at}
 use Rattle.model.specs.Bytes.{Bytes}
-use Rattle.model.specs.Laws.Logic.{clash}
+use Rattle.model.proofs.Laws.Logic.{clash}
 use Rattle.model.specs.Limits.{max_values}
 use Rattle.model.specs.Value.{Value, Values, Members}
 use Rattle.syntax.specs.Layout.{row_bytes, entry_bytes, rows_part, table_bytes}

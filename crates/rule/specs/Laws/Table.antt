@@ -3,7 +3,7 @@ use Rattle.std.specs.Prelude.{◌≡◌, refl, ℕ, ◌≤◌}
 use Rattle.std.proofs.Math.Option.{some}
 use Rattle.std.proofs.Common.{arith}
 use Rattle.model.specs.Bytes.{Bytes, same_bytes}
-use Rattle.model.specs.Laws.Option.{All, all_some}
+use Rattle.model.proofs.Laws.Option.{All, all_some}
 use Rattle.model.specs.Rule.{Operation}
 use Rattle.model.specs.Shape.{Keyword, var, if, reduce, and, plus_time, extract_from_uvci, counted, keywords, keyword_named}
 use Rattle.keywords.specs.declared.Op.{Op}

@@ -3,12 +3,12 @@ use Rattle.std.proofs.Math.Option.{some}
 use Rattle.std.specs.Prelude.{◌≡◌}
 use Rattle.std.proofs.Common.{arith}
 use Rattle.model.specs.Bytes.{Bytes}
-use Rattle.model.specs.Laws.Widths.{two_values}
+use Rattle.model.proofs.Laws.Widths.{two_values}
 use Rattle.model.specs.Limits.{max_nesting}
 use Rattle.model.specs.Rule.{Rule}
 use Rattle.model.specs.Shape.{shape}
 use Rattle.model.specs.Value.{Value}
-use Rattle.syntax.specs.Laws.Sound.{sound}
+use Rattle.syntax.proofs.Laws.Sound.{sound}
 use Rattle.table.specs.WasRead.{WasRead}
 use Rattle.table.specs.Laws.Standing.{was_read_denotes}
 use Rattle.rule.specs.Holds.{Holds}

@@ -5,8 +5,8 @@ use Rattle.std.proofs.Math.Option.{Option, none, some}
 use Prim.Native.Nat.{ℕ, zero, suc, ◌+◌, ◌*◌, ◌≤◌, ◌<◌}
 use Rattle.std.proofs.Math.Decide.{dec_lt}
 use Rattle.model.specs.Bytes.{Bytes}
-use Rattle.model.specs.Laws.Logic.{clash}
-use Rattle.model.specs.Laws.Widths.{two_values}
+use Rattle.model.proofs.Laws.Logic.{clash}
+use Rattle.model.proofs.Laws.Widths.{two_values}
 use Rattle.model.specs.Limits.{max_values}
 use Rattle.model.specs.Option.{◌>>=◌, is_some}
 use Rattle.model.specs.Path.{path_of}

@@ -5,7 +5,7 @@ use Rattle.model.specs.Bytes.{Bytes}
 use Rattle.model.specs.Limits.{max_values}
 use Rattle.model.specs.Value.{Value, scalar, array, object, integer, string, Values, no_items, item, Members, no_members, member, member_count}
 use Rattle.syntax.specs.Layout.{item_count, unbiased}
-use Rattle.syntax.specs.Laws.Biased.{unbiased_biased}
+use Rattle.syntax.proofs.Laws.Biased.{unbiased_biased}
 use Rattle.table.specs.declared.node.Node.{Node}
 use Rattle.table.specs.declared.node.Node.TheVariants.{Array, Object}
 use Rattle.table.specs.declared.node.Rows.{Rows}

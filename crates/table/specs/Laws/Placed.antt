@@ -9,7 +9,7 @@ use Rattle.model.specs.Limits.{max_values}
 use Rattle.model.specs.Size.{value_count, items_count, members_count}
 use Rattle.model.specs.Value.{Value, array, object, Values, Members, member_count}
 use Rattle.syntax.specs.Layout.{item_count, row_bytes}
-use Rattle.syntax.specs.Laws.Layout.{count_positive}
+use Rattle.syntax.proofs.Laws.Layout.{count_positive}
 use Rattle.table.specs.declared.node.Node.{Node}
 use Rattle.table.specs.declared.node.Node.TheVariants.{Null, False, True, Integer, String, Array, Object}
 use Rattle.table.specs.declared.node.Rows.{Rows}

@@ -7,16 +7,16 @@ use Rattle.std.proofs.Math.Dec as dec
 use Rattle.std.proofs.Math.ListN.{length, length-append}
 use Rattle.model.specs.Bounds.{bounded, bounded_items, bounded_members}
 use Rattle.model.specs.Bytes.{Bytes}
-use Rattle.model.specs.Laws.Logic.{and_l, and_r}
+use Rattle.model.proofs.Laws.Logic.{and_l, and_r}
 use Rattle.model.specs.Limits.{max_text_bytes, max_values}
 use Rattle.model.specs.Size.{value_count, items_count, members_count}
 use Rattle.model.specs.Value.{Value, array, object, Values, no_items, item, Members, no_members, member, member_count, instant_free, instant_free_items, instant_free_members}
 use Rattle.syntax.specs.Layout.{row_bytes, Label, unnamed, row, item_count, rows_of, item_rows, member_rows, strings_of, item_strings, member_strings}
-use Rattle.syntax.specs.Laws.Layout.{length_row, length_rows, count_positive}
-use Rattle.syntax.specs.Laws.Sound.{sound}
-use Rattle.syntax.specs.Laws.Stands.{Stands, front, back, part_stands, behind}
-use Rattle.syntax.specs.Laws.StringsFit.{strings_small}
-use Rattle.syntax.specs.Laws.WellFormed.{read_well_formed}
+use Rattle.syntax.proofs.Laws.Layout.{length_row, length_rows, count_positive}
+use Rattle.syntax.proofs.Laws.Sound.{sound}
+use Rattle.syntax.proofs.Laws.Stands.{Stands, front, back, part_stands, behind}
+use Rattle.syntax.proofs.Laws.StringsFit.{strings_small}
+use Rattle.syntax.proofs.Laws.WellFormed.{read_well_formed}
 use Rattle.table.specs.Denotes.{Denotes, RowItems, RowMembers}
 use Rattle.table.specs.Node.{rows, node_at, next_row, name_at}
 use Rattle.table.specs.Placed.{row_after}

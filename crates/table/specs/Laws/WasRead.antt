@@ -15,9 +15,9 @@ use Rattle.model.specs.Limits.{max_values}
 use Rattle.model.specs.Size.{value_count}
 use Rattle.model.specs.Value.{Value}
 use Rattle.syntax.specs.Layout.{row_bytes, entry_bytes, padded, rows_of, rows_part, strings_of, table_of, unnamed}
-use Rattle.syntax.specs.Laws.Layout.{length_rows}
-use Rattle.syntax.specs.Laws.Sound.{sound}
-use Rattle.syntax.specs.Laws.Stands.{Stands, starts}
+use Rattle.syntax.proofs.Laws.Layout.{length_rows}
+use Rattle.syntax.proofs.Laws.Sound.{sound}
+use Rattle.syntax.proofs.Laws.Stands.{Stands, starts}
 use Rattle.table.specs.declared.node.Node.TheVariants.{Null}
 use Rattle.table.specs.declared.row.Row.{Row}
 use Rattle.table.specs.Node.{node_at, next_row, name_at}

@@ -3,7 +3,7 @@ use Rattle.std.specs.Prelude.{Bool, true, false, ◌&&◌, ◌||◌, not, cond, 
 use Rattle.std.proofs.Math.Bool.{and-true, and-false, and-or_distrib_left}
 use Rattle.std.proofs.Common.{sym, ap, ap₂, ◌∙◌}
 use Rattle.std.proofs.Math.Path.{fun_ext}
-use Rattle.model.specs.Laws.Types.{is_in_++, same_ty→≡}
+use Rattle.model.proofs.Laws.Types.{is_in_++, same_ty→≡}
 use Rattle.model.specs.Lists.{any, all}
 use Rattle.model.specs.TypeCheck.{item_types, items_types}
 use Rattle.model.specs.Types.{Types, is_in, same_ty, supertypes, passes, all_types, type_bits}

@@ -2,8 +2,8 @@
 use Rattle.std.specs.Prelude.{Bool, true, false, ◌||◌, ◌&&◌, not, [], ◌∷◌, ◌++◌, ◌≡◌, refl, T}
 use Rattle.std.proofs.Common.{sym, ap, ap₂, ◌∙◌, subst}
 use Rattle.std.proofs.Math.Path.{fun_ext}
-use Rattle.model.specs.Laws.Logic.{or_e, or_l, or_r, T→true}
-use Rattle.model.specs.Laws.Types.{is_in_++, same_ty→≡, same_ty_refl, type_bits_same}
+use Rattle.model.proofs.Laws.Logic.{or_e, or_l, or_r, T→true}
+use Rattle.model.proofs.Laws.Types.{is_in_++, same_ty→≡, same_ty_refl, type_bits_same}
 use Rattle.model.specs.Lists.{any, all}
 use Rattle.model.specs.TypeCheck.{item_types, items_types}
 use Rattle.model.specs.Types.{Types, is_in, same_ty, supertypes, passes, belongs, has_type, type_bits}

@@ -10,19 +10,19 @@ use Rattle.std.proofs.lemmas.List.{length-replicate}
 use Rattle.area.specs.Words.{word, word_at}
 use Rattle.model.specs.Bounds.{bounded, bounded_items, bounded_members}
 use Rattle.model.specs.Bytes.{Bytes}
-use Rattle.model.specs.Laws.Logic.{and_l, and_r}
-use Rattle.model.specs.Laws.Widths.{text_small, values_small}
+use Rattle.model.proofs.Laws.Logic.{and_l, and_r}
+use Rattle.model.proofs.Laws.Widths.{text_small, values_small}
 use Rattle.model.specs.Limits.{max_integer, max_text_bytes, max_values}
 use Rattle.model.specs.Option.{or_else}
 use Rattle.model.specs.Size.{value_count, items_count, members_count}
 use Rattle.model.specs.Value.{Value, scalar, instant, array, object, Scalar, null, boolean, integer, string, Values, no_items, item, Members, no_members, member, member_count, within_limits, instant_free, instant_free_items, instant_free_members}
 use Rattle.syntax.specs.Layout.{row_bytes, entry_bytes, table_bytes, Label, unnamed, row, biased, item_count, scalar_row, rows_of, item_rows, member_rows, strings_of, item_strings, member_strings, padded, table_of, strings_area_of}
-use Rattle.syntax.specs.Laws.Biased.{biased_small, unbiased_biased}
-use Rattle.syntax.specs.Laws.Layout.{length_row, length_rows, count_positive, kind_below, size_above}
-use Rattle.syntax.specs.Laws.Sound.{sound}
-use Rattle.syntax.specs.Laws.Stands.{Stands, front, back, part_stands, word_stands, behind, starts}
-use Rattle.syntax.specs.Laws.StringsFit.{strings_small}
-use Rattle.syntax.specs.Laws.WellFormed.{read_well_formed}
+use Rattle.syntax.proofs.Laws.Biased.{biased_small, unbiased_biased}
+use Rattle.syntax.proofs.Laws.Layout.{length_row, length_rows, count_positive, kind_below, size_above}
+use Rattle.syntax.proofs.Laws.Sound.{sound}
+use Rattle.syntax.proofs.Laws.Stands.{Stands, front, back, part_stands, word_stands, behind, starts}
+use Rattle.syntax.proofs.Laws.StringsFit.{strings_small}
+use Rattle.syntax.proofs.Laws.WellFormed.{read_well_formed}
 use Rattle.syntax.specs.Read.{done, read}
 use Rattle.table.specs.declared.row.Row.{Row}
 use Rattle.table.specs.declared.row.Span.{Span}

@@ -8,7 +8,7 @@ use Rattle.std.proofs.Math.Decide.{dec_lt}
 use native.Mathlib.Omega.{arith}
 use Rattle.std.proofs.lemmas.Bool.{lt-leb}
 use Rattle.model.specs.Bytes.{Bytes}
-use Rattle.model.specs.Laws.Logic.{and_l, and_r, clash}
+use Rattle.model.proofs.Laws.Logic.{and_l, and_r, clash}
 use Rattle.model.specs.Limits.{max_integer}
 use Rattle.model.specs.Option.{◌>>=◌}
 use Rattle.model.specs.Value.{within_limits}

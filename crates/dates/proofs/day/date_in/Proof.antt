@@ -1,6 +1,6 @@
 use borrow.Author.Rules.{rules}
 use Rattle.model.specs.DateText.{date_in}
-use Rattle.model.specs.Laws.Calendar.{same_parts}
+use Rattle.model.proofs.Laws.Calendar.{same_parts}
 use Rattle.dates.proofs.day.date_in.Statement.{statement}
 use Rattle.dates.proofs.day.date_in.Tie as tie
 

@@ -2,7 +2,7 @@ use borrow.Author.Rules.{rules}
 use mathlib.Core.Path.{refl}
 use native.Mathlib.Omega.{arith}
 use Rattle.model.specs.DateText.{offset_digits}
-use Rattle.model.specs.Laws.Branches.{taken, passed}
+use Rattle.model.proofs.Laws.Branches.{taken, passed}
 use Rattle.dates.proofs.Offsets.{offset_read}
 use Rattle.dates.proofs.offset.offset_digits.Statement.{statement}
 use Rattle.dates.proofs.offset.offset_digits.Tie as tie

@@ -7,9 +7,9 @@ use lib.IntN.{pos, neg_ℤ}
 use lib.ListN.{length}
 use Rattle.model.specs.DateText.{to_utc, offset_digits}
 use Rattle.model.specs.Bytes.{ascii}
-use Rattle.model.specs.Laws.DateText.{begins_length}
+use Rattle.model.proofs.Laws.DateText.{begins_length}
 use Rattle.dates.proofs.Shapes.{lent_is}
-use Rattle.model.specs.Laws.Branches.{answered, taken, passed}
+use Rattle.model.proofs.Laws.Branches.{answered, taken, passed}
 use Rattle.dates.proofs.offset.to_utc.Statement.{statement}
 use Rattle.dates.proofs.offset.to_utc.Tie as tie
 

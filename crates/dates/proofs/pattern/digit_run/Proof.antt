@@ -3,7 +3,7 @@ use Prim.Native.Nat.{◌≤◌, ◌-◌, ◌+◌}
 use native.Mathlib.Omega.{arith}
 use lib.ListN.{length, drop}
 use Rattle.model.specs.DateText.{digit_run}
-use Rattle.model.specs.Laws.Branches.{answered_true, answered_false}
+use Rattle.model.proofs.Laws.Branches.{answered_true, answered_false}
 use Rattle.dates.proofs.Shapes.{run_on, run_stops, run_ends}
 use Rattle.dates.proofs.pattern.digit_run.Statement.{statement}
 use Rattle.dates.proofs.pattern.digit_run.Tie as tie

@@ -3,7 +3,7 @@ use Prim.Native.Nat.{◌≤◌, ◌-◌}
 use native.Mathlib.Omega.{arith}
 use lib.ListN.{length, drop}
 use Rattle.model.specs.DateText.{starts_like}
-use Rattle.model.specs.Laws.Branches.{answered_true, answered_false}
+use Rattle.model.proofs.Laws.Branches.{answered_true, answered_false}
 use Rattle.dates.proofs.Shapes.{begins_on, begins_short, begins_end}
 use Rattle.dates.proofs.pattern.starts_like.Statement.{statement}
 use Rattle.dates.proofs.pattern.starts_like.Tie as tie

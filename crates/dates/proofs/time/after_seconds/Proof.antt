@@ -5,9 +5,9 @@ use Prim.Native.Nat.{◌≤◌}
 use lib.ListN.{length}
 use Rattle.model.specs.Bytes.{ascii}
 use Rattle.model.specs.DateText.{starts_like}
-use Rattle.model.specs.Laws.DateText.{begins_length}
-use Rattle.model.specs.Laws.Logic.{true→t}
-use Rattle.model.specs.Laws.Branches.{answered_true, answered_false}
+use Rattle.model.proofs.Laws.DateText.{begins_length}
+use Rattle.model.proofs.Laws.Logic.{true→t}
+use Rattle.model.proofs.Laws.Branches.{answered_true, answered_false}
 use Rattle.dates.proofs.Times.{no_fraction, no_digits, many_digits, some_digits}
 use Rattle.dates.proofs.time.after_seconds.Statement.{statement}
 use Rattle.dates.proofs.time.after_seconds.Tie as tie

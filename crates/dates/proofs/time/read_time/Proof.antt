@@ -5,9 +5,9 @@ use native.Mathlib.Omega.{arith}
 use lib.ListN.{length}
 use Rattle.model.specs.Bytes.{ascii}
 use Rattle.model.specs.DateText.{date_in, midnight}
-use Rattle.model.specs.Laws.DateText.{begins_length, year_bound}
-use Rattle.model.specs.Laws.Logic.{true→t}
-use Rattle.model.specs.Laws.Branches.{answered_true, answered_false}
+use Rattle.model.proofs.Laws.DateText.{begins_length, year_bound}
+use Rattle.model.proofs.Laws.Logic.{true→t}
+use Rattle.model.proofs.Laws.Branches.{answered_true, answered_false}
 use Rattle.dates.proofs.Times.{Starts, starts, no_answer, no_date, no_time, at_time}
 use Rattle.dates.proofs.time.read_time.Statement.{statement}
 use Rattle.dates.proofs.time.read_time.Tie as tie

@@ -2,7 +2,7 @@ use mathlib.Core.Path.{◌≡◌}
 use Prim.Native.Nat.{◌+◌, ◌-◌, ◌≤◌}
 use native.Mathlib.Omega.{arith}
 use Rattle.model.specs.Calendar.{months, sum_first}
-use Rattle.model.specs.Laws.Calendar.{sum_next, date_at_lem, next_month}
+use Rattle.model.proofs.Laws.Calendar.{sum_next, date_at_lem, next_month}
 use Rattle.days.proofs.day.date_in_year.Statement.{statement}
 use Rattle.days.proofs.day.date_in_year.Tie as tie
 

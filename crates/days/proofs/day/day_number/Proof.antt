@@ -1,7 +1,7 @@
 use Prim.Native.Nat.{◌≤◌}
 use native.Mathlib.Omega.{arith}
 use Rattle.model.specs.Calendar.{day_number}
-use Rattle.model.specs.Laws.Calendar.{Valid, day_bound, valid_parts}
+use Rattle.model.proofs.Laws.Calendar.{Valid, day_bound, valid_parts}
 use borrow.Author.Rules.{rules}
 use Rattle.days.proofs.day.day_number.Statement.{statement}
 use Rattle.days.proofs.day.day_number.Tie as tie

@@ -1,6 +1,6 @@
 use mathlib.Core.Path.{sym, ap, ◌∙◌}
 use borrow.Author.Tests.{not-true, not-false, le-leb, lt-leb}
-use Rattle.model.specs.Laws.Logic.{true→t}
+use Rattle.model.proofs.Laws.Logic.{true→t}
 use Rattle.days.specs.declared.day.DayAnswer.TheVariants.{Is}
 use borrow.Author.Rules.{rules}
 use Rattle.days.proofs.day.day_of.Statement.{statement}

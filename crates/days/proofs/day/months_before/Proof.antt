@@ -2,7 +2,7 @@ use mathlib.Core.Path.{◌≡◌, ap}
 use Prim.Native.Nat.{ℕ, ◌-◌, ◌*◌, ◌≤◌}
 use native.Mathlib.Omega.{arith}
 use Rattle.model.specs.Calendar.{months, sum_first}
-use Rattle.model.specs.Laws.Calendar.{month_bound, sum_next}
+use Rattle.model.proofs.Laws.Calendar.{month_bound, sum_next}
 use Rattle.days.proofs.day.months_before.Statement.{statement}
 use Rattle.days.proofs.day.months_before.Tie as tie
 

@@ -1,5 +1,5 @@
 use native.Mathlib.Omega.{arith}
-use Rattle.model.specs.Laws.Calendar.{closed_form}
+use Rattle.model.proofs.Laws.Calendar.{closed_form}
 use borrow.Author.Rules.{rules}
 use Rattle.days.proofs.day.year_start.Statement.{statement}
 use Rattle.days.proofs.day.year_start.Tie as tie

@@ -1,7 +1,7 @@
 use mathlib.Core.Path.{sym}
 use native.Mathlib.Omega.{arith}
 use Rattle.model.specs.Calendar.{months}
-use Rattle.model.specs.Laws.Calendar.{table_bound}
+use Rattle.model.proofs.Laws.Calendar.{table_bound}
 use Rattle.days.proofs.Dates.{no_month}
 use borrow.Author.Rules.{rules}
 use Rattle.days.proofs.month.month_days.Statement.{statement}

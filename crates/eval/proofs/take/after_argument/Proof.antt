@@ -1,5 +1,5 @@
 use native.Mathlib.Omega.{arith}
-use Rattle.model.specs.Laws.Widths.{cells_below}
+use Rattle.model.proofs.Laws.Widths.{cells_below}
 use Rattle.eval.proofs.Literals.{literal_found, Pushing, pushing_begins, pushing_room, pushing_ends, fewer_rest, pushing_on}
 use borrow.Author.Rules.{rules}
 use Rattle.eval.proofs.take.after_argument.Statement.{statement}

@@ -1,6 +1,6 @@
 use native.Mathlib.Omega.{arith}
 use mathlib.Core.Path.{refl}
-use Rattle.model.specs.Laws.Widths.{cells_below}
+use Rattle.model.proofs.Laws.Widths.{cells_below}
 use Rattle.eval.proofs.Arguments.{asks_next, stack_room, applies}
 use borrow.Author.Rules.{rules}
 use Rattle.eval.proofs.take.arguments.Statement.{statement}

@@ -1,6 +1,6 @@
 use mathlib.Core.Path.{sym, ◌∙◌}
 use native.Mathlib.Omega.{arith}
-use Rattle.model.specs.Laws.Widths.{cells_below}
+use Rattle.model.proofs.Laws.Widths.{cells_below}
 use Rattle.eval.proofs.Taken.{no_items_there, items_done, item_next, two_puts}
 use borrow.Author.Rules.{rules}
 use Rattle.eval.proofs.take.next_item.Statement.{statement}

@@ -3,7 +3,7 @@ use Prim.Native.Nat.{◌/◌}
 use native.Mathlib.Omega.{arith}
 use lib.IntN.{pos, ◌*ℤ◌}
 use mir.Facts.{to_z-of_z}
-use Rattle.model.specs.Laws.Calendar.{Dated, dated}
+use Rattle.model.proofs.Laws.Calendar.{Dated, dated}
 use Rattle.instants.proofs.Shifts.{months_moved}
 use borrow.Author.Rules.{rules}
 use Rattle.instants.proofs.shift.shift_months.Statement.{statement}

@@ -3,7 +3,7 @@ use mathlib.Core.Path.{refl}
 use Prim.Native.Nat.{◌<◌}
 use native.Mathlib.Omega.{arith}
 use lib.ListN.{length}
-use Rattle.model.specs.Laws.Widths.{text_below, values_below}
+use Rattle.model.proofs.Laws.Widths.{text_below, values_below}
 use Rattle.json_reader.specs.Inner.{failed, stopped}
 use Rattle.json_reader.proofs.Values.{separated}
 use borrow.Author.Rules.{rules}

@@ -2,7 +2,7 @@
 use Prim.Native.Nat.{◌<◌}
 use native.Mathlib.Omega.{arith}
 use lib.ListN.{length}
-use Rattle.model.specs.Laws.Widths.{text_below}
+use Rattle.model.proofs.Laws.Widths.{text_below}
 use Rattle.json_reader.proofs.Values.{string_end}
 use Rattle.json_reader.proofs.Names.{law_no_name, law_name_chars, law_enter_room, law_repeated, law_no_colon, law_name}
 use borrow.Author.Tests.{not-true, not-false}

@@ -1,7 +1,7 @@
 -- The row that is stored.
 use mathlib.Core.Path.{ap}
 use native.Mathlib.Omega.{arith}
-use Rattle.model.specs.Laws.Widths.{text_below, values_below}
+use Rattle.model.proofs.Laws.Widths.{text_below, values_below}
 use borrow.Author.Rules.{rules}
 use Rattle.json_reader.specs.declared.step.Step.TheVariants.{Reached}
 use Rattle.json_reader.proofs.row.empty.Statement.{statement}

@@ -1,7 +1,7 @@
 -- Four words one after another make the row.
 use native.Mathlib.Omega.{arith}
 use borrow.Author.Rules.{rules}
-use Rattle.model.specs.Laws.Widths.{text_below, values_below}
+use Rattle.model.proofs.Laws.Widths.{text_below, values_below}
 use Rattle.syntax.specs.Layout.{row_bytes, entry_bytes}
 use Rattle.json_reader.proofs.Rows.{four_words}
 use Rattle.json_reader.proofs.row.put_row.Statement.{statement}

@@ -1,6 +1,6 @@
 -- Each way out is a law of Values.
 use native.Mathlib.Omega.{arith}
-use Rattle.model.specs.Laws.Widths.{values_below}
+use Rattle.model.proofs.Laws.Widths.{values_below}
 use Rattle.json_reader.proofs.Values.{kind_small, law_literal, law_literal_bad}
 use borrow.Author.Rules.{rules}
 use Rattle.json_reader.proofs.scalar.read_literal.Statement.{statement}

@@ -1,6 +1,6 @@
 -- Each way out is a law of Values.
 use native.Mathlib.Omega.{arith}
-use Rattle.model.specs.Laws.Widths.{values_below}
+use Rattle.model.proofs.Laws.Widths.{values_below}
 use Rattle.json_reader.proofs.Values.{law_number, law_number_bad}
 use borrow.Author.Rules.{rules}
 use Rattle.json_reader.proofs.scalar.read_number.Statement.{statement}

@@ -1,6 +1,6 @@
 -- Each way out is a law of Values.
 use native.Mathlib.Omega.{arith}
-use Rattle.model.specs.Laws.Widths.{text_below, values_below}
+use Rattle.model.proofs.Laws.Widths.{text_below, values_below}
 use Rattle.json_reader.proofs.Values.{string_end, law_string, law_string_bad}
 use borrow.Author.Rules.{rules}
 use Rattle.json_reader.proofs.scalar.read_string.Statement.{statement}

@@ -4,7 +4,7 @@ use Prim.Native.Nat.{ℕ, ◌+◌, ◌*◌, ◌-◌, ◌≤◌, ◌<◌}
 use native.Mathlib.Omega.{arith}
 use borrow.Author.Rules.{rules}
 use lib.ListN.{length}
-use Rattle.model.specs.Laws.Widths.{nesting_below, values_below}
+use Rattle.model.proofs.Laws.Widths.{nesting_below, values_below}
 use Rattle.json_reader.proofs.Values.{started, breaks, closes, continued, law_none, law_much, law_word, law_minus, law_digit, law_quote, law_bracket, law_brace, law_array, law_array_empty, law_object, law_object_empty}
 use Rattle.json_reader.proofs.Items.{ItemsInv, items_start, items_broken, items_closed, items_next, items_less}
 use Rattle.json_reader.proofs.Members.{named_as, MembersInv, members_start, members_no_name, members_broken, members_closed, members_next, members_less}

@@ -1,7 +1,7 @@
 use Prim.Native.Nat.{◌-◌}
 use native.Mathlib.Omega.{arith}
 use lib.ListN.{length}
-use Rattle.model.specs.Laws.Branches.{answered_true, answered_false}
+use Rattle.model.proofs.Laws.Branches.{answered_true, answered_false}
 use Rattle.paths.proofs.Digits.{index_zero, ReadTo, index_begins, index_ends, index_low, index_high, index_past, index_on}
 use Rattle.paths.proofs.index.read_index.Statement.{statement}
 use Rattle.paths.proofs.index.read_index.Tie as tie

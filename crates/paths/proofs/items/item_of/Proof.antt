@@ -1,6 +1,6 @@
 use mathlib.Core.Path.{ap, sym, ◌∙◌}
 use native.Mathlib.Omega.{arith}
-use Rattle.model.specs.Laws.Widths.{values_below}
+use Rattle.model.proofs.Laws.Widths.{values_below}
 use Rattle.table.specs.Node.{node_at}
 use Rattle.paths.proofs.Rows.{flat_item, indexed_item}
 use borrow.Author.Rules.{rules}

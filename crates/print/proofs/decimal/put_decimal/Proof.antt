@@ -1,4 +1,4 @@
-use Rattle.model.specs.Laws.Widths.{text_below}
+use Rattle.model.proofs.Laws.Widths.{text_below}
 use Rattle.print.proofs.Digits.{put_digits}
 use borrow.Author.Rules.{rules}
 use Rattle.print.proofs.decimal.put_decimal.Statement.{statement}

@@ -1,5 +1,5 @@
 use borrow.Author.Rules.{rules}
-use Rattle.model.specs.Laws.Widths.{text_below}
+use Rattle.model.proofs.Laws.Widths.{text_below}
 use Rattle.print.proofs.Quoted.{put_instant_bytes}
 use Rattle.print.proofs.instant.put_instant.Statement.{statement}
 use Rattle.print.proofs.instant.put_instant.Tie as tie

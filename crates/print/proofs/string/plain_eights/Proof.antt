@@ -2,7 +2,7 @@ use mathlib.Core.Path.{refl}
 use Prim.Native.Nat.{◌-◌}
 use borrow.Author.Rules.{rules}
 use lib.ListN.{length}
-use Rattle.model.specs.Laws.Branches.{answered_true}
+use Rattle.model.proofs.Laws.Branches.{answered_true}
 use Rattle.print.specs.Inner.{Passed}
 use Rattle.print.proofs.Runs.{passed_none, passed_both}
 use Rattle.print.proofs.string.plain_eights.Statement.{statement}

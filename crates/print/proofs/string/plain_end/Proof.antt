@@ -1,7 +1,7 @@
 use Prim.Native.Nat.{◌-◌}
 use borrow.Author.Rules.{rules}
 use lib.ListN.{length}
-use Rattle.model.specs.Laws.Branches.{answered_true, answered_false}
+use Rattle.model.proofs.Laws.Branches.{answered_true, answered_false}
 use Rattle.print.specs.Inner.{Passed}
 use Rattle.print.proofs.Runs.{passed_more, run_stop, run_end}
 use Rattle.print.proofs.string.plain_end.Statement.{statement}

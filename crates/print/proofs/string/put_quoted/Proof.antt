@@ -2,7 +2,7 @@ use Prim.Native.Nat.{◌+◌, ◌-◌}
 use native.Mathlib.Omega.{arith}
 use borrow.Author.Rules.{rules}
 use lib.ListN.{length}
-use Rattle.model.specs.Laws.Widths.{text_below}
+use Rattle.model.proofs.Laws.Widths.{text_below}
 use Rattle.print.specs.Laws.{put_size}
 use Rattle.print.proofs.Quoted.{Quoting, quoting_none, quoting_more, quoting_near, quoted}
 use Rattle.print.proofs.string.put_quoted.Statement.{statement}

@@ -1,5 +1,5 @@
 use borrow.Author.Rules.{rules}
-use Rattle.model.specs.Laws.Branches.{answered_true, answered_false}
+use Rattle.model.proofs.Laws.Branches.{answered_true, answered_false}
 use Rattle.print.proofs.Quoted.{goes_on, moved_escape, moved_run}
 use Rattle.print.proofs.string.put_some.Statement.{statement}
 use Rattle.print.proofs.string.put_some.Tie as tie

@@ -2,7 +2,7 @@ use borrow.Author.Rules.{rules}
 use Prim.Native.Nat.{◌-◌}
 use native.Mathlib.Omega.{arith}
 use lib.ListN.{length}
-use Rattle.model.specs.Laws.Branches.{answered_true, answered_false}
+use Rattle.model.proofs.Laws.Branches.{answered_true, answered_false}
 use Rattle.scan.proofs.Words.{Skipping, skip_start, skip_more, skip_stop, skip_end}
 use Rattle.scan.proofs.token.skip_white.Statement.{statement}
 use Rattle.scan.proofs.token.skip_white.Tie as tie

@@ -2,7 +2,7 @@ use borrow.Author.Rules.{rules}
 use mathlib.Core.Path.{◌≡◌, sym, ◌∙◌}
 use native.Mathlib.Omega.{arith}
 use borrow.Author.Tests.{eq-eqb}
-use Rattle.model.specs.Laws.Widths.{values_below}
+use Rattle.model.proofs.Laws.Widths.{values_below}
 use Rattle.viewer.specs.declared.row.RowAnswer.TheVariants as rows
 use Rattle.viewer.specs.View.{row_seen}
 use Rattle.viewer.proofs.Seen.{told_behind}

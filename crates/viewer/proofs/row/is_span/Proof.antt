@@ -4,7 +4,7 @@ use Prim.Native.Nat.{◌+◌, ◌-◌}
 use native.Mathlib.Omega.{arith}
 use borrow.Author.Tests.{lt-ltb, le-ltb, le-leb, lt-leb, eq-eqb, ne_eqb}
 use lib.Dec.{leb}
-use Rattle.model.specs.Laws.Tests.{same_eq}
+use Rattle.model.proofs.Laws.Tests.{same_eq}
 use Rattle.viewer.proofs.row.is_span.Statement.{statement}
 use Rattle.viewer.proofs.row.is_span.Tie as tie
 

@@ -2,7 +2,7 @@ use Prim.Native.Nat.{◌+◌, ◌-◌}
 use native.Mathlib.Omega.{arith}
 use borrow.Author.Tests.{lt-leb}
 use Rattle.model.specs.Limits.{max_text_bytes}
-use Rattle.model.specs.Laws.Tests.{same_le}
+use Rattle.model.proofs.Laws.Tests.{same_le}
 use Rattle.viewer.proofs.row.is_within.Statement.{statement}
 use Rattle.viewer.proofs.row.is_within.Tie as tie
 

@@ -1,5 +1,5 @@
 use borrow.Author.Rules.{rules}
-use Rattle.model.specs.Laws.Widths.{text_below}
+use Rattle.model.proofs.Laws.Widths.{text_below}
 use Rattle.print.specs.Laws.{put_byte}
 use Rattle.writer.proofs.Tokens.{then_puts}
 use Rattle.writer.proofs.part.put_front.Statement.{statement}

@@ -1,7 +1,7 @@
 use borrow.Author.Rules.{rules}
 use mathlib.Core.Path.{ap}
 use native.Mathlib.Omega.{arith}
-use Rattle.model.specs.Laws.Widths.{text_below}
+use Rattle.model.proofs.Laws.Widths.{text_below}
 use Rattle.model.specs.Writing.{string_text}
 use Rattle.print.specs.Laws.{put_none, put_byte, put_bytes_lem, string_near}
 use Rattle.writer.proofs.Pieces.{put_puts}

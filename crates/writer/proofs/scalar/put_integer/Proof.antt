@@ -1,6 +1,6 @@
 use borrow.Author.Rules.{rules}
 use native.Mathlib.Omega.{arith}
-use Rattle.model.specs.Laws.Widths.{text_below}
+use Rattle.model.proofs.Laws.Widths.{text_below}
 use Rattle.print.specs.Laws.{put_byte, put_as, put_then}
 use Rattle.writer.proofs.Tokens.{integer_up, integer_down}
 use Rattle.writer.proofs.scalar.put_integer.Statement.{statement}

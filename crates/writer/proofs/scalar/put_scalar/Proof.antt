@@ -1,6 +1,6 @@
 use borrow.Author.Rules.{rules}
 use mathlib.Core.Path.{ap}
-use Rattle.model.specs.Laws.Widths.{text_below}
+use Rattle.model.proofs.Laws.Widths.{text_below}
 use Rattle.model.specs.Writing.{string_text}
 use Rattle.print.specs.Laws.{put_none, put_bytes_lem}
 use Rattle.writer.proofs.Pieces.{put_puts}

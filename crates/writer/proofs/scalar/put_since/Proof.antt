@@ -1,6 +1,6 @@
 use borrow.Author.Rules.{rules}
 use mathlib.Core.Path.{sym, ap, ◌∙◌}
-use Rattle.model.specs.Laws.Widths.{text_below}
+use Rattle.model.proofs.Laws.Widths.{text_below}
 use Rattle.calendar.specs.Contract.{instant_result}
 use Rattle.print.specs.Laws.{put_bytes_lem, put_as}
 use Rattle.writer.proofs.Tokens.{instant_in, instant_out}

@@ -2,7 +2,7 @@ use mathlib.Core.Path.{ap}
 use Prim.Native.Nat.{ℕ, ◌+◌, ◌*◌, ◌<◌}
 use native.Mathlib.Omega.{arith}
 use borrow.Author.Rules.{rules}
-use Rattle.model.specs.Laws.Widths.{text_below}
+use Rattle.model.proofs.Laws.Widths.{text_below}
 use Rattle.model.specs.Limits.{max_text_bytes}
 use Rattle.heap.specs.Unfold.{areas, unfolded}
 use Rattle.writer.proofs.Values.{scalarlike, none_left, too_long, too_deep, scalar_value, compound_over, compound_closes, writes_short, opening_small}

@@ -1,0 +1,3 @@
+-- The theorems: Main and the demands restate what matters most, Laws prove all.
+pub mod Main
+pub mod Laws
