@@ -1,6 +1,8 @@
 // The program of document 01: evaluates rule.json on record.json, both of the folder that it is run in, and prints the
 // answer or the refusal, and the steps. No contract can say what is read or printed: the C library does both. What lies
 // between is promised: `report` makes, of the bytes of the files, the bytes that are printed (`printedFor`).
+#![tactic(auto)]
+
 ghost use Rattle.std.specs.Prelude.{◌≡◌, ◌+◌, ◌≤◌, length};
 ghost use Rattle.io.specs.Counts.{IsPrefixLen};
 ghost use Rattle.model.specs.Writing.{decimal};
@@ -31,7 +33,7 @@ const CELLS_BYTES: usize = HEAP_CELLS * CELL_BYTES;
 const REPORT_BYTES: usize = OUTPUT_BYTES + 64;
 
 // A refusal's number, or 0; the steps; the length of the answer's text.
-#[derive(Drop)]
+#[derive(Clone, Copy)]
 struct Outcome {
     refusal: u32,
     steps: u64,

@@ -1,4 +1,6 @@
 // Areas of bytes that a caller lends: clearing one, and numbers of four bytes in one.
+#![tactic(auto)]
+
 ghost use Rattle.std.specs.Prelude.{◌≡◌, ◌+◌, ◌-◌, ◌≤◌, ◌<◌, length};
 ghost use Rattle.std.proofs.lemmas.List.Edits.{sets};
 ghost use Rattle.area.specs.Contract.{word, word_at, zero_between, zero_from};

@@ -13,20 +13,20 @@ const BEFORE_1970: u64 = (0 - Instant::EARLIEST) as u64;
 const LATEST_SINCE_YEAR_0: u64 = (Instant::LATEST - Instant::EARLIEST) as u64;
 
 // 01's instant: a count of milliseconds from 1970-01-01 (Gregorian, no leap seconds).
-#[derive(Drop)]
+#[derive(Clone, Copy)]
 pub struct Instant {
     ms: i64,
 }
 
 // An instant, or 9.
-#[derive(Drop)]
+#[derive(Clone, Copy)]
 pub enum InstantAnswer {
     At(Instant),
     OutOfRange,
 }
 
 // The instant of a date or of a date text, or 8 or 9.
-#[derive(Drop)]
+#[derive(Clone, Copy)]
 pub enum DateAnswer {
     At(Instant),
     BadDate,

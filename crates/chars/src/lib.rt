@@ -1,4 +1,6 @@
 // Strings: characters decoded into a strings area.
+#![tactic(auto)]
+
 ghost use Rattle.std.specs.Prelude.{◌≡◌, true, false, ◌+◌, ◌-◌, ◌≤◌, ◌<◌, length, drop, take};
 ghost use Rattle.std.proofs.lemmas.List.Edits.{sets};
 ghost use Rattle.syntax.specs.declared.Lead.TheVariants.{Backslash, Char};
@@ -14,7 +16,7 @@ use scan::token::{Decimal, decimal_of, stands};
 use syntax::{Escape, Hex, Lead, Unit};
 
 // Characters read up to the offset `at` and decoded up to `used`; or a fault.
-#[derive(Drop)]
+#[derive(Clone, Copy)]
 pub enum Decoded {
     Chars { at: usize, used: usize },
     NoChars(Fault),
@@ -262,7 +264,7 @@ fn hex_of(b: u8) -> Hex
 }
 
 // A code unit, or the offset where a hexadecimal digit is missing.
-#[derive(Drop)]
+#[derive(Clone, Copy)]
 enum CodeUnit {
     Code(u32),
     NoCode(usize),
@@ -336,7 +338,7 @@ fn put_utf8(strings: &mut [u8], used: usize, u: u32) -> usize
 }
 
 // A complete low surrogate escape at `at`, or none.
-#[derive(Drop)]
+#[derive(Clone, Copy)]
 enum LowHalf {
     Half(u32),
     NoHalf,

@@ -1,4 +1,6 @@
 // Date texts: the instant that a text of one of the nineteen forms stands for.
+#![tactic(auto)]
+
 mod day;
 mod offset;
 mod pattern;

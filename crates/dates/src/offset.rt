@@ -7,14 +7,14 @@ ghost use Rattle.dates.specs.Inner.{size_of, size_ms, correction, offset_ms};
 use crate::pattern::{digit_at, like, starts_like, two_digits};
 
 // The milliseconds of an offset, if it is one.
-#[derive(Drop)]
+#[derive(Clone, Copy)]
 enum Size {
     Of(u64),
     Bad,
 }
 
 // The milliseconds that lead from local time to UTC, on or back, if the text is an offset.
-#[derive(Drop)]
+#[derive(Clone, Copy)]
 pub enum Offset {
     On(u64),
     Back(u64),

@@ -13,7 +13,7 @@ pub const MS_PER_DAY: u64 = 86400000;
 const RANGE_MONTHS: u64 = 12 * 10000;
 
 // The day of a date; or that there is no such date, or that its year is past 9999.
-#[derive(Drop)]
+#[derive(Clone, Copy)]
 pub enum DayAnswer {
     Is(u64),
     NoDate,
@@ -21,7 +21,7 @@ pub enum DayAnswer {
 }
 
 // The day on which a month begins; or that its year is past 9999.
-#[derive(Drop)]
+#[derive(Clone, Copy)]
 pub enum MonthAnswer {
     Begins(u64),
     Late,

@@ -1,4 +1,6 @@
 // The evaluator: a rule on a record, both as reading left them, under a step limit; and its answer, written.
+#![tactic(auto)]
+
 ghost use Rattle.std.specs.Prelude.{◌≡◌};
 ghost use Rattle.model.specs.Refusal.{eval_number};
 ghost use Rattle.operations.specs.Ended.{fault_of};
@@ -20,7 +22,7 @@ mod take;
 mod task;
 
 // A refusal's number, or 0; the steps begun; the length of the answer's text.
-#[derive(Drop)]
+#[derive(Clone, Copy)]
 pub struct Answer {
     pub refusal: u32,
     pub steps: usize,
@@ -28,7 +30,7 @@ pub struct Answer {
 }
 
 // A value, or a refusal's number; and the steps begun.
-#[derive(Drop)]
+#[derive(Clone, Copy)]
 pub enum Outcome {
     Value(Handle, usize),
     Refused(u32, usize),

@@ -7,7 +7,7 @@ use heap::handle::{Area, Handle, string};
 use table::node::{Node, node_at};
 
 // The value of a literal, or that a row holds none.
-#[derive(Drop)]
+#[derive(Clone, Copy)]
 pub enum LiteralValue {
     NotLiteral,
     Of(Handle),

@@ -13,7 +13,7 @@ use operations::ended::{Ended, Fault};
 use table::node::next_row;
 
 // The items of an array, or that a value is none.
-#[derive(Drop)]
+#[derive(Clone, Copy)]
 enum Elements {
     NotArray,
     Of(Parts),

@@ -8,7 +8,7 @@ use keywords::Op;
 use operations::ended::{Ended, State};
 
 // A rule to evaluate: the row that it stands at, the context, and the state that it begins in.
-#[derive(Drop)]
+#[derive(Clone, Copy)]
 pub struct Task {
     pub row: usize,
     pub context: Handle,
@@ -16,7 +16,7 @@ pub struct Task {
 }
 
 // An operation on all its operands: how many stand on the stack, and how many are not begun.
-#[derive(Drop)]
+#[derive(Clone, Copy)]
 pub struct Pending {
     pub op: Op,
     pub done: usize,
@@ -24,7 +24,7 @@ pub struct Pending {
 }
 
 // What an operation does with the value of the operand that is evaluated now.
-#[derive(Drop)]
+#[derive(Clone, Copy)]
 pub enum Frame {
     // `if`: chooses the branch, which stands after the guard.
     Guard,
@@ -41,7 +41,7 @@ pub enum Frame {
 }
 
 // A rule that was begun ends, or asks for the value of an operand.
-#[derive(Drop)]
+#[derive(Clone, Copy)]
 pub enum Next {
     Ends(Ended),
     Asks(Task, Frame),

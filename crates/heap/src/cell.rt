@@ -32,7 +32,7 @@ const LIST_TAG: usize = 9;
 const CONTEXT_TAG: usize = 10;
 
 // A handle as three numbers: its tag, a number of 32 bits and one of 24.
-#[derive(Drop)]
+#[derive(Clone, Copy)]
 pub struct Packed {
     pub tag: usize,
     pub low: usize,

@@ -5,14 +5,14 @@ ghost use Rattle.heap.specs.Contract.{span, parts, record_handle, row_handle};
 use table::node::{Node, node_at};
 
 // Which strings area: the rule's or the record's.
-#[derive(Drop)]
+#[derive(Clone, Copy)]
 pub enum Area {
     Rule,
     Record,
 }
 
 // A part of a strings area.
-#[derive(Drop)]
+#[derive(Clone, Copy)]
 pub struct Span {
     pub area: Area,
     pub start: usize,
@@ -20,7 +20,7 @@ pub struct Span {
 }
 
 // What the parts of an array or object are: rows of a read array, or of a read object; cells of a computed list, or of a lambda's context.
-#[derive(Drop)]
+#[derive(Clone, Copy)]
 pub enum Form {
     Items,
     Members,
@@ -29,7 +29,7 @@ pub enum Form {
 }
 
 // So many parts, from a row or a cell on.
-#[derive(Drop)]
+#[derive(Clone, Copy)]
 pub struct Parts {
     pub form: Form,
     pub first: usize,
@@ -37,7 +37,7 @@ pub struct Parts {
 }
 
 // A value, by value: a scalar or an instant itself, or where the bytes of a string or the parts of an array or object lie.
-#[derive(Drop)]
+#[derive(Clone, Copy)]
 pub enum Handle {
     Null,
     False,

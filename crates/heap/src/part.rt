@@ -9,7 +9,7 @@ use table::node::{name_at, next_row};
 use table::row::Span;
 
 // What names a part: nothing in an array; a part of the record's strings; or a name of a lambda's context, which lies in no area.
-#[derive(Drop)]
+#[derive(Clone, Copy)]
 pub enum Label {
     Nothing,
     Name(Span),

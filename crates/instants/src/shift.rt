@@ -17,7 +17,7 @@ const RANGE_HOURS: u64 = ((Instant::LATEST - Instant::EARLIEST) as u64 + 1) / MS
 const RANGE_MONTHS: u64 = 12 * 10000;
 
 // So many units on, or back.
-#[derive(Drop)]
+#[derive(Clone, Copy)]
 enum Move {
     On(u64),
     Back(u64),

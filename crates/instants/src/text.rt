@@ -9,7 +9,7 @@ use days::day::{MS_PER_DAY, date_at};
 use model::Date;
 
 // 01, Writing: "An instant's text is a fixed record of 24 bytes".
-#[derive(Drop)]
+#[derive(Clone, Copy)]
 pub struct InstantText {
     pub bytes: [u8; 24],
 }

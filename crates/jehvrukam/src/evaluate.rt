@@ -14,7 +14,7 @@ use model::{HEAP_CELLS, MAX_STEPS};
 use pipeline::text::{Stop, read_rule, read_text};
 
 // A refusal's number, or 0, and the numbers that are told with it.
-#[derive(Drop)]
+#[derive(Clone, Copy)]
 pub struct Outcome {
     pub refusal: u32,
     pub which: usize,

@@ -14,7 +14,7 @@ use pipeline::text::{Stop, read_text};
 use sheet::fit::fits;
 
 // A refusal's number, or 0, and the numbers that are told with it.
-#[derive(Drop)]
+#[derive(Clone, Copy)]
 pub struct CheckedOutcome {
     pub refusal: u32,
     pub which: usize,

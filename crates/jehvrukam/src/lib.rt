@@ -1,5 +1,7 @@
 // The entries for C (include/jehvrukam.h). Each contract is one equation: the answer and the last bytes of every lent
 // area are what a definition says of the bytes given, whatever they are.
+#![tactic(auto)]
+
 ghost use Rattle.std.specs.Prelude.{◌≡◌};
 ghost use Rattle.syntax.specs.Entry.{read_entry};
 ghost use Rattle.jehvrukam.specs.Check.{check_entry};

@@ -1,4 +1,6 @@
 // The reader: a text into a table of rows and a strings area.
+#![tactic(auto)]
+
 ghost use Rattle.std.specs.Prelude.{◌≡◌, ◌*◌, ◌≤◌, length};
 ghost use Rattle.area.specs.Words.{zero_from};
 ghost use Rattle.model.specs.Limits.{max_values};
@@ -25,7 +27,7 @@ mod step;
 mod tree;
 
 // What came of reading: a refusal's number, or 0, its place, and how many rows the table has.
-#[derive(Drop)]
+#[derive(Clone, Copy)]
 pub struct Answer {
     pub refusal: u32,
     pub place: usize,
@@ -33,7 +35,7 @@ pub struct Answer {
 }
 
 // A text that was read: how many rows and bytes of strings it has; or a fault.
-#[derive(Drop)]
+#[derive(Clone, Copy)]
 enum TextStep {
     Whole { rows: usize, used: usize },
     NoText(Fault),

@@ -8,7 +8,7 @@ use scan::token::{separator, skip_white};
 use syntax::Separator;
 
 // The list is done, or one more part begins, or there is a fault.
-#[derive(Drop)]
+#[derive(Clone, Copy)]
 pub enum After {
     Closed(Cursor),
     More(Cursor),

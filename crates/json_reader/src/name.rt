@@ -10,7 +10,7 @@ use scan::Fault;
 use scan::token::{skip_white, stands};
 
 // A member's name, with the offset of its content; or a fault.
-#[derive(Drop)]
+#[derive(Clone, Copy)]
 pub enum NameStep {
     Named(usize, Label),
     NoName(Fault),

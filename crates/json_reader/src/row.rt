@@ -9,7 +9,7 @@ use area::put_word;
 use syntax::ROW_BYTES;
 
 // Where a member's name lies in the strings area; 0 and 0 for a value that is no member.
-#[derive(Drop)]
+#[derive(Clone, Copy)]
 pub struct Label {
     pub start: usize,
     pub size: usize,

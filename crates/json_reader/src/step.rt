@@ -6,7 +6,7 @@ ghost use Rattle.json_reader.specs.Inner.{cursor};
 use scan::Fault;
 
 // Where a reading stands: the offset, the rows and bytes of strings so far, and how many items or members there were.
-#[derive(Drop)]
+#[derive(Clone, Copy)]
 pub struct Cursor {
     pub at: usize,
     pub row: usize,
@@ -15,7 +15,7 @@ pub struct Cursor {
 }
 
 // What came of a reading.
-#[derive(Drop)]
+#[derive(Clone, Copy)]
 pub enum Step {
     Reached(Cursor),
     Failed(Fault),

@@ -1,4 +1,6 @@
 // The names of operations and units (01, Shape of a rule).
+#![tactic(auto)]
+
 ghost use Rattle.std.specs.Prelude.{cond, [], ◌∷◌, ◌≡◌, length};
 ghost use Rattle.std.proofs.Math.Option.{none};
 ghost use Rattle.model.specs.Bytes.{same_bytes};
@@ -6,12 +8,12 @@ ghost use Rattle.model.specs.Shape.{keywords, keyword_named, units, unit_named};
 ghost use Rattle.octets.specs.Names.{entry_at};
 ghost use Rattle.keywords.specs.Contract.{keyword_of, unit_of};
 
+use model::{Comparison, Domain, TimeUnit};
 use octets::names::{Position, position_of};
 use octets::same;
-use model::{Comparison, Domain, TimeUnit};
 
 // An operation that evaluates all operands first. 2^53 was added to an amount and an index.
-#[derive(Drop)]
+#[derive(Clone, Copy)]
 pub enum Op {
     Array,
     Equal,
@@ -31,7 +33,7 @@ pub enum Op {
 }
 
 // How an operation is written; `Counted` has from `least` to `most` rules as operands.
-#[derive(Drop)]
+#[derive(Clone, Copy)]
 pub enum Keyword {
     NoKeyword,
     Var,
@@ -43,7 +45,7 @@ pub enum Keyword {
     Counted { least: usize, most: usize, op: Op },
 }
 
-#[derive(Drop)]
+#[derive(Clone, Copy)]
 pub enum UnitAnswer {
     NoUnit,
     Unit(TimeUnit),

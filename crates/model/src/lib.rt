@@ -1,4 +1,5 @@
 // The limits of document 01 and the plain types that the definitions under specs/ and the code of the crates above share.
+#![tactic(auto)]
 
 // The limits that specs/Limits.antt has. Among the code they stand only here.
 pub const MAX_TEXT_BYTES: usize = 16384;
@@ -16,7 +17,7 @@ pub const MAX_INTEGER: u64 = 9007199254740991;
 pub const MAX_SHEET_MEMBERS: usize = 256;
 
 // A unit of `plusTime`.
-#[derive(Drop)]
+#[derive(Clone, Copy)]
 pub enum TimeUnit {
     Year,
     Month,
@@ -25,7 +26,7 @@ pub enum TimeUnit {
 }
 
 // How two numbers are compared.
-#[derive(Drop)]
+#[derive(Clone, Copy)]
 pub enum Comparison {
     Greater,
     Less,
@@ -34,14 +35,14 @@ pub enum Comparison {
 }
 
 // What a comparison compares: integers (the four signs) or instants (the four date words).
-#[derive(Drop)]
+#[derive(Clone, Copy)]
 pub enum Domain {
     OnIntegers,
     OnInstants,
 }
 
 // A type, the paper's "word", in its order. "Instant is a word of the check only."
-#[derive(Drop)]
+#[derive(Clone, Copy)]
 pub enum Ty {
     Null,
     Boolean,
@@ -57,7 +58,7 @@ pub enum Ty {
 }
 
 // A date of the Gregorian calendar: months and days count from 1.
-#[derive(Drop)]
+#[derive(Clone, Copy)]
 pub struct Date {
     pub year: u64,
     pub month: u64,

@@ -6,12 +6,12 @@ ghost use Rattle.name_index.specs.Inner.{NamedSlot};
 
 use crate::{NO_STOP, descend};
 use area::get_word;
-use octets::same;
 use model::MAX_VALUES;
+use octets::same;
 use syntax::TABLE_BYTES;
 
 // Where a name stands among the members of an object.
-#[derive(Drop)]
+#[derive(Clone, Copy)]
 pub enum Found {
     Nowhere,
     At(usize),

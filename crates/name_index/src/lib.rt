@@ -1,4 +1,6 @@
 // An index of the names of one object's members: a crit-bit trie in the entries behind the table's rows.
+#![tactic(auto)]
+
 ghost use Rattle.std.specs.Prelude.{◌≡◌, ◌+◌, ◌*◌, ◌≤◌, ◌<◌, length};
 ghost use Rattle.model.specs.Limits.{max_values, max_text_bytes};
 ghost use Rattle.name_index.specs.Bits.{part, symbol_at, bit_at};
@@ -26,14 +28,14 @@ const LOW_RANKS: usize = 32768;
 const NO_STOP: usize = 1073741824;
 
 // How two names compare: the first rank in which they differ.
-#[derive(Drop)]
+#[derive(Clone, Copy)]
 enum Compared {
     Same,
     Differ(usize),
 }
 
 // Where a way down ends: the last link and where it lies. The ranks of the nodes passed are below `from`.
-#[derive(Drop)]
+#[derive(Clone, Copy)]
 struct Ended {
     at: usize,
     from: usize,

@@ -1,4 +1,6 @@
 // Bytes compared with bytes; names in a list; the fragments of texts.
+#![tactic(auto)]
+
 ghost use Rattle.std.specs.Prelude.{◌≡◌, ◌+◌, ◌≤◌, eqb, length};
 ghost use Rattle.model.specs.Bytes.{same_bytes};
 ghost use Rattle.octets.specs.Inner.{SameFrom, SameTo};

@@ -4,7 +4,7 @@ ghost use Rattle.octets.specs.Contract.{place_from};
 
 use crate::same;
 
-#[derive(Drop)]
+#[derive(Clone, Copy)]
 pub enum Position {
     Nowhere,
     At(usize),

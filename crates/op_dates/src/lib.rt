@@ -1,4 +1,6 @@
 // `plusTime` and `dccDateOfBirth`, by handles.
+#![tactic(auto)]
+
 ghost use Rattle.std.specs.Prelude.{◌≡◌};
 ghost use Rattle.model.specs.Result.{ok};
 ghost use Rattle.op_dates.specs.Inner.{operated, Moves, Unbiased};

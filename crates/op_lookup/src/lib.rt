@@ -1,20 +1,22 @@
 // `var`: the value at a path, by handles: through cells here, through the record's rows by crate paths.
+#![tactic(auto)]
+
 ghost use Rattle.std.specs.Prelude.{◌≡◌, ◌+◌};
 ghost use Rattle.heap.specs.Cells.{cell_handle};
 ghost use Rattle.name_index.specs.Table.{IndexedTable};
 ghost use Rattle.op_lookup.specs.Contract.{Leads};
 ghost use Rattle.op_lookup.specs.Inner.{place_of, member_of, ItemNamed, PartNamed};
 
-use octets::path::fragment_end;
-use octets::same;
 use heap::cell::{CELL_BYTES, get};
 use heap::handle::{Form, Handle, Parts, of_node};
+use octets::path::fragment_end;
+use octets::same;
 use paths::find;
 use paths::index::{Index, read_index};
 use table::node::{Node, Rows};
 
 // Where a value lies: in the record, where its node is this; or in cells, if it has parts.
-#[derive(Drop)]
+#[derive(Clone, Copy)]
 enum Place {
     Record(Node),
     Cells,

@@ -1,7 +1,9 @@
 // What an operation gives on the handles of its operands: the handle of a value, or 7, 8 or 9.
+#![tactic(auto)]
+
 use heap::handle::Handle;
 
-#[derive(Drop)]
+#[derive(Clone, Copy)]
 pub enum Operated {
     Value(Handle),
     WrongKind,

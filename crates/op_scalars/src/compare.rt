@@ -9,7 +9,7 @@ use model::{Comparison, Domain};
 use op_result::Operated;
 
 // A number whose order is that of the integers, or of the instants; or none, of another kind.
-#[derive(Drop)]
+#[derive(Clone, Copy)]
 enum Number {
     Is(u64),
     NotOne,

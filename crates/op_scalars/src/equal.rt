@@ -9,10 +9,10 @@ ghost use Rattle.op_scalars.specs.Inner.{is_scalar, is_the, same_handles, among_
 
 use crate::boolean::boolean;
 use crate::truth::{Truth, truth_of};
-use octets::same;
 use heap::handle::{Form, Handle, Parts, Span};
 use heap::part::{head, tail};
 use heap::string::bytes;
+use octets::same;
 use op_result::Operated;
 
 // A scalar: null, a boolean, an integer or a string.

@@ -1,4 +1,6 @@
 // Operations on scalars, by their handles: truth, equality, membership, sums and comparisons.
+#![tactic(auto)]
+
 mod boolean;
 pub mod compare;
 pub mod equal;

@@ -7,7 +7,7 @@ use heap::handle::Handle;
 use syntax::BIAS;
 
 // 01, Evaluation: "An instant is neither."
-#[derive(Drop)]
+#[derive(Clone, Copy)]
 pub enum Truth {
     Truthy,
     Falsy,

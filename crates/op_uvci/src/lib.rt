@@ -1,19 +1,21 @@
 // `extractFromUVCI`.
+#![tactic(auto)]
+
 ghost use Rattle.std.specs.Prelude.{◌≡◌};
 ghost use Rattle.model.specs.Operations.{nth_string};
 ghost use Rattle.op_uvci.specs.Inner.{Ends, fragments_from, numbered, named, Finds};
 ghost use Rattle.op_uvci.specs.Contract.{Extracts};
 
-use octets::path::fragment_end;
-use octets::same;
 use heap::handle::{Handle, Span, string};
 use heap::string::bytes;
+use octets::path::fragment_end;
+use octets::same;
 use op_result::Operated;
 use syntax::BIAS;
 use table::string::part_of;
 
 // A fragment of a text, or that there is none.
-#[derive(Drop)]
+#[derive(Clone, Copy)]
 enum Fragment {
     Absent,
     At { start: usize, size: usize },

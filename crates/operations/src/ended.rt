@@ -2,7 +2,7 @@
 use heap::handle::Handle;
 
 // 7, 8, 9 or 10.
-#[derive(Drop)]
+#[derive(Clone, Copy)]
 pub enum Fault {
     WrongKind,
     BadDate,
@@ -12,7 +12,7 @@ pub enum Fault {
 
 // The steps left; the heap's top: the cells below it are the heap, which only grows; the stack's bottom: the cells from it on hold the operands
 // of the rules around; the nesting left.
-#[derive(Drop)]
+#[derive(Clone, Copy)]
 pub struct State {
     pub left: usize,
     pub top: usize,
@@ -21,7 +21,7 @@ pub struct State {
 }
 
 // With a value and the state after; or with a refusal and the steps left.
-#[derive(Drop)]
+#[derive(Clone, Copy)]
 pub enum Ended {
     Gives(Handle, State),
     Denies(Fault, usize),

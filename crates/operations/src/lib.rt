@@ -1,4 +1,6 @@
 // Operations on operands, whose handles stand on the stack: the first in the cell below `bottom`, each other one below the one before.
+#![tactic(auto)]
+
 ghost use Rattle.std.specs.Prelude.{◌≡◌};
 ghost use Rattle.heap.specs.Blocks.{stored_from};
 ghost use Rattle.operations.specs.Contract.{StackRoom, Applies};

@@ -4,7 +4,7 @@ ghost use Rattle.paths.specs.Contract.{index_in};
 ghost use Rattle.paths.specs.Inner.{plain};
 
 // Where an item stands, or that no array has such an item.
-#[derive(Drop)]
+#[derive(Clone, Copy)]
 pub enum Index {
     Outside,
     At(usize),

@@ -1,4 +1,6 @@
 // `var`: the value at a path in a read text, by rows.
+#![tactic(auto)]
+
 pub mod index;
 mod items;
 pub mod members;
@@ -11,8 +13,8 @@ ghost use Rattle.paths.specs.Contract.{index_in, member_in, item_of, part_in, Le
 use crate::index::{Index, read_index};
 use crate::items::item;
 use crate::members::row_named;
-use octets::path::fragment_end;
 use name_index::find::Found;
+use octets::path::fragment_end;
 use table::node::{Node, Rows, node_at};
 
 // "on an object a fragment names a member"

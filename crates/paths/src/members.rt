@@ -5,8 +5,8 @@ ghost use Rattle.paths.specs.Contract.{row_named};
 ghost use Rattle.paths.specs.Inner.{Indexable};
 
 use crate::owner::are_members;
-use octets::same;
 use name_index::find::{Found, find};
+use octets::same;
 use table::node::{Rows, name_at, tail};
 use table::string::bytes_of;
 

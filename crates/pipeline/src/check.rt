@@ -12,7 +12,7 @@ use type_check::found::Found;
 use type_set::set::bits;
 
 // The types found, as bits; 0 with a refusal.
-#[derive(Drop)]
+#[derive(Clone, Copy)]
 pub struct Checked {
     pub stop: Stop,
     pub words: u64,

@@ -7,7 +7,7 @@ use crate::text::{Stop, read_text};
 use sheet::fit::fits;
 
 // Whether the record fits; no with a refusal.
-#[derive(Drop)]
+#[derive(Clone, Copy)]
 pub struct Fitted {
     pub stop: Stop,
     pub fits: bool,

@@ -1,4 +1,6 @@
 // The stages of an entry before evaluation: texts read into their areas, and checked, in 01's order.
+#![tactic(auto)]
+
 pub mod check;
 pub mod fit;
 mod number;

@@ -11,7 +11,7 @@ use shape::is_rule;
 use syntax::{STRINGS_BYTES, TABLE_BYTES};
 
 // A refusal's number, or 0, and the text and place that are told with it.
-#[derive(Drop)]
+#[derive(Clone, Copy)]
 pub struct Stop {
     pub refusal: u32,
     pub which: usize,

@@ -7,7 +7,7 @@ use crate::put::put_bytes;
 use instants::text::digit;
 
 // The digits of a number: what stands in `bytes` from `start` on.
-#[derive(Drop)]
+#[derive(Clone, Copy)]
 pub struct Digits {
     pub bytes: [u8; 20],
     pub start: usize,

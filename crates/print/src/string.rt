@@ -108,7 +108,7 @@ fn put_escape(output: &mut [u8], at: usize, b: u8) -> usize
 }
 
 // How far a string is written: up to the byte `from` of it, up to `at` of the output.
-#[derive(Drop)]
+#[derive(Clone, Copy)]
 pub struct Move {
     pub from: usize,
     pub at: usize,

@@ -10,7 +10,7 @@ use table::row::Span;
 use table::string::bytes_of;
 
 // The single member of an object: its name and its content.
-#[derive(Drop)]
+#[derive(Clone, Copy)]
 enum Single {
     NotSingle,
     Member(Span, Node),

@@ -11,7 +11,7 @@ use table::node::{Node, Rows, next_row, node_at};
 use table::row::Span;
 
 // A boolean, an integer to which 2^53 was added, or where a string lies in the rule's strings.
-#[derive(Drop)]
+#[derive(Clone, Copy)]
 pub enum Literal {
     False,
     True,
@@ -20,7 +20,7 @@ pub enum Literal {
 }
 
 // The outermost part of a rule: a literal; where a path's text lies; or an operation and its operands.
-#[derive(Drop)]
+#[derive(Clone, Copy)]
 pub enum View {
     Literal(Literal),
     Var(Span),
@@ -31,7 +31,7 @@ pub enum View {
 }
 
 // What a row has the shape of. The operands are not looked at.
-#[derive(Drop)]
+#[derive(Clone, Copy)]
 pub enum Shape {
     NotRule,
     Rule(View),

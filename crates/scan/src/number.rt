@@ -11,7 +11,7 @@ use model::MAX_INTEGER;
 use syntax::BIAS;
 
 // An integer, plus 2^53, that ends at `at`; or a fault.
-#[derive(Drop)]
+#[derive(Clone, Copy)]
 pub enum Numeral {
     Integer { at: usize, biased: u64 },
     NoInteger(Fault),

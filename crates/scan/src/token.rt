@@ -108,7 +108,7 @@ fn nested(depth: usize, kind: Start) -> Start
 }
 
 // A decimal digit's number.
-#[derive(Drop)]
+#[derive(Clone, Copy)]
 pub enum Decimal {
     DecimalDigit(u8),
     NoDecimal,
@@ -154,7 +154,7 @@ pub fn stands(text: &[u8], at: usize, b: u8) -> bool
 }
 
 // Where a literal ends, or the fault of the first byte that differs.
-#[derive(Drop)]
+#[derive(Clone, Copy)]
 pub enum WordMatch {
     Matched(usize),
     Mismatch(Fault),

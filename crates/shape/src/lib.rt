@@ -1,4 +1,6 @@
 // The shape check over a read table: row by row, with a mark for each object that is an operation.
+#![tactic(auto)]
+
 ghost use Rattle.std.specs.Prelude.{◌≡◌};
 ghost use Rattle.shape.specs.Rows.{view_is_rule};
 ghost use Rattle.shape.specs.Contract.{Checks};

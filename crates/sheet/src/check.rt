@@ -7,8 +7,8 @@ ghost use Rattle.sheet.specs.Contract.{ChecksSheet};
 ghost use Rattle.sheet.specs.Inner.{ChecksEntry, ChecksEntries, ChecksObject};
 
 use crate::content::{Content, types_in};
-use octets::path::is_path;
 use model::MAX_SHEET_MEMBERS;
+use octets::path::is_path;
 use table::node::{Node, Rows, name_at, node_at, tail};
 use table::string::bytes_of;
 

@@ -12,7 +12,7 @@ use text_types::{TypeAnswer, type_named};
 use type_set::set::{TypeSet, has, none, only, union};
 
 // A set of types, or that a content is none.
-#[derive(Drop)]
+#[derive(Clone, Copy)]
 pub enum Content {
     NotTypes,
     Types(TypeSet),

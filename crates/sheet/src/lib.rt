@@ -1,4 +1,6 @@
 // A sheet, used where it was read: whether a text is one, the types of a path, and whether a record fits it.
+#![tactic(auto)]
+
 pub mod belong;
 pub mod check;
 pub mod content;

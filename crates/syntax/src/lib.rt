@@ -1,4 +1,5 @@
 // The decisions that reading a text makes byte by byte, as types that the definitions under specs/ and the code of the crates above share.
+#![tactic(auto)]
 
 use model::{MAX_INTEGER, MAX_TEXT_BYTES, MAX_VALUES};
 
@@ -30,7 +31,7 @@ pub const OBJECT_ROW: usize = 7;
 pub const BIAS: u64 = MAX_INTEGER + 1;
 
 // What stands where a value is to begin.
-#[derive(Drop)]
+#[derive(Clone, Copy)]
 pub enum Start {
     NoValue,
     TooMuch,
@@ -43,7 +44,7 @@ pub enum Start {
 }
 
 // The three words that are values.
-#[derive(Drop)]
+#[derive(Clone, Copy)]
 pub enum Word {
     TrueWord,
     FalseWord,
@@ -51,7 +52,7 @@ pub enum Word {
 }
 
 // What stands after an item or a member.
-#[derive(Drop)]
+#[derive(Clone, Copy)]
 pub enum Separator {
     Comma,
     Close,
@@ -59,7 +60,7 @@ pub enum Separator {
 }
 
 // What stands at a character of a string: for `Char`, so many bytes are to follow, the first of them from a lowest to a highest byte.
-#[derive(Drop)]
+#[derive(Clone, Copy)]
 pub enum Lead {
     Closing,
     Backslash,
@@ -68,7 +69,7 @@ pub enum Lead {
 }
 
 // What stands after a backslash: a letter for one byte, the `u` of a code unit, or neither.
-#[derive(Drop)]
+#[derive(Clone, Copy)]
 pub enum Escape {
     Letter(u8),
     Unicode,
@@ -76,14 +77,14 @@ pub enum Escape {
 }
 
 // A hexadecimal digit's number.
-#[derive(Drop)]
+#[derive(Clone, Copy)]
 pub enum Hex {
     HexDigit(u8),
     NoHex,
 }
 
 // A UTF-16 code unit: a character by itself, or the first or second half of a pair.
-#[derive(Drop)]
+#[derive(Clone, Copy)]
 pub enum Unit {
     Plain,
     High,

@@ -8,14 +8,14 @@ use area::get_word;
 use syntax::{ARRAY_ROW, FALSE_ROW, INTEGER_ROW, OBJECT_ROW, ROW_BYTES, STRING_ROW, TRUE_ROW};
 
 // So many values, one after the other, from a row on.
-#[derive(Drop)]
+#[derive(Clone, Copy)]
 pub struct Rows {
     pub first: usize,
     pub count: usize,
 }
 
 // A value of a read text: a scalar itself, or where the bytes of a string or the parts of an array or object lie.
-#[derive(Drop)]
+#[derive(Clone, Copy)]
 pub enum Node {
     Null,
     False,

@@ -6,14 +6,14 @@ use area::get_word;
 use syntax::ROW_BYTES;
 
 // A part of a strings area.
-#[derive(Drop)]
+#[derive(Clone, Copy)]
 pub struct Span {
     pub start: usize,
     pub size: usize,
 }
 
 // The kind; where the member's name lies, in a read table 0 and 0 of no member; and two numbers by the kind.
-#[derive(Drop)]
+#[derive(Clone, Copy)]
 pub struct Row {
     pub kind: usize,
     pub name: Span,

@@ -1,4 +1,6 @@
 // The calendar for callers in C: what the host's tests and benchmarks link. Not a part of the product's library.
+#![tactic(auto)]
+
 ghost use Rattle.std.specs.Prelude.{◌≡◌, length};
 ghost use Rattle.model.specs.DateText.{day_text, date_text};
 ghost use Rattle.model.specs.Result.{result_number};
@@ -55,7 +57,7 @@ pub extern "C" fn calendar_read_day(text: &[u8], ms: &mut i64) -> u32
     put_date(dates::read_day(text), ms)
 }
 
-#[derive(Drop)]
+#[derive(Clone, Copy)]
 enum UnitAnswer {
     Of(TimeUnit),
     Bad,

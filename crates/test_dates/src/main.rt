@@ -1,5 +1,7 @@
 // Runs the vectors of host/dates, from standard input, on the crates calendar and dates.
 // Prints each line that differs, then how many of each kind agree and differ.
+#![tactic(auto)]
+
 ghost use Rattle.std.specs.Prelude.{◌≤◌, length};
 ghost use Rattle.test_dates.specs.Inner.{number_of};
 
@@ -18,26 +20,26 @@ const ROOM: usize = 524288;
 // What a digit can follow: numbers from 10^18 on are not read.
 const MAX_BEFORE_DIGIT: u64 = 99999999999999999;
 
-#[derive(Drop)]
+#[derive(Clone, Copy)]
 enum Digits {
     Are(u64),
     Bad,
 }
 
-#[derive(Drop)]
+#[derive(Clone, Copy)]
 enum Number {
     Is(i64),
     Bad,
 }
 
-#[derive(Drop)]
+#[derive(Clone, Copy)]
 enum Unit {
     Is(TimeUnit),
     Bad,
 }
 
 // What a line's first field says that it is.
-#[derive(Drop)]
+#[derive(Clone, Copy)]
 enum Kind {
     Date,
     Day,
@@ -46,13 +48,13 @@ enum Kind {
     Unknown,
 }
 
-#[derive(Drop)]
+#[derive(Clone, Copy)]
 struct Count {
     agree: u64,
     differ: u64,
 }
 
-#[derive(Drop)]
+#[derive(Clone, Copy)]
 struct Tally {
     date: Count,
     day: Count,

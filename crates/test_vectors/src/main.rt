@@ -2,6 +2,8 @@
 // first line of each case that differs, then how many there are and how many differ. No contract can say what is read or
 // printed: the C library does both. What the two numbers are is promised: `take_cases` counts, of the bytes of the file,
 // what the definition of the entry gives (`tally_of`).
+#![tactic(auto)]
+
 ghost use Rattle.std.specs.Prelude.{◌≡◌, true, ◌+◌, ◌*◌, ◌≤◌, ◌<◌, length};
 ghost use Rattle.io.specs.Counts.{IsPrefixLen};
 ghost use Rattle.model.specs.Bytes.{digit_value};
@@ -9,11 +11,11 @@ ghost use Rattle.jehvrukam.specs.Evaluate.{evaluate_entry};
 ghost use Rattle.test_vectors.specs.Cases.{takes_digit, number_at, header_at, is_whole, lent, untold, is_expected, is_text, agrees_in, agrees_on, counted, tally_of};
 ghost use Rattle.test_vectors.specs.Inner.{Past, Gives, Ran, Few};
 
-use octets::same;
 use heap::cell::CELL_BYTES;
 use jehvrukam::jehvrukam_evaluate;
 use libc::STDOUT_FILENO;
 use model::{HEAP_CELLS, MAX_TEXT_BYTES};
+use octets::same;
 use syntax::{STRINGS_BYTES, TABLE_BYTES};
 
 // The most bytes that are read.
@@ -24,14 +26,14 @@ const OUTPUT_BYTES: usize = MAX_TEXT_BYTES;
 const CELLS_BYTES: usize = HEAP_CELLS * CELL_BYTES;
 
 // A number, and where the text goes on.
-#[derive(Drop)]
+#[derive(Clone, Copy)]
 struct Number {
     value: u64,
     end: usize,
 }
 
 // A case's first line: what is given, what is expected, the sizes of the texts; and where they begin.
-#[derive(Drop)]
+#[derive(Clone, Copy)]
 struct Header {
     limit: u64,
     room: u64,
@@ -46,7 +48,7 @@ struct Header {
 }
 
 // What the entry tells.
-#[derive(Drop)]
+#[derive(Clone, Copy)]
 struct Outcome {
     refusal: u32,
     which: u64,
@@ -56,13 +58,13 @@ struct Outcome {
 }
 
 // Whether a case agrees, and where the next one begins.
-#[derive(Drop)]
+#[derive(Clone, Copy)]
 struct Case {
     agrees: bool,
     end: usize,
 }
 
-#[derive(Drop)]
+#[derive(Clone, Copy)]
 struct Tally {
     cases: u64,
     differ: u64,

@@ -1,4 +1,6 @@
 // The writer for callers in C: what the host's tests and benchmarks link. Not a part of the product's library.
+#![tactic(auto)]
+
 ghost use Rattle.std.specs.Prelude.{◌≡◌, length};
 ghost use Rattle.heap.specs.Cells.{cell_handle};
 ghost use Rattle.heap.specs.Unfold.{areas};

@@ -1,4 +1,6 @@
 // The type that a text names, and the types that a text has.
+#![tactic(auto)]
+
 ghost use Rattle.std.specs.Prelude.{◌≡◌};
 ghost use Rattle.model.specs.DateText.{is_date, is_day};
 ghost use Rattle.model.specs.Result.{is_ok};
@@ -10,13 +12,13 @@ ghost use Rattle.calendar.specs.Contract.{date_result};
 ghost use Rattle.type_set.specs.Contract.{set_of};
 ghost use Rattle.text_types.specs.Contract.{type_of};
 
-use octets::names::{Position, position_of};
 use calendar::instant::DateAnswer;
 use dates::{read_date, read_day};
 use model::Ty;
+use octets::names::{Position, position_of};
 use type_set::set::{TypeSet, only};
 
-#[derive(Drop)]
+#[derive(Clone, Copy)]
 pub enum TypeAnswer {
     Unknown,
     Named(Ty),

@@ -4,21 +4,21 @@ ghost use Rattle.name_index.specs.Table.{IndexedTable};
 ghost use Rattle.type_check.specs.ByRows.{part_by, lambda_by};
 ghost use Rattle.type_check.specs.Inner.{inner_of, VarTypes};
 
+use model::Ty;
 use octets::path::fragment_end;
 use octets::same;
-use model::Ty;
 use sheet::listed::types_for;
 use type_set::set::{TypeSet, any_value, only};
 
 // Outside every lambda, or in one: the types of `current`, and of `accumulator`.
-#[derive(Drop)]
+#[derive(Clone, Copy)]
 pub enum Env {
     Outside,
     Lambda(TypeSet, TypeSet),
 }
 
 // Where a rule stands, and how deep it nests at most.
-#[derive(Drop)]
+#[derive(Clone, Copy)]
 pub struct Scope {
     pub env: Env,
     pub deep: usize,

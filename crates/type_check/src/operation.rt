@@ -14,14 +14,14 @@ use text_types::types_of;
 use type_set::set::{TypeSet, any_of_record, none, only, passes, scalars, union};
 
 // The types of some operands: those that any but the last has, and the last's.
-#[derive(Drop)]
+#[derive(Clone, Copy)]
 pub struct Operands {
     pub before: TypeSet,
     pub last: TypeSet,
 }
 
 // The types of operands that are all accepted, or that one is not.
-#[derive(Drop)]
+#[derive(Clone, Copy)]
 pub enum FoundAll {
     NotAccepted,
     Types(Operands),

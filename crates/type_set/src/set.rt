@@ -6,7 +6,7 @@ ghost use Rattle.type_set.specs.Contract.{set_of, types_in};
 
 use model::Ty;
 
-#[derive(Drop)]
+#[derive(Clone, Copy)]
 pub struct TypeSet {
     pub null: bool,
     pub boolean: bool,

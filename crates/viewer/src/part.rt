@@ -9,7 +9,7 @@ use syntax::ARRAY_ROW;
 use table::row::Row;
 
 // The place of a part; or refusal 1.
-#[derive(Drop)]
+#[derive(Clone, Copy)]
 pub enum PartAnswer {
     At(usize),
     NotThere,

@@ -13,7 +13,7 @@ use table::row::{Row, join, row_at};
 const TOO_LARGE: usize = 2 * BIAS as usize;
 
 // A row that is there and has the form; or refusal 1.
-#[derive(Drop)]
+#[derive(Clone, Copy)]
 pub enum RowAnswer {
     Is(Row),
     NotThere,

@@ -7,7 +7,7 @@ use crate::part::{PartAnswer, find_part};
 use crate::row::{RowAnswer, find_row};
 
 // 01, Reading: "A viewer for the host holds the lent table of one read text and a place".
-#[derive(Drop)]
+#[derive(Clone, Copy)]
 pub struct Viewer<'a> {
     pub table: &'a [u8],
     pub place: usize,

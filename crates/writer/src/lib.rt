@@ -1,4 +1,6 @@
 // The writer: the text of a value, given by its handle, into an output area.
+#![tactic(auto)]
+
 ghost use Rattle.std.specs.Prelude.{◌≡◌, length};
 ghost use Rattle.heap.specs.Unfold.{areas};
 ghost use Rattle.writer.specs.Contract.{answered, handle_written};
@@ -13,7 +15,7 @@ mod scalar;
 mod value;
 
 // The length of the text; or 11, or 12.
-#[derive(Drop)]
+#[derive(Clone, Copy)]
 pub enum Answer {
     Written(usize),
     TooLarge,

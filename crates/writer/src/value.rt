@@ -12,7 +12,7 @@ use model::MAX_TEXT_BYTES;
 use print::put::put_byte;
 
 // How far the text goes, and how many values may follow; or that it is refused with 11.
-#[derive(Drop)]
+#[derive(Clone, Copy)]
 pub enum Progress {
     TooLarge,
     At { at: usize, left: usize },
