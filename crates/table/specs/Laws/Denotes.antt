@@ -1,9 +1,9 @@
 -- Denotes: a node denotes one value; the parts of a node denote the parts of its value.
-use Rattle.std.specs.Prelude.{◌≡◌, refl, ℕ, suc, ◌-◌, ◌≤◌, ◌<◌}
+use Rattle.std.specs.Prelude.{◌≡◌, refl, ℕ, ◌≤◌, ◌<◌}
 use Rattle.std.proofs.Common.{sym, ap, ap₂, ◌∙◌, arith}
 use Rattle.model.specs.Bytes.{Bytes}
 use Rattle.model.specs.Limits.{max_values}
-use Rattle.model.specs.Value.{Value, scalar, array, object, integer, string, Values, no_items, item, Members, no_members, member, member_count}
+use Rattle.model.specs.Value.{Value, scalar, array, object, integer, string, Values, item, Members, member, member_count}
 use Rattle.syntax.specs.Layout.{item_count, unbiased}
 use Rattle.syntax.proofs.Laws.Biased.{unbiased_biased}
 use Rattle.table.specs.declared.node.Node.{Node}

@@ -18,7 +18,7 @@ use Rattle.syntax.proofs.Laws.Stands.{Stands, front, back, part_stands, behind}
 use Rattle.syntax.proofs.Laws.StringsFit.{strings_small}
 use Rattle.syntax.proofs.Laws.WellFormed.{read_well_formed}
 use Rattle.table.specs.Denotes.{Denotes, RowItems, RowMembers}
-use Rattle.table.specs.Node.{rows, node_at, next_row, name_at}
+use Rattle.table.specs.Node.{node_at, next_row, name_at}
 use Rattle.table.specs.Placed.{row_after}
 use Rattle.table.specs.Strings.{bytes_of}
 use Rattle.table.specs.WasRead.{WasRead}
