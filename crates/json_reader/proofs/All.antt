@@ -19,7 +19,7 @@ use Rattle.model.specs.Value.{Value}
 use Rattle.name_index.specs.Contract.{entry}
 use Rattle.name_index.specs.Items.{link_items}
 use Rattle.name_index.specs.Slots as slots
-use Rattle.name_index.specs.Table.{IndexedNames, IndexedTable}
+use Rattle.name_index.specs.Table.{IndexedTable, IndexedWhole}
 use Rattle.scan.specs.declared.Fault.{Fault}
 use Rattle.scan.specs.Contract.{fault_of, Skipped}
 use Rattle.scan.specs.Laws.{white_by, ended_in, ended_end}
@@ -35,7 +35,7 @@ use Rattle.json_reader.specs.declared.step.Step.{Step}
 use Rattle.json_reader.specs.declared.step.Step.TheVariants.{Reached, Failed}
 use Rattle.json_reader.specs.declared.TextStep.{TextStep}
 use Rattle.json_reader.specs.declared.TextStep.TheVariants.{Whole, NoText}
-use Rattle.json_reader.specs.Contract.{answer_of, AllRead, RowsRead}
+use Rattle.json_reader.specs.Contract.{answer_of, AllRead, RowsRead, RowsReadAs}
 use Rattle.json_reader.specs.Inner.{value_form, ValueRead, TextWrote, TextMeets, TextRead}
 use Rattle.json_reader.proofs.Index.{value_frame}
 use Rattle.json_reader.proofs.Indexed.{names_indexed, items_indexed}
@@ -218,7 +218,7 @@ answered : (s T A : Bytes) {r : Answer} (o : Read) → too_short T A ≡ false �
 answered s T A o b e a = a ∙ (λ i. answer_of (sym b i) (sym e i))
 
 module _ {s T A : Bytes} where
-  rows_short : too_short T A ≡ true → RowsRead IndexedNames s T A (reply 1 0 0) T A
+  rows_short : too_short T A ≡ true → RowsRead s T A (reply 1 0 0) T A
   rows_short e = record {
     answer = ap (λ (b : Bool). answer_of b (read s)) (sym e);
     untouched = λ _. (refl, refl);
@@ -228,14 +228,14 @@ module _ {s T A : Bytes} where
     indexed = λ v f. absurd (true_false e f);
   }
 
-  pub law_short_table : length T < table_bytes → RowsRead IndexedNames s T A (reply 1 0 0) T A
+  pub law_short_table : length T < table_bytes → RowsRead s T A (reply 1 0 0) T A
   law_short_table h = rows_short (rw (lt-ltb _ _ h))
 
-  pub law_short_strings : table_bytes ≤ length T → length A < strings_bytes → RowsRead IndexedNames s T A (reply 1 0 0) T A
+  pub law_short_strings : table_bytes ≤ length T → length A < strings_bytes → RowsRead s T A (reply 1 0 0) T A
   law_short_strings h g = rows_short (rw (le-ltb _ _ h, lt-ltb _ _ g))
 
   module _ (h : table_bytes ≤ length T) (g : strings_bytes ≤ length A) {T₁ A₁ T₂ A₂ : Bytes} (lt : length T₁ ≡ length T) (la : length A₁ ≡ length A) where
-    pub law_refused : {x : Fault} → TextRead s T A (NoText x) T₁ A₁ → T₂ ≡ zero_from 0 T₁ → A₂ ≡ zero_from 0 A₁ → RowsRead IndexedNames s T A (reply x.number x.at 0) T₂ A₂
+    pub law_refused : {x : Fault} → TextRead s T A (NoText x) T₁ A₁ → T₂ ≡ zero_from 0 T₁ → A₂ ≡ zero_from 0 A₁ → RowsRead s T A (reply x.number x.at 0) T₂ A₂
     law_refused {x} m t a =
         let o = refused_of T A T₁ A₁ x (read s) m.meets in
         let f = o.fault in
@@ -274,12 +274,12 @@ module _ {s T A : Bytes} where
             strings = a ∙ (λ k. zero_from (w.text k) (w.area k)) ∙ zero_from_sets ts A (omega (arith, w.text, w.fits)) ∙ ap (strings_area_of v) (sym length_strings);
           }
 
-      whole_indexed : IndexedNames T₂ A₂
+      whole_indexed : IndexedTable T₂ A₂
       whole_indexed =
           names_indexed whole_read
           (value_frame T₁ T₂ whole.v 0 (λ e _ _. ap (λ (d : Bytes). entry d e) t ∙ entry_cleared T₁ (rows * row_bytes) e (omega arith)) whole.wrote.index)
 
-      pub law_done : RowsRead IndexedNames s T A (reply 0 0 rows) T₂ A₂
+      pub law_done : RowsRead s T A (reply 0 0 rows) T₂ A₂
       law_done = record {
         answer = answered s T A (done whole.v) (long_enough T A h g) whole.is (ap (reply 0 0) whole.wrote.count);
         untouched = λ e. absurd (true_false e (long_enough T A h g));
@@ -290,12 +290,12 @@ module _ {s T A : Bytes} where
       }
 
 -- ---- a law for each return of `read_indexed`
-module _ {s T A : Bytes} {r : Answer} {T' A' : Bytes} (w : RowsRead IndexedNames s T A r T' A') where
+module _ {s T A : Bytes} {r : Answer} {T' A' : Bytes} (w : RowsRead s T A r T' A') where
   answer_by : (b : Bool) (g : Read) → too_short T A ≡ b → read s ≡ g → r ≡ answer_of b g
   answer_by b g e f = w.answer ∙ (λ i. answer_of (e i) (f i))
 
   -- Of a text that is refused nothing is said of an index.
-  pub law_unread : (r.refusal ≡ 0 → ⊥) → RowsRead IndexedTable s T A r T' A'
+  pub law_unread : (r.refusal ≡ 0 → ⊥) → RowsReadAs IndexedWhole s T A r T' A'
   law_unread n = record {
     answer = w.answer;
     untouched = w.untouched;
@@ -305,13 +305,13 @@ module _ {s T A : Bytes} {r : Answer} {T' A' : Bytes} (w : RowsRead IndexedNames
     indexed = λ v e f. absurd (n (ap (λ (x : Answer). x.refusal) (answer_by false (done v) e f)));
   }
 
-  entered_by : {T₂ : Bytes} (b : Bool) (g : Read) → too_short T A ≡ b → read s ≡ g → (answer_of b g).refusal ≡ 0 → T₂ ≡ link_items T' r.rows → RowsRead IndexedTable s T A r T₂ A'
+  entered_by : {T₂ : Bytes} (b : Bool) (g : Read) → too_short T A ≡ b → read s ≡ g → (answer_of b g).refusal ≡ 0 → T₂ ≡ link_items T' r.rows → RowsReadAs IndexedWhole s T A r T₂ A'
   entered_by true g e f n t = absurd (omega arith)
   entered_by false (refuse k p) e f n t = absurd (not_zero k n)
   entered_by {T₂} false (done v) e f n t =
       let same : T₂ ≡ link_items T' (value_count v) = t ∙ ap (λ (x : Answer). link_items T' x.rows) (answer_by false (done v) e f) in
-      let o : SameRows T₂ T' × IndexedTable T₂ A' =
-      subst⁻¹ (λ (D : Bytes). SameRows D T' × IndexedTable D A') same (items_indexed (w.was_read v e f) (w.indexed v e f)) in
+      let o : SameRows T₂ T' × IndexedWhole T₂ A' =
+      subst⁻¹ (λ (D : Bytes). SameRows D T' × IndexedWhole D A') same (items_indexed (w.was_read v e f) (w.indexed v e f)) in
       record {
         answer = w.answer;
         untouched = λ u. absurd (true_false u e);
@@ -321,7 +321,7 @@ module _ {s T A : Bytes} {r : Answer} {T' A' : Bytes} (w : RowsRead IndexedNames
         indexed = λ _ _ _. o.1;
       }
 
-  pub law_entered : {T₂ : Bytes} → r.refusal ≡ 0 → T₂ ≡ link_items T' r.rows → RowsRead IndexedTable s T A r T₂ A'
+  pub law_entered : {T₂ : Bytes} → r.refusal ≡ 0 → T₂ ≡ link_items T' r.rows → RowsReadAs IndexedWhole s T A r T₂ A'
   law_entered n t = entered_by (too_short T A) (read s) refl refl (sym (ap (λ (x : Answer). x.refusal) w.answer) ∙ n) t
 
 -- ---- a law for each return of `read`
@@ -352,7 +352,7 @@ module _ {s T A : Bytes} where
         strings = λ p. u ∙ ap (λ (x : ReadAnswer). x.strings) (c p);
       })
 
-  module _ {r : Answer} {T' A' : Bytes} (w : RowsRead IndexedNames s T A r T' A') where
+  module _ {r : Answer} {T' A' : Bytes} (w : RowsRead s T A r T' A') where
     kept_by : (b : Bool) (g : Read) → too_short T A ≡ b → read s ≡ g → ((answer_of b g).refusal ≡ 0 → ⊥) → AllRead s T A r T' A'
     kept_by true g e f n =
         let u = w.untouched e in

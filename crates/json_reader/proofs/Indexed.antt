@@ -13,7 +13,7 @@ use Rattle.model.specs.Value.{Value, object, Members, no_members, member, member
 use Rattle.name_index.specs.Contract.{Entry, Named, Indexed}
 use Rattle.name_index.specs.Items.{is_array, link_items}
 use Rattle.name_index.specs.Laws.Arrays.{table_indexed}
-use Rattle.name_index.specs.Table.{entries_at, IndexedObject, IndexedNames, IndexedTable}
+use Rattle.name_index.specs.Table.{entries_at, IndexedObject, IndexedTable, IndexedWhole}
 use Rattle.syntax.specs.Layout.{row_bytes, entry_bytes, table_bytes, rows_of, member_rows, strings_of, member_strings}
 use Rattle.syntax.specs.Layout as layout
 use Rattle.syntax.proofs.Laws.Stands.{front, back}
@@ -108,7 +108,7 @@ module _ {T B : Bytes} {v : Value} (w : WasRead T B v) (h : IndexedValue T 0 v) 
         between = rw same (entries_between ms q.first (row + 1) max_values (omega (arith, x.first)) s.few);
       }
 
-  pub names_indexed : IndexedNames T B
+  pub names_indexed : IndexedTable T B
   names_indexed = record { size = w.size; placed = was_read_placed w; objects = object_indexed }
 
 -- ---- every array
@@ -117,5 +117,5 @@ module _ {T B : Bytes} {v : Value} (w : WasRead T B v) where
   no_array : (row : ℕ) (q : Rows) → value_count v ≤ row → row < max_values → node_at T row ≡ Array q → ⊥
   no_array row q l k e = let p = ap is_array (sym (behind_null w row l k) ∙ e) in omega arith
 
-  pub items_indexed : IndexedNames T B → SameRows (link_items T (value_count v)) T × IndexedTable (link_items T (value_count v)) B
+  pub items_indexed : IndexedTable T B → SameRows (link_items T (value_count v)) T × IndexedWhole (link_items T (value_count v)) B
   items_indexed h = table_indexed T B (value_count v) h (omega (arith, (root_stands w).few)) (root_end w) no_array

@@ -4,6 +4,7 @@ use Rattle.model.specs.Bytes.{Bytes}
 use Rattle.model.specs.Refusal.{ReadFault, number, invalid_argument, read_number}
 use Rattle.model.specs.Size.{value_count}
 use Rattle.model.specs.Value.{Value}
+use Rattle.name_index.specs.Table.{IndexedTable}
 use Rattle.syntax.specs.Entry.{too_short, read_entry}
 use Rattle.syntax.specs.Read.{Read, done, refuse, read}
 use Rattle.table.specs.WasRead.{WasRead}
@@ -25,10 +26,14 @@ pub record AllRead (s T A : Bytes) (r : Answer) (T' A' : Bytes) : Type 0 where
   pub strings : (p : ℕ) → A' ≡ (read_entry s T A p).strings
 
 -- Until the work room behind the rows is cleared. Index: what a text that reads leaves there; one that is refused leaves zeros.
-pub record RowsRead (Index : Bytes → Bytes → Type 0) (s T A : Bytes) (r : Answer) (T' A' : Bytes) : Type 0 where
+pub record RowsReadAs (Index : Bytes → Bytes → Type 0) (s T A : Bytes) (r : Answer) (T' A' : Bytes) : Type 0 where
   pub answer : r ≡ answer_of (too_short T A) (read s)
   pub untouched : too_short T A ≡ true → (T' ≡ T) × (A' ≡ A)
   pub refused : (k : ReadFault) (p : ℕ) → too_short T A ≡ false → read s ≡ refuse k p → (T' ≡ replicate (length T) 0) × (A' ≡ replicate (length A) 0)
   pub sizes : (length T' ≡ length T) × (length A' ≡ length A)
   pub was_read : (v : Value) → too_short T A ≡ false → read s ≡ done v → WasRead T' A' v
   pub indexed : (v : Value) → too_short T A ≡ false → read s ≡ done v → Index T' A'
+
+-- The index of names stays.
+abbrev pub RowsRead : Bytes → Bytes → Bytes → Answer → Bytes → Bytes → Type 0
+RowsRead = RowsReadAs IndexedTable

@@ -4,9 +4,9 @@
 ghost use Rattle.std.specs.Prelude.{◌≡◌, ◌*◌, ◌≤◌, length};
 ghost use Rattle.area.specs.Words.{zero_from};
 ghost use Rattle.model.specs.Limits.{max_values};
-ghost use Rattle.name_index.specs.Table.{IndexedNames, IndexedTable};
+ghost use Rattle.name_index.specs.Table.{IndexedTable, IndexedWhole};
 ghost use Rattle.syntax.specs.Layout.{row_bytes, table_bytes, strings_bytes};
-ghost use Rattle.json_reader.specs.Contract.{AllRead, RowsRead};
+ghost use Rattle.json_reader.specs.Contract.{AllRead, RowsRead, RowsReadAs};
 ghost use Rattle.json_reader.specs.Inner.{TextRead};
 
 use crate::row::Label;
@@ -72,7 +72,7 @@ fn read_text(text: &[u8], table: &mut [u8], strings: &mut [u8]) -> TextStep
 
 // Reads a text into the two areas. Behind the rows of the table the index of names stays.
 pub fn read_rows(text: &[u8], table: &mut [u8], strings: &mut [u8]) -> Answer
-    ensures { RowsRead IndexedNames text.now table.old strings.old result table.new strings.new }
+    ensures { RowsRead text.now table.old strings.old result table.new strings.new }
 {
     if table.len() < TABLE_BYTES {
         return Answer {
@@ -113,7 +113,7 @@ pub fn read_rows(text: &[u8], table: &mut [u8], strings: &mut [u8]) -> Answer
 
 // Reads a text into the two areas, and enters the items of its long arrays. Behind the rows of the table the index of names and items stays.
 pub fn read_indexed(text: &[u8], table: &mut [u8], strings: &mut [u8]) -> Answer
-    ensures { RowsRead IndexedTable text.now table.old strings.old result table.new strings.new }
+    ensures { RowsReadAs IndexedWhole text.now table.old strings.old result table.new strings.new }
 {
     let found = read_rows(text, table, strings);
     if found.refusal != 0 {

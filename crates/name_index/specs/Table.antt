@@ -23,7 +23,7 @@ pub record IndexedObject (T B : Bytes) (q : Rows) : Type 0 where
   pub between : Between q.first max_values (entries_at T B q.first q.count)
 
 -- The objects' names.
-pub record IndexedNames (T B : Bytes) : Type 0 where
+pub record IndexedTable (T B : Bytes) : Type 0 where
   pub size : table_bytes ≤ length T
   pub placed : Placed T
   pub objects : (row : ℕ) (q : Rows) → row < max_values → node_at T row ≡ Object q → IndexedObject T B q
@@ -34,6 +34,6 @@ pub record IndexedItems (T : Bytes) : Type 0 where
   pub placed : Placed T
   pub arrays : (row : ℕ) (q : Rows) → row < max_values → node_at T row ≡ Array q → has_index T row q ≡ true → IndexedArray T q
 
-pub record IndexedTable (T B : Bytes) : Type 0 where
-  pub names : IndexedNames T B
+pub record IndexedWhole (T B : Bytes) : Type 0 where
+  pub names : IndexedTable T B
   pub items : IndexedItems T

@@ -15,15 +15,12 @@ use Rattle.table.specs.declared.node.Node.TheVariants.{Null, False, True, Intege
 use Rattle.table.specs.declared.node.Rows.{Rows}
 use Rattle.table.specs.Node.{node_at, next_row, name_at, tail_of}
 use Rattle.table.specs.Placed.{Placed, row_after}
-use Rattle.table.specs.Laws.After.{Below, rows_grow}
 use Rattle.table.specs.Strings.{bytes_of}
 use Rattle.name_index.specs.declared.find.Found.{Found}
 use Rattle.name_index.specs.declared.find.Found.TheVariants.{Nowhere, At}
 use Rattle.name_index.specs.Contract.{first_named, Finds}
-use Rattle.name_index.specs.Items.{has_index, item_row}
 use Rattle.name_index.specs.Laws.Find.{found_first}
-use Rattle.name_index.specs.Laws.Items.{item_found}
-use Rattle.name_index.specs.Table.{entries_at, IndexedItems, IndexedTable}
+use Rattle.name_index.specs.Table.{entries_at, IndexedTable}
 use Rattle.paths.specs.Contract.{row_named, member_in, item_in, part_in}
 use Rattle.paths.specs.Inner.{AllOf, Flat}
 
@@ -49,7 +46,7 @@ entries_named T B f row (suc n) = ap (cond (same_bytes f (bytes_of B (name_at T 
 
 pub named_indexed : {T B f : Bytes} {q : Rows} {r : Found} → IndexedTable T B → AllOf T q (Object q) → 0 < q.count → Finds T B q.first f r → r ≡ row_named T B f q.first q.count
 named_indexed {T} {B} {f} {q} i a l x =
-    found_first i.names.size (i.names.objects (q.first - 1) q (omega (arith, a.after, a.within)) a.is) a.after l x ∙ entries_named T B f q.first q.count
+    found_first i.size (i.objects (q.first - 1) q (omega (arith, a.after, a.within)) a.is) a.after l x ∙ entries_named T B f q.first q.count
 
 -- The node of a row that was found.
 abbrev node_found : Bytes → Found → Node
@@ -82,28 +79,39 @@ module _ (T : Bytes) (q : Rows) (k : ℕ) where
       let j : k ≡ suc (k - 1) = omega arith in
       ap (λ (x : Rows). item_in T x.first x.count (k - 1)) e ∙ sym (ap₂ (item_in T q.first) n j)
 
--- ---- the row of an item
-item_row_lem : (T : Bytes) (row n k : ℕ) → k < n → item_in T row n k ≡ node_at T (row_after T row k)
-item_row_lem T row zero k l = absurd (omega arith)
-item_row_lem T row (suc n) zero l = refl
-item_row_lem T row (suc n) (suc k) l = item_row_lem T (next_row T row) n k (omega arith)
+-- ---- items of one row each
+item_row : (T : Bytes) (row n k : ℕ) → k < n → item_in T row n k ≡ node_at T (row_after T row k)
+item_row T row zero k l = absurd (omega arith)
+item_row T row (suc n) zero l = refl
+item_row T row (suc n) (suc k) l = item_row T (next_row T row) n k (omega arith)
 
-pub item_past : (T : Bytes) (row n k : ℕ) → n ≤ k → Null ≡ item_in T row n k
+item_past : (T : Bytes) (row n k : ℕ) → n ≤ k → Null ≡ item_in T row n k
 item_past T row zero k l = refl
 item_past T row (suc n) zero l = absurd (omega arith)
 item_past T row (suc n) (suc k) l = item_past T (next_row T row) n k (omega arith)
 
--- ---- items of one row each
+pub flat_past : (T : Bytes) (q : Rows) (k : ℕ) → q.count ≤ k → Null ≡ item_in T q.first q.count k
+flat_past T q k l = item_past T q.first q.count k l
+
 pub flat_item : {T : Bytes} {q : Rows} (k : ℕ) → Flat T q → k < q.count → node_at T (q.first + k) ≡ item_in T q.first q.count k
-flat_item {T} {q} k f l = sym (item_row_lem T q.first q.count k l ∙ ap (node_at T) (f.rows k l))
+flat_item {T} {q} k f l = sym (item_row T q.first q.count k l ∙ ap (node_at T) (f.rows k l))
+
+-- Rows one after the other, all in a text's.
+abbrev Within : Bytes → ℕ → ℕ → Type 0
+Within T row n = (k : ℕ) → k < n → row_after T row k < max_values
 
 module _ {T : Bytes} (placed : Placed T) where
+  rows_grow : (row n : ℕ) → Within T row n → row + n ≤ row_after T row n
+  rows_grow row zero w = omega arith
+  rows_grow row (suc n) w =
+      omega (arith, placed.on row (w 0 (omega arith)), rows_grow (next_row T row) n (λ k l. w (suc k) (omega arith)))
+
   -- If they end as soon as they can, each is one row.
-  rows_flat : (row n : ℕ) → Below T row n → row_after T row n ≡ row + n → (k : ℕ) → k < n → row_after T row k ≡ row + k
+  rows_flat : (row n : ℕ) → Within T row n → row_after T row n ≡ row + n → (k : ℕ) → k < n → row_after T row k ≡ row + k
   rows_flat row zero w e k l = absurd (omega arith)
   rows_flat row (suc n) w e zero l = sym (add-zero row)
   rows_flat row (suc n) w e (suc k) l =
-      let next : next_row T row ≡ row + 1 = omega (arith, e, placed.on row (w 0 (omega arith)), rows_grow placed (next_row T row) n (λ j m. w (suc j) (omega arith))) in
+      let next : next_row T row ≡ row + 1 = omega (arith, e, placed.on row (w 0 (omega arith)), rows_grow (next_row T row) n (λ j m. w (suc j) (omega arith))) in
       let end : row_after T (next_row T row) n ≡ next_row T row + n = omega (arith, e, next) in
       let here = rows_flat (next_row T row) n (λ j m. w (suc j) (omega arith)) end k (omega arith) in
       omega (arith, here, next)
@@ -120,16 +128,6 @@ module _ {T : Bytes} (placed : Placed T) where
 
   pub ends_after : {q : Rows} → AllOf T q (Array q) → q.first ≤ next_row T (q.first - 1)
   ends_after {q} a = omega (arith, a.after, a.within, placed.on (q.first - 1) (omega (arith, a.after, a.within)))
-
--- ---- items by their index
-pub indexed_item : {T : Bytes} {q : Rows} (k : ℕ) → IndexedItems T → AllOf T q (Array q) → k < q.count → has_index T (q.first - 1) q ≡ true
-    → node_at T (item_row T q.first k) ≡ item_in T q.first q.count k
-indexed_item {T} {q} k i a l h =
-    let row = q.first - 1 in
-    let below : row < max_values = omega (arith, a.after, a.within) in
-    let within : Below T q.first q.count = i.placed.inside row q below a.is in
-    let small : k < max_values = omega (arith, within k l, rows_grow i.placed q.first k (λ j m. within j (omega arith))) in
-    ap (node_at T) (item_found T q k (i.arrays row q below a.is h) l small) ∙ sym (item_row_lem T q.first q.count k l)
 
 -- ---- a fragment names nothing in what is no array and no object
 pub no_part : (T B f : Bytes) (n : Node) → OneOf (0 ∷ 1 ∷ 2 ∷ 3 ∷ 4 ∷ []) (tag_of the_type n) → Null ≡ part_in T B f n

@@ -7,7 +7,8 @@ pub mod members;
 mod owner;
 
 ghost use Rattle.std.specs.Prelude.{◌≡◌};
-ghost use Rattle.name_index.specs.Table.{IndexedItems, IndexedTable};
+ghost use Rattle.name_index.specs.Table.{IndexedTable};
+ghost use Rattle.table.specs.Placed.{Placed};
 ghost use Rattle.paths.specs.Contract.{index_in, member_in, item_of, part_in, Leads};
 
 use crate::index::{Index, read_index};
@@ -31,7 +32,7 @@ fn member(fragment: &[u8], table: &[u8], strings: &[u8], q: Rows) -> Node
 
 // The item that a fragment names.
 fn item_named(fragment: &[u8], table: &[u8], q: Rows) -> Node
-    requires { IndexedItems table.now }
+    requires { Placed table.now }
     ensures { result ≡ item_of table.now q (index_in fragment.now) }
 {
     let index = read_index(fragment);

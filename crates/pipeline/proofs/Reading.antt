@@ -16,7 +16,6 @@ use Rattle.model.specs.Rule.{Rule}
 use Rattle.model.specs.Shape.{shape}
 use Rattle.model.specs.Sheet.{Sheet, sheet_of}
 use Rattle.model.specs.Value.{Value}
-use Rattle.name_index.specs.Table.{IndexedTable}
 use Rattle.syntax.specs.Entry.{too_short}
 use Rattle.syntax.specs.Layout.{table_of, strings_area_of}
 use Rattle.syntax.specs.Read as readings
@@ -31,7 +30,7 @@ use Rattle.pipeline.specs.Areas.{TextAreas, text_areas, is_short, zeroed, holdin
 use Rattle.pipeline.specs.Contract.{stop_of, lent, left_in, tidied_in, Reads, ReadsRule, ReadsSheet}
 use Rattle.pipeline.specs.Inner.{stopped, told_of}
 use Rattle.pipeline.specs.Laws.Stages.{number_some, text_held, read_held, left_holding}
-use Rattle.pipeline.specs.Laws.LongAreas.{Long, lent_long, tidied_long, lent_passed, ReadsLong, text_long}
+use Rattle.pipeline.specs.Laws.LongAreas.{Long, lent_long, left_long, tidied_long, lent_passed, ReadsLong, text_long}
 use Rattle.pipeline.specs.Laws.Tidied.{tidied_same, tidied_holding, tidied_zeroed}
 use Rattle.pipeline.specs.Stage.{Stage, passed, refused, as_read, read_as, rule_text, sheet_text}
 use Rattle.pipeline.specs.Texts.{TextRead, text_stage, rule_stage, sheet_stage}
@@ -62,36 +61,28 @@ told_is which true g = refl
 told_is which false (readings.done v) = refl
 told_is which false (readings.refuse k p) = rw (ne_eqb (number (ofReading k)) 0 (number_some (ofReading k)))
 
--- Whatever index is left behind the rows.
-module _ (which : ℕ) {Index : Bytes → Bytes → Type 0} {s T A T' A' : Bytes} {x : reading.Answer} {r : Stop} (h : RowsRead Index s T A x T' A') (e : r ≡ told_of which x) where
-  text_stop : r ≡ stop_of (lent (text_areas T A) which (read_as which s))
-  text_stop = e ∙ ap (told_of which) h.answer ∙ told_is which (too_short T A) (read s)
-
-  text_left : tidied_in (text_areas T A) (text_areas T' A') ≡ left_in s (text_areas T A)
-  text_left = by_size (too_short T A) refl
-    where
-      by_text : (g : Read) → too_short T A ≡ false → read s ≡ g → tidied (text_areas T' A') ≡ left_by s (text_areas T A)
-      by_text (readings.done v) f g =
-          let same : holding v (text_areas T' A') ≡ holding v (text_areas T A) = λ i. text_areas (table_of v (h.sizes.0 i)) (strings_area_of v (h.sizes.1 i)) in
-          tidied_holding (h.was_read v f g) ∙ same ∙ sym (left_holding s v (text_areas T A) g)
-      by_text (readings.refuse k p) f g =
-          let z = h.refused k p f g in
-          let left : left_by s (text_areas T A) ≡ zeroed (text_areas T A) = rw g in
-          (λ i. tidied (text_areas (z.0 i) (z.1 i))) ∙ tidied_zeroed (text_areas T A) ∙ sym left
-
-      by_size : (b : Bool) → too_short T A ≡ b → tidied_in (text_areas T A) (text_areas T' A') ≡ left_in s (text_areas T A)
-      by_size true f = let z = h.untouched f in rw f (λ i. text_areas (z.0 i) (z.1 i))
-      by_size false f = rw f (by_text (read s) f refl)
-
-pub text_read : (which : ℕ) {s T A T' A' : Bytes} {x : reading.Answer} {r : Stop} → RowsRead IndexedTable s T A x T' A' → r ≡ told_of which x → Reads which s (text_areas T A) r (text_areas T' A')
-text_read which {s} {T} {A} h e = record {
-  stop = text_stop which h e;
-  areas = text_left which h e;
+pub text_read : (which : ℕ) {s T A T' A' : Bytes} {x : reading.Answer} {r : Stop} → RowsRead s T A x T' A' → r ≡ told_of which x → Reads which s (text_areas T A) r (text_areas T' A')
+text_read which {s} {T} {A} {T'} {A'} {x} {r} h e = record {
+  stop = e ∙ ap (told_of which) h.answer ∙ told_is which (too_short T A) (read s);
+  areas = by_size (too_short T A) refl;
   holds = λ v f.
       let l = lent_passed (text_areas T A) which (read_as which s) v f in
       let g = read_held which s v l.is in
       record { was_read = h.was_read v l.long.long g; indexed = h.indexed v l.long.long g };
 }
+  where
+    by_text : (g : Read) → too_short T A ≡ false → read s ≡ g → tidied (text_areas T' A') ≡ left_by s (text_areas T A)
+    by_text (readings.done v) f g =
+        let same : holding v (text_areas T' A') ≡ holding v (text_areas T A) = λ i. text_areas (table_of v (h.sizes.0 i)) (strings_area_of v (h.sizes.1 i)) in
+        tidied_holding (h.was_read v f g) ∙ same ∙ sym (left_holding s v (text_areas T A) g)
+    by_text (readings.refuse k p) f g =
+        let z = h.refused k p f g in
+        let left : left_by s (text_areas T A) ≡ zeroed (text_areas T A) = rw g in
+        (λ i. tidied (text_areas (z.0 i) (z.1 i))) ∙ tidied_zeroed (text_areas T A) ∙ sym left
+
+    by_size : (b : Bool) → too_short T A ≡ b → tidied_in (text_areas T A) (text_areas T' A') ≡ left_in s (text_areas T A)
+    by_size true f = let z = h.untouched f in rw f (λ i. text_areas (z.0 i) (z.1 i))
+    by_size false f = rw f (by_text (read s) f refl)
 
 -- ---- a text and what it has to be, with areas that are long enough
 module _ {X : Type 0} (which : ℕ) (judge : Value → Judged X) (s : Bytes) {r : Stop} (h : r ≡ stop_of (read_as which s)) where
@@ -168,22 +159,22 @@ stopped_some : {k : ℕ} {x : Stop} → 0 < k → x ≡ stopped k → x.refusal 
 stopped_some p e z = let f = ap (λ (w : Stop). w.refusal) e in omega (arith, p, z, f)
 
 -- ---- a rule
-module _ {Index : Bytes → Bytes → Type 0} {s T A T' A' : Bytes} {x : reading.Answer} {r : Stop} (h : RowsRead Index s T A x T' A') (told : r ≡ told_of rule_text x) where
+module _ {s T A T' A' : Bytes} {r : Stop} (h : Reads rule_text s (text_areas T A) r (text_areas T' A')) where
   pub rule_unread : (r.refusal ≡ 0 → ⊥) → ReadsRule s (text_areas T A) r (text_areas T' A')
-  rule_unread n = record { stop = stop_is; areas = text_left rule_text h told; holds = λ x e. absurd (not_passed stop_is n e) }
+  rule_unread n = record { stop = stop_is; areas = h.areas; holds = λ x e. absurd (not_passed stop_is n e) }
     where
       stop_is : r ≡ stop_of (lent (text_areas T A) rule_text (rule_stage s))
-      stop_is = onward (text_areas T A) rule_text (read_as rule_text s) (text_stop rule_text h told) (rule_stage s) (λ k. unread rule_text rule_in s k n)
+      stop_is = onward (text_areas T A) rule_text (read_as rule_text s) h.stop (rule_stage s) (λ k. unread rule_text rule_in s k n)
 
   module _ (zero : r.refusal ≡ 0) (b : Bool) {T'' : Bytes} (c : Checks T' A' b T'') where
     rule_areas_long : Long (text_areas T A)
-    rule_areas_long = zero_long (text_areas T A) rule_text (read_as rule_text s) (text_stop rule_text h told) zero
+    rule_areas_long = zero_long (text_areas T A) rule_text (read_as rule_text s) h.stop zero
 
-    read_stop : r ≡ stop_of (read_as rule_text s)
-    read_stop = text_stop rule_text h told ∙ ap stop_of (lent_long rule_text (read_as rule_text s) rule_areas_long)
+    rule_read : ReadsLong HoldsIndexed (read_as rule_text s) s (text_areas T A) r (text_areas T' A')
+    rule_read = text_long rule_areas_long h
 
     value_read : (v : Value) → read s ≡ readings.done v → WasRead T' A' v
-    value_read v e = h.was_read v rule_areas_long.long e
+    value_read v e = (rule_read.holds v (ap (as_read rule_text) e)).was_read
 
     is_tested : (v : Value) → read s ≡ readings.done v → b ≡ is_some (shape v)
     is_tested v e = c.is v (value_read v e)
@@ -193,7 +184,7 @@ module _ {Index : Bytes → Bytes → Type 0} {s T A T' A' : Bytes} {x : reading
     same_rows = record { rows = c.rows; size = c.size }
 
     rule_left : tidied_in (text_areas T A) (text_areas T'' A') ≡ left_in s (text_areas T A)
-    rule_left = tidied_long (text_areas T'' A') rule_areas_long ∙ tidied_same A' same_rows ∙ sym (tidied_long (text_areas T' A') rule_areas_long) ∙ text_left rule_text h told
+    rule_left = tidied_long (text_areas T'' A') rule_areas_long ∙ tidied_same A' same_rows ∙ rule_read.areas ∙ sym (left_long s rule_areas_long)
 
     rule_stop : {x : Stop} → x ≡ stop_of (rule_stage s) → x ≡ stop_of (lent (text_areas T A) rule_text (rule_stage s))
     rule_stop e = e ∙ sym (ap stop_of (lent_long rule_text (rule_stage s) rule_areas_long))
@@ -202,10 +193,10 @@ module _ {Index : Bytes → Bytes → Type 0} {s T A T' A' : Bytes} {x : reading
     no_rule {x} e f = record { stop = stop_is; areas = rule_left; holds = λ y g. absurd (not_passed stop_is (stopped_some (omega arith) f) g) }
       where
         stop_is : x ≡ stop_of (lent (text_areas T A) rule_text (rule_stage s))
-        stop_is = rule_stop (f ∙ tested_not rule_text not_rule shape s read_stop zero b is_tested e)
+        stop_is = rule_stop (f ∙ tested_not rule_text not_rule shape s rule_read.stop zero b is_tested e)
 
     pub a_rule : b ≡ true → ReadsRule s (text_areas T A) r (text_areas T'' A')
-    a_rule e = record { stop = rule_stop (tested_is rule_text not_rule shape s read_stop zero b is_tested e); areas = rule_left; holds = held }
+    a_rule e = record { stop = rule_stop (tested_is rule_text not_rule shape s rule_read.stop zero b is_tested e); areas = rule_left; holds = held }
       where
         held : (x : TextRead Rule) → lent (text_areas T A) rule_text (rule_stage s) ≡ passed x → HoldsMarked x.value (text_areas T'' A')
         held x f =

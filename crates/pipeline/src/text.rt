@@ -6,7 +6,7 @@ ghost use Rattle.pipeline.specs.Contract.{Reads, ReadsRule};
 ghost use Rattle.pipeline.specs.Inner.{told_of};
 
 use crate::number::numbered;
-use json_reader::{Answer as Reading, read_indexed, read_rows};
+use json_reader::{Answer as Reading, read_rows};
 use shape::is_rule;
 use syntax::{STRINGS_BYTES, TABLE_BYTES};
 
@@ -46,14 +46,14 @@ fn told(which: usize, a: Reading) -> Stop
 pub fn read_text(which: usize, text: &[u8], table: &mut [u8], strings: &mut [u8]) -> Stop
     ensures { Reads which text.now (text_areas table.old strings.old) result (text_areas table.new strings.new) }
 {
-    told(which, read_indexed(text, table, strings))
+    told(which, read_rows(text, table, strings))
 }
 
 // A rule's text; 6 where it is not one.
 pub fn read_rule(text: &[u8], table: &mut [u8], strings: &mut [u8]) -> Stop
     ensures { ReadsRule text.now (text_areas table.old strings.old) result (text_areas table.new strings.new) }
 {
-    let a = told(1, read_rows(text, table, strings));
+    let a = read_text(1, text, table, strings);
     if a.refusal != 0 {
         return a;
     }

@@ -26,7 +26,7 @@ use Rattle.table.specs.Laws.Placed.{array_first, object_first}
 use Rattle.table.specs.Laws.WasRead.{SameRows, word_same, node_same, next_same, name_same}
 use Rattle.name_index.specs.Contract.{entry, Entry, Named, Between, HasRow, Indexed}
 use Rattle.name_index.specs.Items.{double_at, is_array, few_items, has_index, link_from, link_node, link_rows, link_items, ItemsLinked}
-use Rattle.name_index.specs.Table.{entries_at, IndexedObject, IndexedNames, IndexedTable}
+use Rattle.name_index.specs.Table.{entries_at, IndexedObject, IndexedTable, IndexedWhole}
 use Rattle.name_index.specs.Laws.Entries.{has_between, indexed_members_frame}
 use Rattle.name_index.specs.Laws.Items.{double_same, Linked, linked}
 
@@ -77,7 +77,7 @@ member_row T B zero row r h = absurd h
 member_row T B (suc n) row r (inl e) = record { at = 0; below = omega arith; is = e }
 member_row T B (suc n) row r (inr h) = let m = member_row T B n (next_row T row) r h in record { at = suc m.at; below = omega (arith, m.below); is = m.is }
 
-module _ (T B D : Bytes) (m : IndexedNames T B) (l : ItemsLinked T D) where
+module _ (T B D : Bytes) (m : IndexedTable T B) (l : ItemsLinked T D) where
   same_rows : SameRows D T
   same_rows = record { rows = l.rows; size = l.size }
 
@@ -101,7 +101,7 @@ module _ (T B D : Bytes) (m : IndexedNames T B) (l : ItemsLinked T D) where
         between = subst (Between q.first max_values) same o.between;
       }
 
-  kept_table : IndexedTable D B
+  kept_table : IndexedWhole D B
   kept_table =
       let size : table_bytes ≤ length D = rw l.size m.size in
       let placed = placed_same same_rows m.placed in
@@ -270,9 +270,9 @@ module _ (T : Bytes) (n : ℕ) (placed : Placed T) (size : table_bytes ≤ lengt
 
 -- Entering the items of a text's arrays keeps the rows, and leaves the names indexed as before.
 pub table_indexed :
-    (T B : Bytes) (n : ℕ) → IndexedNames T B → n ≤ max_values → next_row T 0 ≡ n
+    (T B : Bytes) (n : ℕ) → IndexedTable T B → n ≤ max_values → next_row T 0 ≡ n
     → ((row : ℕ) (q : Rows) → n ≤ row → row < max_values → node_at T row ≡ Array q → ⊥)
-    → SameRows (link_items T n) T × IndexedTable (link_items T n) B
+    → SameRows (link_items T n) T × IndexedWhole (link_items T n) B
 table_indexed T B n m few whole rest =
     let l = all_linked T n m.placed m.size few whole rest in
     (record { rows = l.rows; size = l.size }, kept_table T B (link_items T n) m l)
