@@ -23,7 +23,7 @@ fn has_fragments(text: &[u8]) -> bool
     !empty
 }
 
-// "empty, or non_empty_lem fragments parted by dots"
+// "empty, or non-empty fragments parted by dots"
 pub fn is_path(text: &[u8]) -> bool
     ensures { result ≡ is_some (path_of text.now) }
 {

@@ -60,7 +60,7 @@ abbrev pub collect_in : Bytes → Bytes → TypeSet → ℕ → ℕ → Content
 collect_in S Z s row zero = Listed s
 collect_in S Z s row (suc n) = then_types (with_type s (type_in Z (node_at S row))) (λ t. collect_in S Z t (next_row S row) n)
 
--- "a non_empty_lem array of distinct words"
+-- "a non-empty array of distinct words"
 abbrev pub words_in : Bytes → Bytes → Rows → Content
 words_in S Z q = cond (eqb q.count 0) NotTypes (collect_in S Z (set_of []) q.first q.count)
 

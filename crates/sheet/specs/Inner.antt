@@ -41,7 +41,7 @@ pub record Collects (S Z : Bytes) (s : TypeSet) (q : Rows) (r : Content) : Type 
   pub by_rows : r ≡ collect_in S Z s q.first q.count
   pub is : (vs : Values) → Denotes S Z (array vs) (Array q) → r ≡ joined s (types_of vs)
 
--- "a non_empty_lem array of distinct words"
+-- "a non-empty array of distinct words"
 pub record ListsWords (S Z : Bytes) (q : Rows) (r : Content) : Type 0 where
   pub by_rows : r ≡ words_in S Z q
   pub is : (vs : Values) → Denotes S Z (array vs) (Array q) → r ≡ content_of (content_types (array vs))

@@ -12,7 +12,7 @@ use octets::path::is_path;
 use table::node::{Node, Rows, name_at, node_at, tail};
 use table::string::bytes_of;
 
-// "Each name is a non_empty_lem `var` path"
+// "Each name is a non-empty `var` path"
 fn is_listed_path(text: &[u8]) -> bool
     ensures { result ≡ is_some (entry_path text.now) }
 {

@@ -60,7 +60,7 @@ fn collect(sheet_table: &[u8], sheet_strings: &[u8], q: Rows) -> Content
     Content::Types(set)
 }
 
-// "a non_empty_lem array of distinct words"
+// "a non-empty array of distinct words"
 fn words(sheet_table: &[u8], sheet_strings: &[u8], q: Rows) -> Content
     ensures { ListsWords sheet_table.now sheet_strings.now q result }
 {
