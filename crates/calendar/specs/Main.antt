@@ -1,7 +1,7 @@
 -- Main: the theorems of the calendar, restated with nothing else; the proofs are in Laws, here and in the crate model. (Shifts by months and years: the crate instants.)
 -- `dayAfter w` is the next day of w's month by the month table, or the first of the next month, or the first of the next year; `daysAfter n` takes it n times.
 -- `earlier` compares two dates by year, then by month, then by day. (These stand in model's Laws.Calendar and Laws.DayCount.)
-use Rattle.std.specs.Prelude.{◌≡◌, refl, ◌++◌, ◌⊎◌, ◌↔◌, ℕ, suc, ◌+◌, ◌*◌, ◌-◌, ◌/◌, ◌%◌, ◌≤◌, ◌<◌, T, ltb, ℤ, pos, ◌+ℤ◌, ◌-ℤ◌, ◌*ℤ◌}
+use Rattle.std.specs.Prelude.{◌≡◌, refl, ◌++◌, ◌⊎◌, ◌↔◌, ℕ, ◌+◌, ◌*◌, ◌-◌, ◌≤◌, T, ltb, ℤ, pos, ◌+ℤ◌, ◌-ℤ◌, ◌*ℤ◌}
 use Rattle.model.specs.Bytes.{Bytes, ascii}
 use Rattle.model.specs.Calendar.{date, date_of_day, day_number, is_valid, month_days, year_start}
 use Rattle.model.specs.DateText.{date_text, day_text, like, month_in, year_in}
