@@ -3,4 +3,3 @@ pub mod Tests
 pub mod Integers
 pub mod Seen
 pub mod Walk
-pub mod Viewing

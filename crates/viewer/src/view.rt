@@ -1,5 +1,4 @@
-// The viewer. The borrow checker covers no function over a struct that holds a reference, so each of these is proved by hand, and is thin:
-// the work is that of `find_row` and `find_part`.
+// The viewer, and thin: the work is that of `find_row` and `find_part`.
 ghost use Rattle.std.specs.Prelude.{◌≡◌};
 ghost use Rattle.viewer.specs.Contract.{row_seen, part_seen};
 

@@ -71,15 +71,15 @@ record Full (A : Bytes) : Type 0 where
 record Is (A : Bytes) (i : ℕ) (r : Row) : Type 0 where
   seen : row_seen A i ≡ rows.Is r
 
-row_count : {A : Bytes} → Full A → row_count A ≡ max_values
-row_count {A} f = rw (le-ltb (length A / row_bytes) max_values f.enough)
+row_count_lem : {A : Bytes} → Full A → row_count A ≡ max_values
+row_count_lem {A} f = rw (le-ltb (length A / row_bytes) max_values f.enough)
 
 row_seen_lem : {A : Bytes} (i kind : ℕ) (name : Label) (x y : ℕ) → Full A → Stands A (i * row_bytes) (row kind name x y) → i < max_values → Fits name
     → kind < 256 → x < 4294967296 → y < 4294967296 → has_content max_values i (numbers kind name x y) ≡ true → Is A i (numbers kind name x y)
 row_seen_lem i kind name x y full s l n k p q f =
     let is : ℕ → Row → RowAnswer = λ n r. cond (ltb i n && has_form n i r) (rows.Is r) rows.NotThere in
     record {
-      seen = ap₂ is (row_count full) (row_numbers i kind name x y s n k p q) ∙ rw (lt-ltb i max_values l, le-leb (name.start + name.size) max_text_bytes n, f);
+      seen = ap₂ is (row_count_lem full) (row_numbers i kind name x y s n k p q) ∙ rw (lt-ltb i max_values l, le-leb (name.start + name.size) max_text_bytes n, f);
     }
 
 module _ {A : Bytes} {i : ℕ} {r : Row} (s : Is A i r) where
