@@ -39,8 +39,8 @@ keywords =
     ∷ (ascii "not-before", counted 2 3 (Operation.compare OnInstants GreaterOrEqual))
     ∷ (ascii "!", counted 1 1 Operation.not)
     ∷ (ascii "dccDateOfBirth", counted 1 1 Operation.date_of_birth)
-    ∷ (ascii "plus_time", plus_time)
-    ∷ (ascii "extract_from_uvci", extract_from_uvci)
+    ∷ (ascii "plusTime", plus_time)
+    ∷ (ascii "extractFromUVCI", extract_from_uvci)
     ∷ []
 
 -- A name that is none of these is no operation.

@@ -101,17 +101,17 @@ pub row_reduce_14 : judged reduce_rule 14 ≡ denies (evaluating out_of_steps) 1
 unfolding shape body max_integer
 row_reduce_14 = refl
 
--- {"plus_time":["2020-01-31",1,"month"]}
-pub row_month : judged (op "plus_time" (str "2020-01-31" ∷ int 1 ∷ str "month" ∷ [])) max_steps ≡ gives "\"2020-03-02T00:00:00.000Z\"" 2
+-- {"plusTime":["2020-01-31",1,"month"]}
+pub row_month : judged (op "plusTime" (str "2020-01-31" ∷ int 1 ∷ str "month" ∷ [])) max_steps ≡ gives "\"2020-03-02T00:00:00.000Z\"" 2
 unfolding shape body date_text day_text starts_like shift date_of_day year_start months sum_first instant_text value_text value_count nesting max_steps max_text_bytes max_values max_nesting
 row_month = refl
 
--- {"plus_time":["2020-02-29",1,"year"]}
-pub row_year : judged (op "plus_time" (str "2020-02-29" ∷ int 1 ∷ str "year" ∷ [])) max_steps ≡ gives "\"2021-03-01T00:00:00.000Z\"" 2
+-- {"plusTime":["2020-02-29",1,"year"]}
+pub row_year : judged (op "plusTime" (str "2020-02-29" ∷ int 1 ∷ str "year" ∷ [])) max_steps ≡ gives "\"2021-03-01T00:00:00.000Z\"" 2
 unfolding shape body date_text day_text starts_like shift date_of_day year_start months sum_first instant_text value_text value_count nesting max_steps max_text_bytes max_values max_nesting
 row_year = refl
 
--- {"extract_from_uvci":["URN:UVCI",0]}
-pub row_uvci : judged (op "extract_from_uvci" (str "URN:UVCI" ∷ int 0 ∷ [])) max_steps ≡ gives "null" 2
+-- {"extractFromUVCI":["URN:UVCI",0]}
+pub row_uvci : judged (op "extractFromUVCI" (str "URN:UVCI" ∷ int 0 ∷ [])) max_steps ≡ gives "null" 2
 unfolding shape body value_text value_count nesting max_steps max_text_bytes max_values max_nesting
 row_uvci = refl

@@ -66,9 +66,9 @@ texts_read :
     × (read (ascii "{\">\":[3,2,\"x\"]}") ≡ readings.done (op ">" (int 3 ∷ int 2 ∷ str "x" ∷ [])))
     × (read (ascii "{\"+\":[9007199254740991,1]}") ≡ readings.done (op "+" (int 9007199254740991 ∷ int 1 ∷ [])))
     × (read (ascii "{\"reduce\":[[1,2,3],{\"+\":[{\"var\":\"current\"},{\"var\":\"accumulator\"}]},0]}") ≡ readings.done (reduce_rule))
-    × (read (ascii "{\"plusTime\":[\"2020-01-31\",1,\"month\"]}") ≡ readings.done (op "plus_time" (str "2020-01-31" ∷ int 1 ∷ str "month" ∷ [])))
-    × (read (ascii "{\"plusTime\":[\"2020-02-29\",1,\"year\"]}") ≡ readings.done (op "plus_time" (str "2020-02-29" ∷ int 1 ∷ str "year" ∷ [])))
-    × (read (ascii "{\"extractFromUVCI\":[\"URN:UVCI\",0]}") ≡ readings.done (op "extract_from_uvci" (str "URN:UVCI" ∷ int 0 ∷ [])))
+    × (read (ascii "{\"plusTime\":[\"2020-01-31\",1,\"month\"]}") ≡ readings.done (op "plusTime" (str "2020-01-31" ∷ int 1 ∷ str "month" ∷ [])))
+    × (read (ascii "{\"plusTime\":[\"2020-02-29\",1,\"year\"]}") ≡ readings.done (op "plusTime" (str "2020-02-29" ∷ int 1 ∷ str "year" ∷ [])))
+    × (read (ascii "{\"extractFromUVCI\":[\"URN:UVCI\",0]}") ≡ readings.done (op "extractFromUVCI" (str "URN:UVCI" ∷ int 0 ∷ [])))
 unfolding read answer text white then ◌>>=◌ give fail if peek eat literal expect value on_start name quoted chars char escape tails hexes on_lead on_escape on_hex on_piece on_unit or_lone lone grow among integers first_digit after_zero digits end_number is_part signed on_separator ended start_of counted nested separator_of escape_of hex_of lead_of unit_of pair_of utf8 is_white is_digit is_point is_e within value_count max_text_bytes max_values max_nesting max_integer
 texts_read = (refl, refl, refl, refl, refl, refl, refl, refl, refl, refl)
 
@@ -95,9 +95,9 @@ starred_rows a n l = record {
   third_kind = denies "{\">\":[3,2,\"x\"]}" max_steps 4 7 (op ">" (int 3 ∷ int 2 ∷ str "x" ∷ [])) (evaluating (fault wrong_kind)) refl texts_read.4 rows.row_greater a n l;
   past_limit = denies "{\"+\":[9007199254740991,1]}" max_steps 3 9 (op "+" (int 9007199254740991 ∷ int 1 ∷ [])) (evaluating (fault out_of_range)) refl texts_read.5 rows.row_plus a n l;
   reduce = gives reduce_text max_steps "6" 15 (reduce_rule) texts_read.6 rows.row_reduce a n l;
-  month = gives "{\"plusTime\":[\"2020-01-31\",1,\"month\"]}" max_steps "\"2020-03-02T00:00:00.000Z\"" 2 (op "plus_time" (str "2020-01-31" ∷ int 1 ∷ str "month" ∷ [])) texts_read.7 rows.row_month a n l;
-  year = gives "{\"plusTime\":[\"2020-02-29\",1,\"year\"]}" max_steps "\"2021-03-01T00:00:00.000Z\"" 2 (op "plus_time" (str "2020-02-29" ∷ int 1 ∷ str "year" ∷ [])) texts_read.8 rows.row_year a n l;
-  uvci = gives "{\"extractFromUVCI\":[\"URN:UVCI\",0]}" max_steps "null" 2 (op "extract_from_uvci" (str "URN:UVCI" ∷ int 0 ∷ [])) texts_read.9 rows.row_uvci a n l;
+  month = gives "{\"plusTime\":[\"2020-01-31\",1,\"month\"]}" max_steps "\"2020-03-02T00:00:00.000Z\"" 2 (op "plusTime" (str "2020-01-31" ∷ int 1 ∷ str "month" ∷ [])) texts_read.7 rows.row_month a n l;
+  year = gives "{\"plusTime\":[\"2020-02-29\",1,\"year\"]}" max_steps "\"2021-03-01T00:00:00.000Z\"" 2 (op "plusTime" (str "2020-02-29" ∷ int 1 ∷ str "year" ∷ [])) texts_read.8 rows.row_year a n l;
+  uvci = gives "{\"extractFromUVCI\":[\"URN:UVCI\",0]}" max_steps "null" 2 (op "extractFromUVCI" (str "URN:UVCI" ∷ int 0 ∷ [])) texts_read.9 rows.row_uvci a n l;
 }
 
 pub reduce_at_15 : (a : Areas) (n : Numbers) → Lent 15 a → Comes (called reduce_text 15 a n) 0 0 0 15 1 "6"
