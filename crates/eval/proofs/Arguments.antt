@@ -13,8 +13,8 @@ use Rattle.heap.specs.declared.handle.Handle.{Handle}
 use Rattle.heap.specs.Blocks.{MeansEach, no_handles, handle_item}
 use Rattle.heap.specs.Cells.{cell_bytes, cell_handle, stored}
 use Rattle.table.specs.Node.{next_row}
-use Rattle.heap.specs.Laws.Cells.{length_stored}
-use Rattle.heap.specs.Main as heap
+use Rattle.heap.proofs.Laws.Cells.{length_stored}
+use Rattle.heap.proofs.Main as heap
 use Rattle.heap.specs.Means.{Means}
 use Rattle.heap.specs.Unfold.{Areas, areas}
 use Rattle.operations.specs.declared.ended.Ended.{Ended}

@@ -20,7 +20,7 @@ use Rattle.heap.specs.declared.handle.Parts.{Parts}
 use Rattle.heap.specs.Cells.{stored}
 use Rattle.heap.specs.Handles.{parts}
 use Rattle.table.specs.Node.{next_row}
-use Rattle.heap.specs.Main as heap
+use Rattle.heap.proofs.Main as heap
 use Rattle.heap.specs.Means.{Means, means_null, means_false, means_true, means_integer, means_instant, means_string, means_items, means_members, means_list, means_context}
 use Rattle.heap.specs.Parts.{head_of, tail_of}
 use Rattle.heap.specs.Unfold.{Areas, areas}

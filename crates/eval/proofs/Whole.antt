@@ -19,7 +19,7 @@ use Rattle.model.specs.Value.{Value}
 use Rattle.syntax.specs.Output.{write_into, value_written}
 use Rattle.heap.specs.declared.handle.Handle.{Handle}
 use Rattle.heap.specs.Handles.{row_handle}
-use Rattle.heap.specs.Main as heap
+use Rattle.heap.proofs.Main as heap
 use Rattle.heap.specs.Unfold.{areas}
 use Rattle.rule.specs.Holds.{Holds}
 use Rattle.table.specs.Denotes.{Denotes}

@@ -1,4 +1,4 @@
--- Values of evaluation by handle: the definitions, in the order to read them; then the theorems.
+-- Values of evaluation by handle: the definitions, in the order to read them. The theorems are in proofs/: Main and Laws.
 pub mod Handles
 pub mod Cells
 pub mod Strings
@@ -7,5 +7,3 @@ pub mod Unfold
 pub mod Means
 pub mod Blocks
 pub mod Contract
-pub mod Main
-pub mod Laws

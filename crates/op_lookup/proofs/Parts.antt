@@ -37,7 +37,7 @@ use Rattle.heap.specs.declared.handle.Parts.{Parts}
 use Rattle.heap.specs.Cells.{cell_bytes, cell_handle}
 use Rattle.heap.specs.Means.{Means, means_null, means_false, means_true, means_integer, means_instant, means_string, means_items, means_members, means_list, means_context, CellItems, cell_item}
 use Rattle.heap.specs.Unfold.{Areas, areas}
-use Rattle.heap.specs.Laws.Means.{raised, means_small}
+use Rattle.heap.proofs.Laws.Means.{raised, means_small}
 use Rattle.op_lookup.specs.declared.Place.{Place}
 use Rattle.op_lookup.specs.declared.Place.TheVariants.{Record, Cells}
 use Rattle.op_lookup.specs.Inner.{place_by, place_of, member_of, ItemNamed, PartNamed}

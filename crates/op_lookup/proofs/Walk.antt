@@ -18,7 +18,7 @@ use Rattle.heap.specs.declared.handle.Handle.{Handle}
 use Rattle.heap.specs.Handles.{record_handle}
 use Rattle.heap.specs.Means.{Means}
 use Rattle.heap.specs.Unfold.{Areas, areas}
-use Rattle.heap.specs.Laws.Rows.{node_means}
+use Rattle.heap.proofs.Laws.Rows.{node_means}
 use Rattle.op_lookup.specs.declared.Place.TheVariants.{Record, Cells}
 use Rattle.op_lookup.specs.Contract.{Leads}
 use Rattle.op_lookup.specs.Inner.{place_of, PartNamed}

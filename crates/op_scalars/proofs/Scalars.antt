@@ -20,7 +20,7 @@ use Rattle.heap.specs.declared.handle.Handle.{Handle}
 use Rattle.heap.specs.declared.handle.Handle.TheVariants.{Null, False, True, Integer, Instant, String, Compound}
 use Rattle.heap.specs.declared.handle.Parts.{Parts}
 use Rattle.heap.specs.declared.handle.Span.{Span}
-use Rattle.heap.specs.Laws.Means.{array_count, array_parts}
+use Rattle.heap.proofs.Laws.Means.{array_count, array_parts}
 use Rattle.heap.specs.Means.{Means, means_items, means_members, means_list, means_context}
 use Rattle.heap.specs.Parts.{head_of, tail_of}
 use Rattle.heap.specs.Strings.{span_bytes}

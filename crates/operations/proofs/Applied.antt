@@ -11,7 +11,7 @@ use Rattle.model.specs.Rule.{Operation}
 use Rattle.model.specs.Value.{array, Values}
 use Rattle.heap.specs.declared.handle.Handle.{Handle}
 use Rattle.heap.specs.Blocks.{stored_from, MeansEach}
-use Rattle.heap.specs.Main as heap
+use Rattle.heap.proofs.Main as heap
 use Rattle.heap.specs.Unfold.{areas}
 use Rattle.keywords.specs.declared.Op.{Op}
 use Rattle.keywords.specs.declared.Op.TheVariants as Ops

@@ -8,7 +8,7 @@ use Rattle.model.specs.Bytes.{Bytes}
 use Rattle.heap.specs.declared.handle.Handle.{Handle}
 use Rattle.heap.specs.Blocks.{stored_from}
 use Rattle.heap.specs.Cells.{cell_handle, stored}
-use Rattle.heap.specs.Laws.Made.{length_stored_from}
+use Rattle.heap.proofs.Laws.Made.{length_stored_from}
 use Rattle.operations.specs.Stack.{stack_cell, stacked_from, stacked}
 use Rattle.operations.specs.Laws.Stack.{stack_cell_lem, stacked_length, stacked_more, stored_from_after}
 

@@ -8,7 +8,7 @@ use Rattle.syntax.specs.Output.{value_written, write_into}
 use Rattle.syntax.specs.Read.{done, read}
 use Rattle.heap.specs.declared.handle.Handle.{Handle}
 use Rattle.heap.specs.Handles.{row_handle}
-use Rattle.heap.specs.Main as Heap
+use Rattle.heap.proofs.Main as Heap
 use Rattle.heap.specs.Means.{Means}
 use Rattle.heap.specs.Unfold.{Areas}
 use Rattle.writer.specs.Contract.{handle_written}

@@ -6,9 +6,9 @@ use Rattle.model.specs.Value.{Value, Values}
 use Rattle.heap.specs.declared.handle.Handle.{Handle}
 use Rattle.heap.specs.Blocks.{stored_from, MeansEach, no_handles, handle_item}
 use Rattle.heap.specs.Cells.{stored}
-use Rattle.heap.specs.Laws.Cells.{length_stored, stored_other}
-use Rattle.heap.specs.Laws.Made.{length_stored_from, stored_from_before}
-use Rattle.heap.specs.Main as heap
+use Rattle.heap.proofs.Laws.Cells.{length_stored, stored_other}
+use Rattle.heap.proofs.Laws.Made.{length_stored_from, stored_from_before}
+use Rattle.heap.proofs.Main as heap
 use Rattle.heap.specs.Means.{Means}
 use Rattle.heap.specs.Unfold.{areas}
 use Rattle.operations.specs.Cells.{Same}

@@ -6,7 +6,7 @@ use Rattle.model.specs.Bytes.{Bytes}
 use Rattle.heap.specs.declared.handle.Handle.{Handle}
 use Rattle.heap.specs.Blocks.{stored_from}
 use Rattle.heap.specs.Cells.{cell_handle, stored}
-use Rattle.heap.specs.Laws.Cells.{stored_other}
+use Rattle.heap.proofs.Laws.Cells.{stored_other}
 use Rattle.operations.specs.Stack.{stack_cell, first_cell, stacked_from}
 
 pub stack_cell_lem : (C : Bytes) (bottom k : ℕ) → k < bottom → stack_cell C bottom k ≡ cell_handle C (bottom - k - 1)

@@ -23,10 +23,10 @@ use Rattle.heap.specs.Handles.{parts, record_handle, row_handle}
 use Rattle.heap.specs.Means.{Means}
 use Rattle.heap.specs.Parts.{head_of, tail_of, label_of, label_bytes}
 use Rattle.heap.specs.Unfold.{Areas, areas, with_cells, unfolded}
-use Rattle.heap.specs.Laws.Cells as CellsLaws
-use Rattle.heap.specs.Laws.Made as MadeLaws
-use Rattle.heap.specs.Laws.Means as MeansLaws
-use Rattle.heap.specs.Laws.Rows as RowsLaws
+use Rattle.heap.proofs.Laws.Cells as CellsLaws
+use Rattle.heap.proofs.Laws.Made as MadeLaws
+use Rattle.heap.proofs.Laws.Means as MeansLaws
+use Rattle.heap.proofs.Laws.Rows as RowsLaws
 
 -- A handle means one value.
 pub one_value : (a : Areas) (top : ℕ) (v w : Value) (h : Handle) → Means a top v h → Means a top w h → v ≡ w

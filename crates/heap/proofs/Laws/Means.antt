@@ -30,9 +30,9 @@ use Rattle.heap.specs.Handles.{parts}
 use Rattle.heap.specs.Means.{Means, means_null, means_false, means_true, means_integer, means_instant, means_string, means_items, means_members, means_list, means_context, CellItems, no_cell_items, cell_item}
 use Rattle.heap.specs.Parts.{head_of, tail_of, next_cell, label_of, label_bytes}
 use Rattle.heap.specs.Unfold.{Areas, with_cells, instant_at, items_by, members_by, unfolded}
-use Rattle.heap.specs.Laws.Cells.{length_stored, stored_other}
-use Rattle.heap.specs.Laws.Numbers.{instant_at_since_year0, heap_small}
-use Rattle.heap.specs.Laws.Rows.{node_means, unfolded_is, items_unfolded, members_unfolded, deeper_max, items_deeper, members_deeper}
+use Rattle.heap.proofs.Laws.Cells.{length_stored, stored_other}
+use Rattle.heap.proofs.Laws.Numbers.{instant_at_since_year0, heap_small}
+use Rattle.heap.proofs.Laws.Rows.{node_means, unfolded_is, items_unfolded, members_unfolded, deeper_max, items_deeper, members_deeper}
 
 -- ---- while the heap grows
 -- The cells below `top` hold the same.

@@ -14,8 +14,8 @@ use Rattle.heap.specs.Cells.{cell_bytes, cell_handle, stored}
 use Rattle.heap.specs.Handles.{parts}
 use Rattle.heap.specs.Means.{Means, means_list, means_context, CellItems, no_cell_items, cell_item}
 use Rattle.heap.specs.Unfold.{Areas, with_cells}
-use Rattle.heap.specs.Laws.Cells.{length_stored, stored_here, stored_other}
-use Rattle.heap.specs.Laws.Means.{grown, raised, stored_kept, means_small}
+use Rattle.heap.proofs.Laws.Cells.{length_stored, stored_here, stored_other}
+use Rattle.heap.proofs.Laws.Means.{grown, raised, stored_kept, means_small}
 
 -- ---- a context
 pub context_made :
