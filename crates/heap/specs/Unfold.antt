@@ -1,6 +1,6 @@
 -- Unfold: the value that a handle stands for, down to some nesting, whatever the areas hold. Of a handle that means a value (Means.antt)
 -- it is that value, if it nests no deeper.
-use Rattle.std.specs.Prelude.{true, false, ℕ, zero, suc, ◌-◌}
+use Rattle.std.specs.Prelude.{true, false, ℕ, zero, suc}
 use Rattle.model.specs.Bytes.{Bytes}
 use Rattle.model.specs.Instant.{in_range, from_year0}
 use Rattle.model.specs.Value.{Value, scalar, instant, array, object, null, boolean, integer, string, Values, no_items, item, Members as ValueMembers, no_members, member}

@@ -1,4 +1,3 @@
-use borrow.Author.Rules.{rules}
 use Rattle.heap.proofs.cell.pack.Goals as goal
 
 pub returns-in-Null : goal.returns-in-Null

@@ -1,7 +1,6 @@
 use mathlib.Core.Path.{ap}
 use Rattle.heap.specs.declared.handle.Handle.TheVariants.{Integer, Instant}
 use Rattle.heap.proofs.Packing.{no_tag}
-use borrow.Author.Rules.{rules}
 use Rattle.heap.proofs.cell.unpack.Goals as goal
 
 pub returns-then-tag-eq-FALSE_TAG : goal.returns-then-tag-eq-FALSE_TAG

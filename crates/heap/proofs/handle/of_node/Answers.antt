@@ -1,4 +1,3 @@
-use borrow.Author.Rules.{rules}
 use Rattle.heap.proofs.handle.of_node.Goals as goal
 
 pub returns-in-Integer : goal.returns-in-Integer
