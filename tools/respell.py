@@ -113,7 +113,12 @@ def foreign(text):
 
 def turned(text, names):
     stay = foreign(text)
-    return TOKEN.sub(lambda m: m.group(0) if m.group(0) in stay else names.get(m.group(0), m.group(0)), text)
+    return outside_strings(text, lambda part: TOKEN.sub(lambda m: m.group(0) if m.group(0) in stay else names.get(m.group(0), m.group(0)), part))
+
+
+def outside_strings(text, turn):
+    """Turns all but what stands between double quotes on one line."""
+    return "".join(part if at % 2 else turn(part) for at, part in enumerate(re.split(r'("(?:[^"\\\n]|\\.)*")', text)))
 
 
 def with_crates(text, source):

@@ -14,7 +14,7 @@ abbrev is_non_empty : Bytes → Bool
 is_non_empty [] = false
 is_non_empty (x ∷ s) = true
 
--- 01, Shape: "empty, or non_empty_lem fragments parted by dots".
+-- 01, Shape: "empty, or non-empty fragments parted by dots".
 abbrev pub path_of : Bytes → Option Path
 path_of [] = some []
 path_of (x ∷ s) =

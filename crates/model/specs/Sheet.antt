@@ -34,7 +34,7 @@ words =
 abbrev pub type_named : Bytes → Option Ty
 type_named s = find (same_bytes s) words
 
--- "each content a non_empty_lem array of distinct words"
+-- "each content a non-empty array of distinct words"
 abbrev pub types_of : Values → Option Types
 types_of no_items = some []
 types_of (item v vs) = do
@@ -55,7 +55,7 @@ content_types v = do
   ts ← types_of vs
   non_empty ts
 
--- "Each name is a non_empty_lem `var` path"
+-- "Each name is a non-empty `var` path"
 abbrev pub entry_path : Bytes → Option Path
 entry_path s = path_of s >>= non_empty
 

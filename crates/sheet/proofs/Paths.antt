@@ -84,7 +84,7 @@ same_texts s t q r e f = equal_tests (same_path q r) (same_bytes s t) to from
         let i : q ≡ r = cc in
         subst (λ (x : Path). T (same_path q x)) i (same_path_refl q)
 
--- ---- "a non_empty_lem `var` path"
+-- ---- "a non-empty `var` path"
 pub no_name : (s : Bytes) → length s ≡ 0 → is_some (entry_path s) ≡ false
 no_name [] e = refl
 no_name (x ∷ s) e = absurd (omega arith)

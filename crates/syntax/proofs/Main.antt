@@ -137,7 +137,7 @@ pub read_faultless : (s : Bytes) (v : Value) (k : ReadFault) (p : ℕ) → read 
 read_faultless = Smallest.read_faultless
 
 -- ---- what is written
--- A well_formed answer that is not refused with 11, once written, reads as that value with its instants as their texts.
+-- A well-formed answer that is not refused with 11, once written, reads as that value with its instants as their texts.
 pub written_reads : (v : Value) → WellFormedAnswer v → is_too_large v ≡ false → read (value_text v) ≡ done (textual v)
 written_reads = RoundTrip.answer_reads
 

@@ -1,4 +1,4 @@
--- WellFormed: what holds of every value that a text reads as: its strings and names are well_formed UTF-8 in bytes, no object has a name twice,
+-- WellFormed: what holds of every value that a text reads as: its strings and names are well-formed UTF-8 in bytes, no object has a name twice,
 -- its integers are within the limits, and it has no instant (Laws.WellFormed has the proof); and of every answer, but that it may have instants (Laws.Answers).
 use Rattle.std.specs.Prelude.{Bool, true, ◌&&◌, not, List, [], ◌∷◌, T, ltb}
 use Rattle.model.specs.Bounds.{bounded}

@@ -32,7 +32,7 @@ some_cond false l m h k = k
 not_empty : {A : Type 0} (l : List A) → Some l → ¬ (l ≡ [])
 not_empty l h e = subst Some e h
 
--- ---- sheets: "each content a non_empty_lem array of distinct words"
+-- ---- sheets: "each content a non-empty array of distinct words"
 non_empty_some : {A : Type 0} (l : List A) → All Some (non_empty l)
 non_empty_some [] = tt
 non_empty_some (a ∷ l) = tt

@@ -39,7 +39,7 @@ pub steps_have_cells : 2 * max_steps + 2 ≤ heap_cells
 unfolding max_steps heap_cells
 steps_have_cells = omega arith
 
--- An array of one value more than a text may have, each of one byte, is no over_long text.
+-- An array of one value more than a text may have, each of one byte, is no over-long text.
 pub values_have_bytes : 2 * max_values < max_text_bytes
 unfolding max_values max_text_bytes
 values_have_bytes = omega arith

@@ -63,7 +63,7 @@ module _ (separator : ℕ → Bool) (in_ascii : (x : ℕ) → T (separator x) �
       (branch Whole (ltb u 0x10000) _ _ (λ k. (high _ (omega arith), (high _ (omega arith), (high _ (omega arith), tt))))
       (high _ (omega arith), (high _ (omega arith), (high _ (omega arith), (high _ (omega arith), tt))))))
 
-  -- The fragments of well_formed UTF-8 between separators in ASCII are well_formed UTF-8.
+  -- The fragments of well-formed UTF-8 between separators in ASCII are well-formed UTF-8.
   fragments-well-formed : (s : Bytes) → WellFormed s → Each WellFormed (split_on separator s)
   fragments-well-formed s nothing = (nothing, tt)
   fragments-well-formed s (character u {s = t} below no_surrogate h) = go (separator u) refl (fragments-well-formed t h)

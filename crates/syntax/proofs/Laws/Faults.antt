@@ -321,7 +321,7 @@ text_meets (jtext w d u) f l =
     N : ℕ
     N = length (spell_ws w (spell_value d (spell_ws u [])))
 
--- Of a text of RFC 8259 that is not over_long.
+-- Of a text of RFC 8259 that is not over-long.
 pub first_fault : (d : JText) → length (spell d) ≤ max_text_bytes → FirstFault d (read (spell d))
 unfolding read answer
 first_fault d l = go (ltb max_text_bytes (length (spell d))) refl

@@ -17,7 +17,7 @@ use Rattle.syntax.proofs.Laws.Complete.{complete}
 use Rattle.syntax.proofs.Laws.Textual.{textual_well_formed}
 use Rattle.syntax.proofs.Laws.Written.{derivation}
 
--- A well_formed value that is not too large, once written, reads back.
+-- A well-formed value that is not too large, once written, reads back.
 pub reads_back : (v : Value) → WellFormedValue v → is_too_large v ≡ false → read (value_text v) ≡ done v
 reads_back v h e =
     let d = derivation v h in

@@ -79,7 +79,7 @@ blank_text n zero at p l k = absurd (omega arith)
 blank_text zero (suc f) at p l k = let e : at ≡ p = omega arith in ap (bad not_json) e
 blank_text (suc n) (suc f) at p l k = blank_text n (suc f) (suc at) p l (omega arith)
 
--- A text that is not over_long.
+-- A text that is not over-long.
 short : (s : Bytes) → length s ≤ max_text_bytes → read s ≡ answer (text (2 * length s + 1) s 0)
 unfolding read
 short s l = rw (le-ltb max_text_bytes (length s) l, read)

@@ -1,4 +1,4 @@
--- Textual: the textual form of a well_formed answer is a well_formed value.
+-- Textual: the textual form of a well-formed answer is a well-formed value.
 use Rattle.std.specs.Prelude.{◌≡◌, refl, true, ◌&&◌, not, ◌∷◌, ℕ, T, ltb, ℤ}
 use Rattle.std.proofs.Common.{sym, subst, ap, ap₂, arith, lt-ltb}
 use Rattle.model.specs.Bounds.{bounded, bounded_items, bounded_members}
@@ -13,7 +13,7 @@ use Rattle.syntax.specs.Utf8.{WellFormed}
 use Rattle.syntax.specs.WellFormed.{AllStrings, AllInItems, AllInMembers, are_bytes, names, distinct_names, distinct_in_items, distinct_in_members, WellFormedValue, WellFormedAnswer}
 use Rattle.syntax.proofs.Laws.Utf8.{ascii_well_formed, well_formed_bytes}
 
--- ---- the text of an instant is well_formed UTF-8
+-- ---- the text of an instant is well-formed UTF-8
 digit_ascii : (n : ℕ) → ltb (digit_byte n) 0x80 ≡ true
 digit_ascii n = lt-ltb (digit_byte n) 0x80 (omega arith)
 

@@ -1,5 +1,5 @@
 -- Utf8: the characters of RFC 3629's table, the escapes and the surrogate pairs are code points up to 10FFFF that are no surrogates, encoded by utf8;
--- so the meaning of a string is well_formed UTF-8, and in bytes.
+-- so the meaning of a string is well-formed UTF-8, and in bytes.
 use Rattle.std.specs.Prelude.{◌≡◌, refl, Bool, true, false, [], ◌∷◌, ◌++◌, ◌⊎◌, ℕ, suc, ◌+◌, ◌*◌, ◌-◌, ◌/◌, ◌%◌, ◌^◌, ◌<◌, ◌≤◌, T, ltb, eqb, length}
 use Rattle.std.proofs.Common.{sym, subst, subst₂, ap, ap₂, ◌∙◌, inl, inr, arith, ne_eqb, ltb→lt, lt→ltb, eqb→eq}
 use Rattle.std.proofs.Math.Path.{subst₃}
@@ -428,7 +428,7 @@ chars (code_unit_lem hs cs) (some h) p = go (unit_of (hex_number 0 hs)) refl (ch
     go High e k = tt
     go Low e k = all_map WellFormed WellFormed _ (chars_meaning cs none) (λ s i. then_character (utf8 (pair_of h (hex_number 0 hs))) s (pair_character h (hex_number 0 hs) p e) i) k
 
--- The meaning of a string is well_formed UTF-8.
+-- The meaning of a string is well-formed UTF-8.
 pub chars_well_formed : (cs : Chars) → All WellFormed (chars_meaning cs none)
 chars_well_formed cs = chars cs none tt
 
@@ -457,7 +457,7 @@ utf8_bytes u h =
     (branch InBytes (ltb u 0x10000) _ _ (λ k. let l = ltb→lt u 0x10000 k in byte (0xE0 + u / 4096) (omega arith) (tail_byte (u / 64) (tail_byte u no_bytes)))
     (byte (0xF0 + u / 262144) (omega arith) (tail_byte (u / 4096) (tail_byte (u / 64) (tail_byte u no_bytes))))))
 
--- ASCII is well_formed UTF-8.
+-- ASCII is well-formed UTF-8.
 pub ascii_well_formed : (s : Bytes) → T (all (λ b. ltb b 0x80) s) → WellFormed s
 ascii_well_formed [] h = nothing
 ascii_well_formed (b ∷ s) h =

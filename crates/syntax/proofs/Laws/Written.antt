@@ -1,4 +1,4 @@
--- Written: the text of a well_formed value is a text of RFC 8259 and means that value; so within the limits it reads as it.
+-- Written: the text of a well-formed value is a text of RFC 8259 and means that value; so within the limits it reads as it.
 use Rattle.std.specs.Prelude.{◌≡◌, refl, true, false, not, T}
 use Rattle.std.proofs.Common.{sym, subst, ap₂, ◌∙◌, T_not}
 use Rattle.std.proofs.Math.Path.{ap}
@@ -17,7 +17,7 @@ use Rattle.syntax.specs.WellFormed.{AllStrings, names, distinct_names, WellForme
 use Rattle.syntax.proofs.Laws.WrittenNumbers.{derived_integer}
 use Rattle.syntax.proofs.Laws.WrittenStrings.{DerivedString, derived_string}
 
--- ---- parts of a well_formed value
+-- ---- parts of a well-formed value
 first_item : {v : Value} {vs : Values} → WellFormedValue (array (item v vs)) → WellFormedValue v
 unfolding AllStrings distinct_names bounded instant_free
 first_item {v} h = record {
@@ -202,7 +202,7 @@ mutual
       derived_member n v (derived_string h.formed.utf8_strings.0) (derived v (first_member h)) ms (and_l (not (among n (names ms))) _ h.formed.distinct_names_lem) (derived_members ms (other_members h))
 
 -- ---- texts
--- A derivation of the text of a well_formed value, with that meaning.
+-- A derivation of the text of a well-formed value, with that meaning.
 pub derivation : (v : Value) → WellFormedValue v → (d : JText) × (spell d ≡ value_text v) × (meaning d ≡ some v)
 unfolding spell spell_ws meaning
 derivation v h = let d = derived v h in (jtext no_ws d.tree no_ws, d.spells [] ∙ append-nil (value_text v), d.means)

@@ -1,4 +1,4 @@
--- WrittenStrings: the text of a string in well_formed UTF-8 is a string of RFC 8259, and means that string.
+-- WrittenStrings: the text of a string in well-formed UTF-8 is a string of RFC 8259, and means that string.
 use Rattle.std.specs.Prelude.{◌≡◌, refl, Bool, true, false, ◌&&◌, cond, List, [], ◌∷◌, ◌++◌, ℕ, zero, suc, ◌/◌, ◌%◌, ◌≤◌, ◌<◌, T, ltb, eqb}
 use Rattle.std.proofs.Common.{sym, subst, ap, ◌∙◌, append_assoc, arith, lt-ltb, le-ltb, eqb→eq}
 use Rattle.std.proofs.Math.Option.{Option, none, some}
