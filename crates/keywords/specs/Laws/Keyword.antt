@@ -1,5 +1,5 @@
 -- Keyword: keywords in the code's terms and in the model's, there and back; what holds of every entry of a table.
-use Rattle.std.specs.Prelude.{Bool, true, false, List, [], ◌∷◌, ◌≡◌, refl, ℕ, suc, ◌+◌, ◌-◌, leb, pos, negsuc}
+use Rattle.std.specs.Prelude.{Bool, true, false, List, [], ◌∷◌, ◌≡◌, refl, ℕ, ◌-◌, leb, pos, negsuc}
 use Rattle.std.proofs.Math.Option.{Option, none, some}
 use Rattle.std.proofs.Common.{ap, arith, leb-true, leb-false}
 use Rattle.model.specs.Bytes.{Bytes, same_bytes}
