@@ -1,11 +1,8 @@
 -- Laws of the steps of the index of items, over plain values.
 use mathlib.Core.Path.{◌≡◌, refl, sym, ap, ap₂, ◌∙◌}
 use mathlib.Core.Bool.{Bool, true, false, ◌&&◌, not, cond}
-use mathlib.Core.List.{[], ◌∷◌}
 use Prim.Native.Nat.{ℕ, zero, suc, ◌+◌, ◌*◌, ◌-◌, ◌/◌, ◌%◌, ◌<◌, ◌≤◌}
 use native.Mathlib.Omega.{arith}
-use denote.Enum.Declared.{tag_of}
-use types.Run.{OneOf, miss}
 use borrow.Author.Tests.{lt-ltb, le-ltb, le-leb, lt-leb, eq-eqb, ne_eqb, ltb-true, leb-true, eqb-true, eqb-false}
 use lib.Dec.{eqb, leb, ltb}
 use lib.ListN.{length}
@@ -15,7 +12,6 @@ use Rattle.model.specs.Bytes.{Bytes}
 use Rattle.model.proofs.Laws.Logic.{both}
 use Rattle.model.specs.Limits.{max_values}
 use Rattle.syntax.specs.Layout.{row_bytes, entry_bytes, table_bytes}
-use Rattle.table.specs.contracts.node.Node.{the_type}
 use Rattle.table.specs.declared.node.Node.{Node}
 use Rattle.table.specs.declared.node.Node.TheVariants.{Null, False, True, Integer, String, Array, Object}
 use Rattle.table.specs.declared.node.Rows.{Rows}
@@ -170,16 +166,16 @@ row_left T row e = none_linked T row (node_at T row) e
 
 -- ---- link_row and link_rows
 
-pub no_array : (T : Bytes) (row : ℕ) (n : Node) → OneOf (0 ∷ 1 ∷ 2 ∷ 3 ∷ 4 ∷ 6 ∷ []) (tag_of the_type n) → n ≡ node_at T row → T ≡ link_node T row (node_at T row)
+pub no_array : (T : Bytes) (row : ℕ) (n : Node) → ((q : Rows) → n ≡ Array q → ⊥) → n ≡ node_at T row → T ≡ link_node T row (node_at T row)
 no_array T row n k e = kept n k ∙ ap (link_node T row) e
   where
-    kept : (m : Node) → OneOf (0 ∷ 1 ∷ 2 ∷ 3 ∷ 4 ∷ 6 ∷ []) (tag_of the_type m) → T ≡ link_node T row m
+    kept : (m : Node) → ((q : Rows) → m ≡ Array q → ⊥) → T ≡ link_node T row m
     kept Null k = refl
     kept False k = refl
     kept True k = refl
     kept (Integer z) k = refl
     kept (String s) k = refl
-    kept (Array q) k = absurd (miss (0 ∷ 1 ∷ 2 ∷ 3 ∷ 4 ∷ 6 ∷ []) 5 tt k)
+    kept (Array q) k = absurd (k q refl)
     kept (Object q) k = refl
 
 module _ (T : Bytes) (row : ℕ) (n : Node) (q : Rows) (e : n ≡ node_at T row) (a : n ≡ Array q) where

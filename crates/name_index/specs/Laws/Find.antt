@@ -1,5 +1,5 @@
 -- Find: the law that callers of `find` cite, for an object of a table whose objects are indexed.
-use Rattle.std.specs.Prelude.{◌≡◌, List, [], ◌∷◌, ℕ, zero, suc, ◌≤◌, ◌<◌, length}
+use Rattle.std.specs.Prelude.{◌≡◌, [], ℕ, zero, suc, ◌≤◌, ◌<◌, length}
 use Rattle.std.proofs.Common.{ap, arith}
 use Rattle.model.specs.Bytes.{Bytes}
 use Rattle.syntax.specs.Layout.{table_bytes}

@@ -1,0 +1,12 @@
+-- The kind says it.
+use Rattle.syntax.specs.Layout.{row_bytes}
+use Rattle.name_index.proofs.Doubles.{behind_table, other_kind}
+use Rattle.name_index.proofs.items.is_array.Goals as goal
+
+pub returns-then-row-table : goal.returns-then-row-table
+unfolding row_bytes
+returns-then-row-table c e = behind_table _ _ c.if-row-table.true
+
+pub returns : goal.returns
+unfolding row_bytes
+returns c e = other_kind _ _ _ c.if-row-table.false c.get_word.ensures.0 e
