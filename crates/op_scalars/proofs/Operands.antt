@@ -1,16 +1,12 @@
 -- Operands: of a handle that is of no scalar, no array or no number, neither is the value that it means.
 use mathlib.Core.Path.{◌≡◌, refl, sym, ap, ◌∙◌}
 use mathlib.Core.Bool.{true, false}
-use mathlib.Core.List.{[], ◌∷◌}
 use mathlib.Core.Option.{none, some}
 use Prim.Native.Nat.{ℕ}
-use denote.Enum.Declared.{tag_of}
-use types.Run.{OneOf, miss}
 use Rattle.model.specs.Bytes.{Bytes}
 use Rattle.model.proofs.Laws.Logic.{clash}
 use Rattle.model.specs.Value.{Value, Scalar, null, boolean, integer, string, as_scalar, as_array, as_integer, as_instant}
 use Rattle.syntax.specs.Layout.{unbiased}
-use Rattle.heap.specs.contracts.handle.Handle.{the_type}
 use Rattle.heap.specs.declared.handle.Handle.{Handle}
 use Rattle.heap.specs.declared.handle.Handle.TheVariants.{Null, False, True, Integer, Instant, String, Compound}
 use Rattle.heap.specs.declared.handle.Parts.{Parts}
@@ -59,21 +55,21 @@ no_array (means_list e b r) q = clash cc
 no_array (means_context b i m n) q = refl
 
 -- ---- every kind but one
--- What `let .. else` leaves of a handle: one of these tags.
+-- What `let .. else` leaves of a handle: none of this kind.
 abbrev pub NotInteger : Handle → Type 0
-NotInteger h = OneOf (0 ∷ 1 ∷ 2 ∷ 4 ∷ 5 ∷ 6 ∷ []) (tag_of the_type h)
+NotInteger h = (n : ℕ) → h ≡ Integer n → ⊥
 
 abbrev pub NotInstant : Handle → Type 0
-NotInstant h = OneOf (0 ∷ 1 ∷ 2 ∷ 3 ∷ 5 ∷ 6 ∷ []) (tag_of the_type h)
+NotInstant h = (n : ℕ) → h ≡ Instant n → ⊥
 
 abbrev pub NotCompound : Handle → Type 0
-NotCompound h = OneOf (0 ∷ 1 ∷ 2 ∷ 3 ∷ 4 ∷ 5 ∷ []) (tag_of the_type h)
+NotCompound h = (p : Parts) → h ≡ Compound p → ⊥
 
 pub no_integer : {a : Areas} {top : ℕ} {v : Value} {h : Handle} → Means a top v h → NotInteger h → as_integer v ≡ none
 no_integer means_null k = refl
 no_integer means_false k = refl
 no_integer means_true k = refl
-no_integer (means_integer w e) k = absurd (miss (0 ∷ 1 ∷ 2 ∷ 4 ∷ 5 ∷ 6 ∷ []) 3 tt k)
+no_integer (means_integer w e) k = absurd (k _ refl)
 no_integer (means_instant w e) k = refl
 no_integer (means_string l) k = refl
 no_integer (means_items e f r) k = refl
@@ -86,7 +82,7 @@ no_instant means_null k = refl
 no_instant means_false k = refl
 no_instant means_true k = refl
 no_instant (means_integer w e) k = refl
-no_instant (means_instant w e) k = absurd (miss (0 ∷ 1 ∷ 2 ∷ 3 ∷ 5 ∷ 6 ∷ []) 4 tt k)
+no_instant (means_instant w e) k = absurd (k _ refl)
 no_instant (means_string l) k = refl
 no_instant (means_items e f r) k = refl
 no_instant (means_members e f r) k = refl
@@ -100,7 +96,7 @@ no_compound means_true k = refl
 no_compound (means_integer w e) k = refl
 no_compound (means_instant w e) k = refl
 no_compound (means_string l) k = refl
-no_compound (means_items e f r) k = absurd (miss (0 ∷ 1 ∷ 2 ∷ 3 ∷ 4 ∷ 5 ∷ []) 6 tt k)
+no_compound (means_items e f r) k = absurd (k _ refl)
 no_compound (means_members e f r) k = refl
-no_compound (means_list e b r) k = absurd (miss (0 ∷ 1 ∷ 2 ∷ 3 ∷ 4 ∷ 5 ∷ []) 6 tt k)
+no_compound (means_list e b r) k = absurd (k _ refl)
 no_compound (means_context b i m n) k = refl

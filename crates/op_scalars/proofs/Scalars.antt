@@ -1,12 +1,9 @@
 -- Scalars: equality of two scalars, and of one with the items of an array.
 use mathlib.Core.Path.{◌≡◌, refl, sym, ap, ap₂, ◌∙◌}
 use mathlib.Core.Bool.{Bool, true, false, not, ◌||◌, beq}
-use mathlib.Core.List.{[], ◌∷◌}
 use mathlib.Core.Option.{some}
 use Prim.Native.Nat.{ℕ, zero, suc, ◌-◌, ◌<◌}
 use native.Mathlib.Omega.{arith}
-use denote.Enum.Declared.{tag_of}
-use types.Run.{OneOf, miss}
 use lib.Dec.{eqb}
 use Rattle.model.specs.Bytes.{Bytes}
 use Rattle.model.specs.Operations as operations
@@ -15,7 +12,6 @@ use Rattle.model.specs.Option.{holds}
 use Rattle.model.specs.Result.{ok}
 use Rattle.model.specs.Value.{Value, array, Scalar, null, boolean, integer, string, Values, no_items, item, as_scalar, as_array, same_scalar}
 use Rattle.syntax.specs.Layout.{item_count, unbiased}
-use Rattle.heap.specs.contracts.handle.Handle.{the_type}
 use Rattle.heap.specs.declared.handle.Handle.{Handle}
 use Rattle.heap.specs.declared.handle.Handle.TheVariants.{Null, False, True, Integer, Instant, String, Compound}
 use Rattle.heap.specs.declared.handle.Parts.{Parts}
@@ -34,8 +30,8 @@ use Rattle.op_scalars.proofs.Operands.{scalar_means, no_scalar, a_scalar, no_arr
 use Rattle.op_scalars.proofs.Raised.{same_raised, unbiased_raised}
 
 -- ---- a handle of no such scalar
-pub not_null : (A B : Bytes) (h : Handle) → OneOf (1 ∷ 2 ∷ 3 ∷ 4 ∷ 5 ∷ 6 ∷ []) (tag_of the_type h) → false ≡ is_the A B null h
-not_null A B Null k = absurd (miss (1 ∷ 2 ∷ 3 ∷ 4 ∷ 5 ∷ 6 ∷ []) 0 tt k)
+pub not_null : (A B : Bytes) (h : Handle) → (h ≡ Null → ⊥) → false ≡ is_the A B null h
+not_null A B Null k = absurd (k refl)
 not_null A B False k = refl
 not_null A B True k = refl
 not_null A B (Integer n) k = refl
@@ -43,31 +39,31 @@ not_null A B (Instant n) k = refl
 not_null A B (String s) k = refl
 not_null A B (Compound p) k = refl
 
-pub not_boolean : (A B : Bytes) (b : Bool) (h : Handle) → OneOf (0 ∷ 3 ∷ 4 ∷ 5 ∷ 6 ∷ []) (tag_of the_type h) → false ≡ is_the A B (boolean b) h
-not_boolean A B b Null k = refl
-not_boolean A B b False k = absurd (miss (0 ∷ 3 ∷ 4 ∷ 5 ∷ 6 ∷ []) 1 tt k)
-not_boolean A B b True k = absurd (miss (0 ∷ 3 ∷ 4 ∷ 5 ∷ 6 ∷ []) 2 tt k)
-not_boolean A B b (Integer n) k = refl
-not_boolean A B b (Instant n) k = refl
-not_boolean A B b (String s) k = refl
-not_boolean A B b (Compound p) k = refl
+pub not_boolean : (A B : Bytes) (b : Bool) (h : Handle) → (h ≡ False → ⊥) → (h ≡ True → ⊥) → false ≡ is_the A B (boolean b) h
+not_boolean A B b Null k l = refl
+not_boolean A B b False k l = absurd (k refl)
+not_boolean A B b True k l = absurd (l refl)
+not_boolean A B b (Integer n) k l = refl
+not_boolean A B b (Instant n) k l = refl
+not_boolean A B b (String s) k l = refl
+not_boolean A B b (Compound p) k l = refl
 
 pub not_integer : (A B : Bytes) (n : ℕ) (h : Handle) → NotInteger h → false ≡ is_the A B (integer (unbiased n)) h
 not_integer A B n Null k = refl
 not_integer A B n False k = refl
 not_integer A B n True k = refl
-not_integer A B n (Integer m) k = absurd (miss (0 ∷ 1 ∷ 2 ∷ 4 ∷ 5 ∷ 6 ∷ []) 3 tt k)
+not_integer A B n (Integer m) k = absurd (k _ refl)
 not_integer A B n (Instant m) k = refl
 not_integer A B n (String s) k = refl
 not_integer A B n (Compound p) k = refl
 
-pub not_string : (A B : Bytes) (s : Span) (h : Handle) → OneOf (0 ∷ 1 ∷ 2 ∷ 3 ∷ 4 ∷ 6 ∷ []) (tag_of the_type h) → false ≡ is_the A B (string (span_bytes A B s)) h
+pub not_string : (A B : Bytes) (s : Span) (h : Handle) → ((t : Span) → h ≡ String t → ⊥) → false ≡ is_the A B (string (span_bytes A B s)) h
 not_string A B s Null k = refl
 not_string A B s False k = refl
 not_string A B s True k = refl
 not_string A B s (Integer n) k = refl
 not_string A B s (Instant n) k = refl
-not_string A B s (String t) k = absurd (miss (0 ∷ 1 ∷ 2 ∷ 3 ∷ 4 ∷ 6 ∷ []) 5 tt k)
+not_string A B s (String t) k = absurd (k _ refl)
 not_string A B s (Compound p) k = refl
 
 -- ---- and of such a one
