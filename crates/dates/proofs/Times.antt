@@ -1,16 +1,11 @@
 -- Times: what follows the seconds, and a date with its time.
 use mathlib.Core.Path.{◌≡◌, refl, sym, ◌∙◌, ap, subst}
 use mathlib.Core.Bool.{Bool, true, false, ◌&&◌}
-use mathlib.Core.List.{[], ◌∷◌}
-use mathlib.Core.Logic.{⊎_elim}
 use Prim.Native.Nat.{ℕ, ◌+◌, ◌*◌, ◌≤◌, ◌<◌}
-use native.Mathlib.Omega.{arith}
 use borrow.Author.Tests.{lt-leb, le-leb}
 use lib.IntN.{ℤ}
 use lib.ListN.{take, drop}
 use lib.Seq.{drop-drop}
-use denote.Enum.Declared.{tag_of}
-use types.Run.{OneOf}
 use Rattle.model.specs.Bytes.{Bytes, ascii}
 use Rattle.model.specs.Calendar.{day_number, is_valid}
 use Rattle.model.specs.DateText.{starts_like, digit_run, milliseconds, zoned, after_seconds, two_digits, date_in, is_time, time_text, midnight}
@@ -24,7 +19,6 @@ use Rattle.calendar.specs.Contract.{date_result}
 use Rattle.calendar.specs.Laws.Instant.{since_from}
 use Rattle.calendar.specs.declared.instant.DateAnswer.{DateAnswer}
 use Rattle.calendar.specs.declared.instant.Instant.{Instant}
-use Rattle.calendar.specs.contracts.instant.DateAnswer.{the_type}
 use Rattle.calendar.specs.declared.instant.DateAnswer.TheVariants.{At, BadDate, OutOfRange}
 use Rattle.dates.proofs.Shapes.{lent, lent_is}
 
@@ -85,8 +79,8 @@ no_start w f e h = go (is_valid w) refl
     go false v = v
 
 -- The answer is another one than `At`, the first.
-pub no_answer : (w : Date) (a : DateAnswer) → OneOf (1 ∷ 2 ∷ []) (tag_of the_type a) → date_result a ≡ midnight w → w.year ≤ 9999 → is_valid w ≡ false
-no_answer w (At t) k e h = absurd (⊎_elim (λ x. omega arith) (λ x. omega arith) k)
+pub no_answer : (w : Date) (a : DateAnswer) → ((t : Instant) → a ≡ At t → ⊥) → date_result a ≡ midnight w → w.year ≤ 9999 → is_valid w ≡ false
+no_answer w (At t) k e h = absurd (k t refl)
 no_answer w BadDate k e h = no_start w bad_date e h
 no_answer w OutOfRange k e h = no_start w out_of_range e h
 

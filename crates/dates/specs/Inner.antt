@@ -2,7 +2,6 @@
 use Rattle.std.proofs.Math.Option.{Option, none, some}
 use Rattle.std.specs.Prelude.{ℕ, ℤ, pos, neg_ℤ}
 use Rattle.dates.specs.declared.offset.Offset.{Offset}
-use Rattle.dates.specs.declared.offset.Offset.TheVariants as Offset
 use Rattle.dates.specs.declared.offset.Size.{Size}
 use Rattle.dates.specs.declared.offset.Size.TheVariants.{Of, Bad}
 
