@@ -1,5 +1,5 @@
 -- Denoted: the node that a path leads to denotes the value that it leads to.
-use mathlib.Core.Path.{◌≡◌, refl, ap, ◌∙◌}
+use mathlib.Core.Path.{◌≡◌, refl}
 use mathlib.Core.Bool.{Bool, true, false, cond}
 use mathlib.Core.Option.{Option, none, some}
 use mathlib.Core.List.{[], ◌∷◌}
@@ -9,17 +9,16 @@ use Rattle.model.specs.Bytes.{Bytes, same_bytes}
 use Rattle.model.specs.Limits.{max_values}
 use Rattle.model.proofs.Laws.Widths.{values_below}
 use Rattle.model.specs.Option.{◌>>=◌}
-use Rattle.model.specs.Path.{Path, index_of, item_at, member_named, part, path_of, value_at}
-use Rattle.model.specs.Value.{Value, Values, no_items, item, Members, no_members, member, member_count}
+use Rattle.model.specs.Path.{Path, index_of, item_at, member_named, part, value_at}
+use Rattle.model.specs.Value.{Value, Values, no_items, item, Members, member_count}
 use Rattle.syntax.specs.Layout.{item_count}
 use Rattle.table.specs.declared.node.Node.{Node}
 use Rattle.table.specs.declared.node.Node.TheVariants.{Null}
 use Rattle.table.specs.declared.node.Rows.{Rows}
 use Rattle.table.specs.Denotes.{Denotes, denotes_null, denotes_false, denotes_true, denotes_integer, denotes_string, denotes_array, denotes_object, RowItems, no_row_items, row_item, RowMembers, no_row_members, row_member}
-use Rattle.table.specs.Node.{node_at, name_at, next_row}
-use Rattle.table.specs.Strings.{bytes_of}
+use Rattle.table.specs.Node.{node_at, next_row}
 use Rattle.paths.specs.declared.index.Index.{Index}
-use Rattle.paths.specs.Contract.{limit, index_in, member_in, item_in, item_of, part_in, node_along, fragments, Leads}
+use Rattle.paths.specs.Contract.{limit, member_in, item_in, item_of, part_in, node_along, fragments, Leads}
 use Rattle.paths.specs.Inner.{or_null}
 use Rattle.paths.specs.Laws.Index.{IndexIs, inside, outside, index_is}
 use Rattle.paths.specs.Laws.Fragments.{path_fragments, value_on}
@@ -36,7 +35,7 @@ module _ {T B : Bytes} where
   member_denotes f zero e (no_row_members b) = denotes_null
   member_denotes f (suc n) e (no_row_members b) = absurd (omega arith)
   member_denotes f zero e (row_member b t g d r) = absurd (omega arith)
-  member_denotes f (suc n) e (row_member {row = row} {n = name} {v = v} {ms = ms} b t g d r) = rw (← g) (go (same_bytes f name) (member_denotes f n (omega arith) r))
+  member_denotes f (suc n) e (row_member {row = row} {n = name} {v = v} {ms = ms} b t g d r) = rw (← g) (go (same_bytes f name) (member_denotes f {ms = ms} n (omega arith) r))
     where
       go : (x : Bool) → Denotes T B (or_null (member_named f ms)) (member_in T B f (next_row T row) n)
           → Denotes T B (or_null (cond x (some v) (member_named f ms))) (cond x (node_at T row) (member_in T B f (next_row T row) n))
@@ -49,7 +48,7 @@ module _ {T B : Bytes} where
   item_denotes (suc n) k e (no_row_items b) = absurd (omega arith)
   item_denotes zero k e (row_item b t d r) = absurd (omega arith)
   item_denotes (suc n) zero e (row_item b t d r) = d
-  item_denotes (suc n) (suc k) e (row_item b t d r) = item_denotes n k (omega arith) r
+  item_denotes (suc n) (suc k) e (row_item {v = v} {vs = vs} b t d r) = item_denotes {vs = vs} n k (omega arith) r
 
   named_denotes : (f : Bytes) {vs : Values} {q : Rows} {i : Index} → IndexIs f i → q.count ≡ item_count vs → q.count ≤ max_values → RowItems T B q.first vs
       → Denotes T B (or_null (index_of f >>= item_at vs)) (item_of T q i)

@@ -1,15 +1,11 @@
 -- Rows: the rows of members and items, and what a fragment names by rows.
 use mathlib.Core.Path.{◌≡◌, refl, sym, ap, ap₂, ◌∙◌}
 use mathlib.Core.Bool.{Bool, true, false, cond}
-use mathlib.Core.List.{[], ◌∷◌}
 use Prim.Native.Nat.{ℕ, zero, suc, ◌+◌, ◌-◌, ◌≤◌, ◌<◌}
 use native.Mathlib.Nat.{add-zero}
 use native.Mathlib.Omega.{arith}
-use denote.Enum.Declared.{tag_of}
-use types.Run.{OneOf, miss}
 use Rattle.model.specs.Bytes.{Bytes, same_bytes}
 use Rattle.model.specs.Limits.{max_values}
-use Rattle.table.specs.contracts.node.Node.{the_type}
 use Rattle.table.specs.declared.node.Node.{Node}
 use Rattle.table.specs.declared.node.Node.TheVariants.{Null, False, True, Integer, String, Array, Object}
 use Rattle.table.specs.declared.node.Rows.{Rows}
@@ -130,11 +126,11 @@ module _ {T : Bytes} (placed : Placed T) where
   ends_after {q} a = omega (arith, a.after, a.within, placed.on (q.first - 1) (omega (arith, a.after, a.within)))
 
 -- ---- a fragment names nothing in what is no array and no object
-pub no_part : (T B f : Bytes) (n : Node) → OneOf (0 ∷ 1 ∷ 2 ∷ 3 ∷ 4 ∷ []) (tag_of the_type n) → Null ≡ part_in T B f n
-no_part T B f Null k = refl
-no_part T B f False k = refl
-no_part T B f True k = refl
-no_part T B f (Integer z) k = refl
-no_part T B f (String s) k = refl
-no_part T B f (Array q) k = absurd (miss (0 ∷ 1 ∷ 2 ∷ 3 ∷ 4 ∷ []) 5 tt k)
-no_part T B f (Object q) k = absurd (miss (0 ∷ 1 ∷ 2 ∷ 3 ∷ 4 ∷ []) 6 tt k)
+pub no_part : (T B f : Bytes) (n : Node) → ((q : Rows) → n ≡ Array q → ⊥) → ((q : Rows) → n ≡ Object q → ⊥) → Null ≡ part_in T B f n
+no_part T B f Null k l = refl
+no_part T B f False k l = refl
+no_part T B f True k l = refl
+no_part T B f (Integer z) k l = refl
+no_part T B f (String s) k l = refl
+no_part T B f (Array q) k l = absurd (k q refl)
+no_part T B f (Object q) k l = absurd (l q refl)

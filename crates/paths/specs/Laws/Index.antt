@@ -1,7 +1,7 @@
 -- Index: what an index says of the number that a fragment is.
 use Rattle.std.specs.Prelude.{Bool, true, false, cond, ◌≡◌, refl, ℕ, ◌≤◌, ltb}
 use Rattle.std.proofs.Math.Option.{Option, none, some}
-use Rattle.std.proofs.Common.{sym, ap, ◌∙◌, ltb-false}
+use Rattle.std.proofs.Common.{ltb-false}
 use Rattle.model.specs.Bytes.{Bytes}
 use Rattle.model.proofs.Laws.Logic.{clash}
 use Rattle.model.specs.Path.{index_of}
