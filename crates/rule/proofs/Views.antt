@@ -8,7 +8,6 @@ use borrow.Author.Tests.{eqb-true, eqb-false}
 use lib.Dec.{eqb}
 use lib.ListN.{length}
 use Rattle.model.specs.Bytes.{Bytes}
-use Rattle.model.proofs.Laws.Logic.{clash}
 use Rattle.model.proofs.Laws.Option.{none_some, bind_some}
 use Rattle.model.specs.Limits.{max_values}
 use Rattle.model.specs.Option.{◌>>=◌}
@@ -16,24 +15,22 @@ use Rattle.model.specs.Path.{path_of}
 use Rattle.model.specs.Rule.{Operation, Rule, Literal, literal, var, apply, Rules}
 use Rattle.model.specs.Shape.{shape, rules_of, operands_of}
 use Rattle.model.specs.Size.{nesting}
-use Rattle.model.specs.Value.{Value, array, object, Values}
+use Rattle.model.specs.Value.{Value, array, Values}
 use Rattle.syntax.specs.Layout.{row_bytes, rows_part}
 use Rattle.keywords.specs.declared.Op.TheVariants as Ops
 use Rattle.keywords.specs.Contract.{Stands, stands_array}
 use Rattle.table.specs.declared.node.Node.{Node}
 use Rattle.table.specs.declared.node.Node.TheVariants.{Null, False, True, Integer, String, Array, Object}
 use Rattle.table.specs.declared.node.Rows.{Rows}
-use Rattle.table.specs.declared.row.Span.{Span}
 use Rattle.table.specs.Denotes.{Denotes, denotes_null, denotes_false, denotes_true, denotes_integer, denotes_string, denotes_array, denotes_object}
 use Rattle.table.specs.Node.{node_at}
 use Rattle.table.specs.Strings.{bytes_of}
 use Rattle.table.specs.Laws.Denotes as DenotesLaws
-use Rattle.rule.specs.declared.view.Literal.TheVariants as Literals
 use Rattle.rule.specs.declared.view.Shape.{Shape as Seen}
 use Rattle.rule.specs.declared.view.Shape.TheVariants as Shapes
 use Rattle.rule.specs.declared.view.View.{View}
 use Rattle.rule.specs.declared.view.View.TheVariants as Views
-use Rattle.rule.specs.Holds.{Holds, HoldsAll}
+use Rattle.rule.specs.Holds.{HoldsAll}
 use Rattle.rule.specs.View.{object_on, within, node_shape, shape_at, view_of, view_at}
 use Rattle.rule.specs.Mark.{mark_at, shape_mark, unmarked, marked_view, object_view, Marked}
 use Rattle.rule.specs.Contract.{Viewed, viewed_literal, viewed_var, viewed_if, viewed_and, viewed_reduce, viewed_apply, nested, ViewsAs, Built, built_if, built_and, built_reduce, built_apply, has_apply, lists_array, Operates, Shaped, shaped_none, shaped_literal, shaped_var, shaped_operation, spells_false, spells_true, spells_integer, spells_string}

@@ -8,12 +8,12 @@ use Rattle.model.proofs.Laws.Option.{bind_some}
 use Rattle.model.specs.Rule.{Rule, Rules, no_rules, rule}
 use Rattle.model.specs.Shape.{shape, rules_of, operands_of}
 use Rattle.model.specs.Size.{items_nesting}
-use Rattle.model.specs.Value.{Value, array, Values, no_items, item}
+use Rattle.model.specs.Value.{array, Values, no_items, item}
 use Rattle.syntax.specs.Layout.{item_count}
 use Rattle.table.specs.declared.node.Node.TheVariants.{Array}
 use Rattle.table.specs.declared.node.Rows.{Rows}
 use Rattle.table.specs.Denotes.{Denotes}
-use Rattle.table.specs.Node.{node_at, tail_of}
+use Rattle.table.specs.Node.{tail_of}
 use Rattle.table.specs.Laws.Denotes as DenotesLaws
 use Rattle.rule.specs.Holds.{Holds, HoldsAll, rule_count}
 

@@ -1,6 +1,5 @@
 -- Mark: the view of an object is what its mark and its content tell.
 use Rattle.std.specs.Prelude.{◌≡◌, refl, Bool, true, false, cond, ℕ, eqb, ltb}
-use Rattle.std.proofs.Common.{sym, ap, ◌∙◌}
 use Rattle.std.proofs.Math.Option.{Option, none, some}
 use Rattle.model.specs.Bytes.{Bytes}
 use Rattle.model.proofs.Laws.Option.{All}
@@ -22,8 +21,8 @@ use Rattle.rule.specs.declared.view.Shape.{Shape}
 use Rattle.rule.specs.declared.view.Shape.TheVariants.{NotRule, Rule}
 use Rattle.rule.specs.declared.view.View.{View}
 use Rattle.rule.specs.declared.view.View.TheVariants.{If, And, Reduce, Apply}
-use Rattle.rule.specs.View.{counted_on, and_on, unit_at, plus_time_of, plus_time_by, plus_time_on, extract_by, extract_on, path_on, operands_on, content_on, member_on, object_on, view_of}
-use Rattle.rule.specs.Mark.{shape_mark, view_mark, marked_view}
+use Rattle.rule.specs.View.{counted_on, unit_at, plus_time_of, plus_time_by, extract_by, path_on, operands_on, content_on, member_on, object_on, view_of}
+use Rattle.rule.specs.Mark.{shape_mark, marked_view}
 use Rattle.rule.specs.Laws.Table.{Allowed, Listed, listed}
 
 -- Where the content is h, the view of a shape is that of its mark.

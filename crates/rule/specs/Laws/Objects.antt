@@ -20,7 +20,6 @@ use Rattle.table.specs.declared.node.Node.TheVariants.{Object}
 use Rattle.table.specs.declared.node.Rows.{Rows}
 use Rattle.table.specs.declared.row.Span.{Span}
 use Rattle.table.specs.Denotes.{Denotes, denotes_null, denotes_false, denotes_true, denotes_integer, denotes_string, denotes_array, denotes_object, row_member}
-use Rattle.table.specs.Node.{node_at, name_at}
 use Rattle.table.specs.Strings.{bytes_of}
 use Rattle.rule.specs.declared.operation.Single.{Single}
 use Rattle.rule.specs.declared.operation.Single.TheVariants.{NotSingle, Member}

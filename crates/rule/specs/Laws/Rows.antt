@@ -1,5 +1,5 @@
 -- Rows: a table and its rows alone have the same rows, and so denote the same values.
-use Rattle.std.specs.Prelude.{◌≡◌, true, ℕ, ◌+◌, ◌*◌, ◌/◌, ◌≤◌, ◌<◌, ltb, length, get_or, take}
+use Rattle.std.specs.Prelude.{◌≡◌, ℕ, ◌+◌, ◌*◌, ◌/◌, ◌≤◌, ◌<◌, length}
 use Rattle.std.proofs.Common.{sym, ap, subst, ◌∙◌, arith}
 use Rattle.std.proofs.Math.Decide.{dec_lt}
 use borrow.Author.Tests.{lt-ltb, le-ltb}
@@ -15,7 +15,7 @@ use Rattle.table.specs.declared.node.Node.TheVariants.{Null, Object}
 use Rattle.table.specs.declared.node.Rows.{Rows}
 use Rattle.table.specs.declared.row.Row.{Row}
 use Rattle.table.specs.Denotes.{Denotes, denotes_null, denotes_false, denotes_true, denotes_integer, denotes_string, denotes_array, denotes_object, RowItems, no_row_items, row_item, RowMembers, no_row_members, row_member}
-use Rattle.table.specs.Node.{node_of, node_at, next_row, name_at}
+use Rattle.table.specs.Node.{node_at, next_row, name_at}
 use Rattle.table.specs.Row.{row_at}
 use Rattle.table.specs.Strings.{bytes_of}
 
