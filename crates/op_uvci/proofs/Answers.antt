@@ -1,11 +1,8 @@
 -- Answers: the fragment that an index names, and the answer from where it lies.
 use mathlib.Core.Path.{◌≡◌, refl, ap, ◌∙◌}
 use mathlib.Core.List.{[], ◌∷◌}
-use mathlib.Core.Logic.{⊎_elim}
 use Prim.Native.Nat.{ℕ, zero, suc, ◌+◌, ◌-◌, ◌≤◌, ◌<◌}
 use native.Mathlib.Omega.{arith}
-use denote.Enum.Declared.{tag_of}
-use types.Run.{OneOf}
 use borrow.Author.Tests.{le-leb, lt-leb}
 use lib.IntN.{ℤ}
 use lib.ListN.{length, take, drop, length-take, length-drop}
@@ -19,7 +16,6 @@ use Rattle.model.specs.Result.{ok, refuse}
 use Rattle.model.specs.Value.{Value, scalar, null, string}
 use Rattle.model.proofs.Laws.Logic.{clash}
 use Rattle.syntax.specs.Layout.{unbiased}
-use Rattle.heap.specs.contracts.handle.Handle.{the_type}
 use Rattle.heap.specs.declared.handle.Area.{Area}
 use Rattle.heap.specs.declared.handle.Area.TheVariants.{Rule, Record}
 use Rattle.heap.specs.declared.handle.Handle.{Handle}
@@ -106,20 +102,18 @@ found s q l (finds_part {start = start} {size = n} e h) f = gives_value (f ∙ a
 null_is : {a : Areas} {top : ℕ} {v : Value} → Means a top v Null → v ≡ scalar null
 null_is means_null = refl
 
--- The tag is neither null's nor a string's.
-abbrev OtherTag : ℕ → Type 0
-OtherTag n = OneOf (1 ∷ 2 ∷ 3 ∷ 4 ∷ 6 ∷ []) n
+-- The handle is neither null's nor a string's.
+record Other (h : Handle) : Type 0 where
+  no_null : h ≡ Null → ⊥
+  no_string : (s : Span) → h ≡ String s → ⊥
 
-other_tag : (n : ℕ) → OtherTag n → ¬ (n ≡ 0) × ¬ (n ≡ 5)
-other_tag n = ⊎_elim (λ x. omega arith) (⊎_elim (λ x. omega arith) (⊎_elim (λ x. omega arith) (⊎_elim (λ x. omega arith) (λ x. omega arith))))
-
-other-is : {a : Areas} {top : ℕ} {v : Value} {h : Handle} (k : ℤ) → Means a top v h → OtherTag (tag_of the_type h) → extract_from_uvci k v ≡ refuse wrong_kind
-other-is k means_null o = absurd ((other_tag 0 o).0 refl)
+other-is : {a : Areas} {top : ℕ} {v : Value} {h : Handle} (k : ℤ) → Means a top v h → Other h → extract_from_uvci k v ≡ refuse wrong_kind
+other-is k means_null o = absurd (o.no_null refl)
 other-is k means_false o = refl
 other-is k means_true o = refl
 other-is k (means_integer w e) o = refl
 other-is k (means_instant w e) o = refl
-other-is k (means_string l) o = absurd ((other_tag 5 o).1 refl)
+other-is k (means_string l) o = absurd (o.no_string _ refl)
 other-is k (means_items e f r) o = refl
 other-is k (means_members e f r) o = refl
 other-is k (means_list e b r) o = refl
@@ -144,5 +138,5 @@ module _ {A B : Bytes} {index : ℕ} where
     pub extracts-null : h ≡ Null → Extracts A B index h (Operateds.Value Null)
     extracts-null e = record { gives = λ R C top k v w i m. rw (null_is (rw e at m)) (gives_value refl means_null) }
 
-    pub extracts-other : OtherTag (tag_of the_type h) → Extracts A B index h Operateds.WrongKind
-    extracts-other o = record { gives = λ R C top k v w i m. rw (other-is k m o) (gives_wrong_kind refl) }
+    pub extracts-other : (h ≡ Null → ⊥) → ((s : Span) → h ≡ String s → ⊥) → Extracts A B index h Operateds.WrongKind
+    extracts-other n s = record { gives = λ R C top k v w i m. rw (other-is k m (record { no_null = n; no_string = s })) (gives_wrong_kind refl) }
