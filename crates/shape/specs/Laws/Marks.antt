@@ -1,12 +1,11 @@
 -- Marks: they lie behind the rows, which stay; and where no row is at fault, every object of these rows has its own.
-use Rattle.std.specs.Prelude.{◌≡◌, refl, Bool, true, false, ◌&&◌, cond, ℕ, zero, suc, ◌+◌, ◌*◌, ◌≤◌, ◌<◌, length, get_or, set}
+use Rattle.std.specs.Prelude.{◌≡◌, refl, Bool, true, false, ◌&&◌, cond, ℕ, zero, suc, ◌+◌, ◌≤◌, ◌<◌, length}
 use Rattle.std.proofs.Common.{sym, ap, ◌∙◌, arith, length-set, get_or-set_same, get_or-set_other}
 use Rattle.std.proofs.Math.Decide.{dec_lt}
 use Rattle.std.proofs.lemmas.List.{take-set-le}
 use Rattle.model.specs.Bytes.{Bytes}
 use Rattle.model.proofs.Laws.Logic.{clash}
-use Rattle.model.specs.Limits.{max_values}
-use Rattle.syntax.specs.Layout.{row_bytes, rows_part}
+use Rattle.syntax.specs.Layout.{rows_part}
 use Rattle.table.specs.declared.node.Node.{Node}
 use Rattle.table.specs.declared.node.Node.TheVariants.{Null, False, True, Integer, String, Array, Object}
 use Rattle.table.specs.declared.node.Rows.{Rows}

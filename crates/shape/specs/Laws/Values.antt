@@ -13,13 +13,13 @@ use Rattle.model.specs.Path.{path_of}
 use Rattle.model.specs.Rule.{Operation, Rule, var, apply, Rules, rule}
 use Rattle.model.specs.Shape.{shape, rules_of, operands_of}
 use Rattle.model.specs.Size.{value_count, items_count, members_count}
-use Rattle.model.specs.Value.{Value, scalar, instant, array, object, Scalar, null, boolean, integer, string, Values, no_items, item, Members, no_members, member, member_count, instant_free}
+use Rattle.model.specs.Value.{Value, scalar, instant, array, object, Scalar, string, Values, no_items, item, Members, no_members, member, instant_free}
 use Rattle.syntax.specs.Layout.{row_bytes, entry_bytes, rows_part}
 use Rattle.table.specs.declared.node.Node.{Node}
-use Rattle.table.specs.declared.node.Node.TheVariants.{Null, False, True, Integer, String, Array, Object}
+use Rattle.table.specs.declared.node.Node.TheVariants.{Object}
 use Rattle.table.specs.declared.node.Rows.{Rows}
 use Rattle.table.specs.Denotes.{Denotes, denotes_null, denotes_false, denotes_true, denotes_integer, denotes_string}
-use Rattle.table.specs.Node.{rows, node_at, next_row}
+use Rattle.table.specs.Node.{node_at, next_row}
 use Rattle.table.specs.Strings.{bytes_of}
 use Rattle.table.specs.WasRead.{WasRead}
 use Rattle.table.specs.Laws.Placed.{array_node, object_node}
