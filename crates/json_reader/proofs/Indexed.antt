@@ -25,7 +25,7 @@ use Rattle.table.specs.Row.{span, row_at}
 use Rattle.table.specs.Strings.{bytes_of}
 use Rattle.table.specs.WasRead.{WasRead}
 use Rattle.table.specs.Laws.Inside.{Inherited, inherits}
-use Rattle.table.specs.Laws.Placed.{was_read_placed, object_inside}
+use Rattle.table.specs.Laws.Placed.{was_read_placed, was_read_whole, object_inside}
 use Rattle.table.specs.Laws.ReadForm.{value_read}
 use Rattle.table.specs.Laws.Standing.{StandingMembers, object_members, member_first, member_rest, row_inside, next, first_name, root_stands, root_end}
 use Rattle.table.specs.Laws.WasRead.{SameRows, behind_null}
@@ -118,4 +118,4 @@ module _ {T B : Bytes} {v : Value} (w : WasRead T B v) where
   no_array row q l k e = let p = ap is_array (sym (behind_null w row l k) ∙ e) in omega arith
 
   pub items_indexed : IndexedTable T B → SameRows (link_items T (value_count v)) T × IndexedWhole (link_items T (value_count v)) B
-  items_indexed h = table_indexed T B (value_count v) h (omega (arith, (root_stands w).few)) (root_end w) no_array
+  items_indexed h = table_indexed T B (value_count v) (was_read_whole w) h (omega (arith, (root_stands w).few)) (root_end w) no_array

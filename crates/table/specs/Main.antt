@@ -15,7 +15,7 @@ use Rattle.table.specs.declared.node.Rows.{Rows}
 use Rattle.table.specs.Denotes.{Denotes}
 use Rattle.table.specs.Node.{node_at, next_row, name_at, tail_of}
 use Rattle.table.specs.Part.{Part}
-use Rattle.table.specs.Placed.{Placed, row_after}
+use Rattle.table.specs.Placed.{Placed, PlacedWhole, row_after}
 use Rattle.table.specs.Strings.{bytes_of}
 use Rattle.table.specs.WasRead.{WasRead}
 use Rattle.table.specs.Laws.Apart as ApartLaws
@@ -61,7 +61,7 @@ row_denotes T B v row w h =
 -- A row is a part of one array or object at most.
 pub parts_apart :
     (T : Bytes) (a o : ℕ) (p q : Rows) (i j : ℕ)
-    → Placed T
+    → PlacedWhole T
     → a < max_values
     → o < max_values
     → (node_at T a ≡ Array p ⊎ node_at T a ≡ Object p)

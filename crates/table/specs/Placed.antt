@@ -17,6 +17,9 @@ pub record Placed (T : Bytes) : Type 0 where
   pub items : (row : ℕ) (q : Rows) → row < max_values → node_at T row ≡ Array q → row_after T q.first q.count ≡ next_row T row
   pub members : (row : ℕ) (q : Rows) → row < max_values → node_at T row ≡ Object q → row_after T q.first q.count ≡ next_row T row
   pub inside : (row : ℕ) (q : Rows) → row < max_values → node_at T row ≡ Array q → (k : ℕ) → k < q.count → row_after T q.first k < max_values
+
+-- The same of members; and what begins within a value ends within it.
+pub record PlacedWhole (T : Bytes) : Type 0 where
+  pub placed : Placed T
   pub inside_members : (row : ℕ) (q : Rows) → row < max_values → node_at T row ≡ Object q → (k : ℕ) → k < q.count → row_after T q.first k < max_values
-  -- What begins within a value ends within it.
   pub nested : (row r : ℕ) → row < max_values → row ≤ r → r < next_row T row → next_row T r ≤ next_row T row

@@ -18,7 +18,7 @@ use Rattle.table.specs.declared.node.Node.TheVariants.{Null, False, True, Intege
 use Rattle.table.specs.declared.node.Rows.{Rows}
 use Rattle.table.specs.Main.{parts_apart}
 use Rattle.table.specs.Node.{node_at, next_row, name_at}
-use Rattle.table.specs.Placed.{row_after, Placed}
+use Rattle.table.specs.Placed.{row_after, PlacedWhole}
 use Rattle.table.specs.Strings.{bytes_of}
 use Rattle.table.specs.Laws.After.{rows_grow, after_same, placed_same}
 use Rattle.table.specs.Laws.Inside.{by_order}
@@ -77,7 +77,7 @@ member_row T B zero row r h = absurd h
 member_row T B (suc n) row r (inl e) = record { at = 0; below = omega arith; is = e }
 member_row T B (suc n) row r (inr h) = let m = member_row T B n (next_row T row) r h in record { at = suc m.at; below = omega (arith, m.below); is = m.is }
 
-module _ (T B D : Bytes) (m : IndexedTable T B) (l : ItemsLinked T D) where
+module _ (T B D : Bytes) (whole : PlacedWhole T) (m : IndexedTable T B) (l : ItemsLinked T D) where
   same_rows : SameRows D T
   same_rows = record { rows = l.rows; size = l.size }
 
@@ -92,7 +92,7 @@ module _ (T B D : Bytes) (m : IndexedTable T B) (l : ItemsLinked T D) where
       let x = member_row T B q.count q.first r h in
       l.others r (omega (arith, (has_between q.first max_values es o.between r h).0, f))
       (λ a p i b g c s.
-      parts_apart T a row p q i x.at m.placed b k (inl g) (inr e)
+      parts_apart T a row p q i x.at whole b k (inl g) (inr e)
       (λ t. omega (arith, sym (ap is_array g) ∙ ap (λ (y : ℕ). is_array (node_at T y)) t ∙ ap is_array e)) c x.below (sym s ∙ x.is)) in
       let same = sym (entries_same same_rows B q.count q.first q.first o.between) in
       record {
@@ -104,7 +104,7 @@ module _ (T B D : Bytes) (m : IndexedTable T B) (l : ItemsLinked T D) where
   kept_table : IndexedWhole D B
   kept_table =
       let size : table_bytes ≤ length D = rw l.size m.size in
-      let placed = placed_same same_rows m.placed in
+      let placed = (placed_same same_rows whole).placed in
       record {
         names = record { size = size; placed = placed; objects = λ row q k e. object_kept row q k (sym (node_same same_rows row k) ∙ e) };
         items = record {
@@ -115,7 +115,7 @@ module _ (T B D : Bytes) (m : IndexedTable T B) (l : ItemsLinked T D) where
       }
 
 -- ---- the arrays, row after row
-module _ (T : Bytes) (placed : Placed T) (size : table_bytes ≤ length T) where
+module _ (T : Bytes) (whole : PlacedWhole T) (size : table_bytes ≤ length T) where
   -- A row that holds no item of an array.
   abbrev NoItem : ℕ → Type 0
   NoItem r = (row : ℕ) (q : Rows) (i : ℕ) → row < max_values → node_at T row ≡ Array q → i < q.count → r ≡ row_after T q.first i → ⊥
@@ -154,21 +154,21 @@ module _ (T : Bytes) (placed : Placed T) (size : table_bytes ≤ length T) where
     next_table = link_from D q.first q.first q.count
 
     after_here : (i : ℕ) → i < q.count → row_after D q.first i ≡ row_after T q.first i
-    after_here i l = after_same u.same i q.first (λ j k. placed.inside row q in_table here j (omega arith))
+    after_here i l = after_same u.same i q.first (λ j k. whole.placed.inside row q in_table here j (omega arith))
 
     is_linked : Linked D q next_table
     is_linked =
-        linked D q (rw u.same.size size) (placed_same u.same placed) (omega (arith, array_first T row q here))
-        (λ i l. rw (after_here i l) (placed.inside row q in_table here i l))
+        linked D q (rw u.same.size size) (placed_same u.same whole).placed (omega (arith, array_first T row q here))
+        (λ i l. rw (after_here i l) (whole.placed.inside row q in_table here i l))
 
     -- The doubles of the items of an array before.
     before : (a : ℕ) (p : Rows) → a < row → a < max_values → node_at T a ≡ Array p → Doubles D p → Doubles next_table p
     before a p l k e d i h =
-        let b = placed.inside a p k e in
-        let g = rows_grow placed p.first i (λ j m. b j (omega arith)) in
+        let b = whole.placed.inside a p k e in
+        let g = rows_grow whole.placed p.first i (λ j m. b j (omega arith)) in
         let same-entry : entry next_table (row_after T p.first i) ≡ entry D (row_after T p.first i) =
         is_linked.others (row_after T p.first i) (omega (arith, g, array_first T a p e))
-        (λ j m f. parts_apart T a row p q i j placed k in_table (inl e) (inl here) (λ x. omega arith) (omega arith) m (f ∙ after_here j m)) in
+        (λ j m f. parts_apart T a row p q i j whole k in_table (inl e) (inl here) (λ x. omega arith) (omega arith) m (f ∙ after_here j m)) in
         double_same D next_table (row_after T p.first i) is_linked.size same-entry ∙ d i h
 
     -- The doubles of its own.
@@ -224,7 +224,7 @@ module _ (T : Bytes) (placed : Placed T) (size : table_bytes ≤ length T) where
       others = all.others;
       arrays = λ row q l e h. record {
         doubles = λ i k.
-            let b = placed.inside row q l e in
+            let b = whole.placed.inside row q l e in
             let f = after_same all.same i q.first (λ j m. b j (omega arith)) in
             let g = after_same all.same (i + i) q.first (λ j m. b j (omega arith)) in
             by_order row n
@@ -235,30 +235,30 @@ module _ (T : Bytes) (placed : Placed T) (size : table_bytes ≤ length T) where
 
 -- Every array that has an index is indexed, when so many rows hold all arrays.
 pub items_linked :
-    (T : Bytes) (n : ℕ) → Placed T → table_bytes ≤ length T → n ≤ max_values
+    (T : Bytes) (n : ℕ) → PlacedWhole T → table_bytes ≤ length T → n ≤ max_values
     → ((row : ℕ) (q : Rows) → n ≤ row → row < max_values → node_at T row ≡ Array q → ⊥)
     → ItemsLinked T (link_rows T 0 n)
-items_linked T n placed size few rest = items_linked_here T placed size n few rest
+items_linked T n whole size few rest = items_linked_here T whole size n few rest
 
 -- ---- a text of few values
 -- An array that has an index has more rows than items, and ends where the text ends or before.
-few_rows : {T : Bytes} (row : ℕ) (q : Rows) → Placed T → row < max_values → row < next_row T 0 → next_row T 0 ≤ few_items + 2 → node_at T row ≡ Array q → has_index T row q ≡ true → ⊥
+few_rows : {T : Bytes} (row : ℕ) (q : Rows) → PlacedWhole T → row < max_values → row < next_row T 0 → next_row T 0 ≤ few_items + 2 → node_at T row ≡ Array q → has_index T row q ≡ true → ⊥
 unfolding has_index
-few_rows {T} row q placed l m few e h =
+few_rows {T} row q whole l m few e h =
     let p = both _ _ h in
     let many = ltb-true few_items q.count p.0 in
-    let grows = rows_grow placed q.first q.count (placed.inside row q l e) in
-    let end = placed.nested 0 row (omega arith) (omega arith) m in
-    eqb-false (next_row T row) (q.first + q.count) (not-true _ p.1) (omega (arith, many, grows, placed.items row q l e, array_first T row q e, end, few))
+    let grows = rows_grow whole.placed q.first q.count (whole.placed.inside row q l e) in
+    let end = whole.nested 0 row (omega arith) (omega arith) m in
+    eqb-false (next_row T row) (q.first + q.count) (not-true _ p.1) (omega (arith, many, grows, whole.placed.items row q l e, array_first T row q e, end, few))
 
-module _ (T : Bytes) (n : ℕ) (placed : Placed T) (size : table_bytes ≤ length T) (few : n ≤ max_values) (whole : next_row T 0 ≡ n)
+module _ (T : Bytes) (n : ℕ) (whole : PlacedWhole T) (size : table_bytes ≤ length T) (few : n ≤ max_values) (end : next_row T 0 ≡ n)
     (rest : (row : ℕ) (q : Rows) → n ≤ row → row < max_values → node_at T row ≡ Array q → ⊥) where
   none_linked : n ≤ few_items + 2 → ItemsLinked T T
   none_linked h = record {
     size = refl;
     rows = refl;
     others = λ r l x. refl;
-    arrays = λ row q l e i. by_order row n (λ m. absurd (few_rows row q placed l (omega (arith, whole)) (omega (arith, whole)) e i)) (λ m. absurd (rest row q m l e));
+    arrays = λ row q l e i. by_order row n (λ m. absurd (few_rows row q whole l (omega (arith, end)) (omega (arith, end)) e i)) (λ m. absurd (rest row q m l e));
   }
 
   all_linked : ItemsLinked T (link_items T n)
@@ -266,13 +266,13 @@ module _ (T : Bytes) (n : ℕ) (placed : Placed T) (size : table_bytes ≤ lengt
   all_linked = by (leb n (few_items + 2)) refl where
     by : (b : Bool) → leb n (few_items + 2) ≡ b → ItemsLinked T (cond b T (link_rows T 0 n))
     by true e = none_linked (leb-true _ _ e)
-    by false e = items_linked T n placed size few rest
+    by false e = items_linked T n whole size few rest
 
 -- Entering the items of a text's arrays keeps the rows, and leaves the names indexed as before.
 pub table_indexed :
-    (T B : Bytes) (n : ℕ) → IndexedTable T B → n ≤ max_values → next_row T 0 ≡ n
+    (T B : Bytes) (n : ℕ) → PlacedWhole T → IndexedTable T B → n ≤ max_values → next_row T 0 ≡ n
     → ((row : ℕ) (q : Rows) → n ≤ row → row < max_values → node_at T row ≡ Array q → ⊥)
     → SameRows (link_items T n) T × IndexedWhole (link_items T n) B
-table_indexed T B n m few whole rest =
-    let l = all_linked T n m.placed m.size few whole rest in
-    (record { rows = l.rows; size = l.size }, kept_table T B (link_items T n) m l)
+table_indexed T B n whole m few end rest =
+    let l = all_linked T n whole m.size few end rest in
+    (record { rows = l.rows; size = l.size }, kept_table T B (link_items T n) whole m l)

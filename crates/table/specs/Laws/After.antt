@@ -4,7 +4,7 @@ use Rattle.std.proofs.Common.{sym, ap, ◌∙◌, arith}
 use Rattle.model.specs.Bytes.{Bytes}
 use Rattle.model.specs.Limits.{max_values}
 use Rattle.table.specs.Node.{next_row}
-use Rattle.table.specs.Placed.{Placed, row_after}
+use Rattle.table.specs.Placed.{Placed, PlacedWhole, row_after}
 use Rattle.table.specs.Laws.WasRead.{SameRows, node_same, next_same}
 
 -- The row after one more value.
@@ -28,26 +28,28 @@ after_same same zero row h = refl
 after_same {D} {T} same (suc k) row h =
     ap (λ (r : ℕ). row_after D r k) (next_same same row (h 0 (omega arith))) ∙ after_same same k (next_row T row) (λ j l. h (suc j) (omega arith))
 
-pub placed_same : {D T : Bytes} → SameRows D T → Placed T → Placed D
-placed_same {D} {T} same p = record {
-  on = λ row l. rw (next_same same row l) (p.on row l);
-  within = λ row l. rw (next_same same row l) (p.within row l);
-  items = λ row q l e.
-      let f = sym (node_same same row l) ∙ e in
-      after_same same q.count q.first (p.inside row q l f) ∙ p.items row q l f ∙ sym (next_same same row l);
-  members = λ row q l e.
-      let f = sym (node_same same row l) ∙ e in
-      after_same same q.count q.first (p.inside_members row q l f) ∙ p.members row q l f ∙ sym (next_same same row l);
-  inside = λ row q l e k h.
-      let f = sym (node_same same row l) ∙ e in
-      let b = p.inside row q l f in
-      rw (after_same same k q.first (λ j i. b j (omega arith))) (b k h);
+pub placed_same : {D T : Bytes} → SameRows D T → PlacedWhole T → PlacedWhole D
+placed_same {D} {T} same w = record {
+  placed = record {
+    on = λ row l. rw (next_same same row l) (w.placed.on row l);
+    within = λ row l. rw (next_same same row l) (w.placed.within row l);
+    items = λ row q l e.
+        let f = sym (node_same same row l) ∙ e in
+        after_same same q.count q.first (w.placed.inside row q l f) ∙ w.placed.items row q l f ∙ sym (next_same same row l);
+    members = λ row q l e.
+        let f = sym (node_same same row l) ∙ e in
+        after_same same q.count q.first (w.inside_members row q l f) ∙ w.placed.members row q l f ∙ sym (next_same same row l);
+    inside = λ row q l e k h.
+        let f = sym (node_same same row l) ∙ e in
+        let b = w.placed.inside row q l f in
+        rw (after_same same k q.first (λ j i. b j (omega arith))) (b k h);
+  };
   inside_members = λ row q l e k h.
       let f = sym (node_same same row l) ∙ e in
-      let b = p.inside_members row q l f in
+      let b = w.inside_members row q l f in
       rw (after_same same k q.first (λ j i. b j (omega arith))) (b k h);
   nested = λ row r l b h.
       let e = next_same same row l in
       let k : r < next_row T row = omega arith in
-      omega (arith, e, next_same same r (omega (arith, p.within row l)), p.nested row r l b k);
+      omega (arith, e, next_same same r (omega (arith, w.placed.within row l)), w.nested row r l b k);
 }

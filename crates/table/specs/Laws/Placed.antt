@@ -17,7 +17,7 @@ use Rattle.table.specs.declared.row.Row.{Row}
 use Rattle.table.specs.Denotes.{Denotes, denotes_array, denotes_object, RowItems, no_row_items, row_item, RowMembers, no_row_members, row_member}
 use Rattle.table.specs.Node.{rows, node_of, node_at, next_row}
 use Rattle.table.specs.Part.{Part}
-use Rattle.table.specs.Placed.{Placed, row_after}
+use Rattle.table.specs.Placed.{Placed, PlacedWhole, row_after}
 use Rattle.table.specs.Row.{row_at}
 use Rattle.table.specs.WasRead.{WasRead}
 use Rattle.table.specs.Laws.Inside.{Inherited, inherits, inside, by_order}
@@ -186,6 +186,12 @@ module _ {T B : Bytes} where
         items = λ row q k. (row_placed w row k).items q;
         members = λ row q k. (row_placed w row k).members q;
         inside = λ row q k. (row_placed w row k).inside_items q;
+      }
+
+  pub was_read_whole : {v : Value} → WasRead T B v → PlacedWhole T
+  was_read_whole w =
+      record {
+        placed = was_read_placed w;
         inside_members = λ row q k. (row_placed w row k).inside_members q;
         nested = λ row r k. (row_placed w row k).nested r;
       }
