@@ -1,12 +1,7 @@
 -- Instants: an operation that gives an instant, by its operand's handle.
 use mathlib.Core.Path.{◌≡◌, refl, sym, ap, ◌∙◌}
-use mathlib.Core.List.{[], ◌∷◌}
-use mathlib.Core.Logic.{⊎_elim}
 use mathlib.Core.Option.{none}
 use Prim.Native.Nat.{ℕ}
-use native.Mathlib.Omega.{arith}
-use denote.Enum.Declared.{tag_of}
-use types.Run.{OneOf}
 use lib.Dec.{T}
 use lib.IntN.{ℤ}
 use mir.Facts.{to_z-of_z}
@@ -29,7 +24,6 @@ use Rattle.calendar.specs.declared.instant.DateAnswer.{DateAnswer}
 use Rattle.calendar.specs.declared.instant.DateAnswer.TheVariants as Dated
 use Rattle.calendar.specs.declared.instant.Instant.{Instant}
 use Rattle.calendar.specs.declared.instant.InstantAnswer.{InstantAnswer}
-use Rattle.heap.specs.contracts.handle.Handle.{the_type}
 use Rattle.heap.specs.declared.handle.Handle.{Handle}
 use Rattle.heap.specs.declared.handle.Handle.TheVariants.{String}
 use Rattle.heap.specs.declared.handle.Span.{Span}
@@ -46,9 +40,9 @@ use Rattle.op_dates.specs.Contract.{Shifts, Born}
 string_is : {a : Areas} {top : ℕ} {v : Value} {s : Span} → Means a top v (String s) → v ≡ scalar (string (span_bytes a.rule a.strings s))
 string_is (means_string l) = ap (λ (x : Bytes). scalar (string x)) l.is
 
--- The handle's tag is none of a string.
+-- The handle is none of a string.
 abbrev pub NoString : Handle → Type 0
-NoString h = OneOf (0 ∷ 1 ∷ 2 ∷ 3 ∷ 4 ∷ 6 ∷ []) (tag_of the_type h)
+NoString h = (s : Span) → h ≡ String s → ⊥
 
 no_string : {a : Areas} {top : ℕ} {v : Value} {h : Handle} → Means a top v h → NoString h → as_string v ≡ none
 no_string means_null k = refl
@@ -56,9 +50,7 @@ no_string means_false k = refl
 no_string means_true k = refl
 no_string (means_integer w e) k = refl
 no_string (means_instant w e) k = refl
-no_string (means_string l) k =
-    absurd
-    (⊎_elim (λ x. omega arith) (⊎_elim (λ x. omega arith) (⊎_elim (λ x. omega arith) (⊎_elim (λ x. omega arith) (⊎_elim (λ x. omega arith) (λ x. omega arith))))) k)
+no_string (means_string l) k = absurd (k _ refl)
 no_string (means_items e f r) k = refl
 no_string (means_members e f r) k = refl
 no_string (means_list e b r) k = refl

@@ -1,14 +1,11 @@
 -- Parts: what a fragment names, by the form of the value's handle.
 use mathlib.Core.Path.{◌≡◌, refl, sym, ap, ◌∙◌}
 use mathlib.Core.Bool.{Bool, true, false, cond}
-use mathlib.Core.List.{[], ◌∷◌}
 use mathlib.Core.Option.{Option, none, some}
 use Prim.Native.Nat.{ℕ, zero, suc, ◌+◌, ◌/◌, ◌≤◌, ◌<◌}
 use native.Mathlib.Nat.{add-zero}
 use native.Mathlib.Omega.{arith}
 use borrow.Author.Tests.{le-ltb}
-use denote.Enum.Declared.{tag_of}
-use types.Run.{OneOf, miss}
 use lib.ListN.{length}
 use Rattle.model.specs.Bytes.{Bytes, same_bytes}
 use Rattle.model.specs.Eval.{current, accumulator}
@@ -22,13 +19,11 @@ use Rattle.table.specs.declared.node.Node.{Node}
 use Rattle.table.specs.declared.node.Node.TheVariants as nodes
 use Rattle.table.specs.Denotes.{Denotes, denotes_array, denotes_object}
 use Rattle.table.specs.Node.{rows}
-use Rattle.paths.specs.contracts.index.Index.{the_type as index-type}
 use Rattle.paths.specs.declared.index.Index.{Index}
 use Rattle.paths.specs.declared.index.Index.TheVariants.{At}
 use Rattle.paths.specs.Contract.{limit, index_in}
 use Rattle.paths.specs.Inner.{or_null}
 use Rattle.paths.specs.Laws.Index.{IndexIs, inside, outside, index_is}
-use Rattle.heap.specs.contracts.handle.Handle.{the_type}
 use Rattle.heap.specs.declared.handle.Form.{Form}
 use Rattle.heap.specs.declared.handle.Form.TheVariants.{Items, Members, List, Context}
 use Rattle.heap.specs.declared.handle.Handle.{Handle}
@@ -72,8 +67,8 @@ list_past (means_items e f r) q k l = clash cc
 list_past (means_list {vs = vs} e b r) q k l = rw (item_past vs k (omega arith)) means_null
 
 module _ {f C : Bytes} {p : Parts} where
-  named_far : {i : Index} → IndexIs f i → OneOf (0 ∷ []) (tag_of index-type i) → ItemNamed f C p Null
-  named_far (inside e) t = absurd (miss (0 ∷ []) 1 tt t)
+  named_far : {i : Index} → IndexIs f i → ((k : ℕ) → i ≡ At k → ⊥) → ItemNamed f C p Null
+  named_far (inside e) t = absurd (t _ refl)
   named_far (outside far) t = record { means = λ A B T top vs l q m. go m l q (index_of f) far }
     where
       go : {a : Areas} {top : ℕ} {vs : Values} → Means a top (array vs) (Compound p) → top ≤ heap_cells → p.form ≡ List → (o : Option ℕ) → ((k : ℕ) → o ≡ some k → limit ≤ k)
@@ -81,7 +76,7 @@ module _ {f C : Bytes} {p : Parts} where
       go m l q none x = means_null
       go m l q (some k) x = list_past m q k (omega (arith, x k refl, means_small m l))
 
-  pub named_outside : {i : Index} → i ≡ index_in f → OneOf (0 ∷ []) (tag_of index-type i) → ItemNamed f C p Null
+  pub named_outside : {i : Index} → i ≡ index_in f → ((k : ℕ) → i ≡ At k → ⊥) → ItemNamed f C p Null
   named_outside e t = named_far (index_is f e) t
 
   module _ {k : ℕ} (x : At k ≡ index_in f) where
@@ -122,20 +117,20 @@ place p k = place_by k (rows p.first p.count)
 
 module _ {f C : Bytes} where
   -- What is no array and no object has no parts.
-  pub no_part : (h : Handle) → OneOf (0 ∷ 1 ∷ 2 ∷ 3 ∷ 4 ∷ 5 ∷ []) (tag_of the_type h) → PartNamed f C h Null
+  pub no_part : (h : Handle) → ((p : Parts) → h ≡ Compound p → ⊥) → PartNamed f C h Null
   no_part h k = record { means = λ A B T top v l p m. go k m }
     where
-      go : {a : Areas} {top : ℕ} {v : Value} {h : Handle} → OneOf (0 ∷ 1 ∷ 2 ∷ 3 ∷ 4 ∷ 5 ∷ []) (tag_of the_type h) → Means a top v h → Means a top (or_null (part f v)) Null
+      go : {a : Areas} {top : ℕ} {v : Value} {h : Handle} → ((p : Parts) → h ≡ Compound p → ⊥) → Means a top v h → Means a top (or_null (part f v)) Null
       go k means_null = means_null
       go k means_false = means_null
       go k means_true = means_null
       go k (means_integer w e) = means_null
       go k (means_instant w e) = means_null
       go k (means_string l) = means_null
-      go k (means_items e l r) = absurd (miss (0 ∷ 1 ∷ 2 ∷ 3 ∷ 4 ∷ 5 ∷ []) 6 tt k)
-      go k (means_members e l r) = absurd (miss (0 ∷ 1 ∷ 2 ∷ 3 ∷ 4 ∷ 5 ∷ []) 6 tt k)
-      go k (means_list e l r) = absurd (miss (0 ∷ 1 ∷ 2 ∷ 3 ∷ 4 ∷ 5 ∷ []) 6 tt k)
-      go k (means_context b i m n) = absurd (miss (0 ∷ 1 ∷ 2 ∷ 3 ∷ 4 ∷ 5 ∷ []) 6 tt k)
+      go k (means_items e l r) = absurd (k _ refl)
+      go k (means_members e l r) = absurd (k _ refl)
+      go k (means_list e l r) = absurd (k _ refl)
+      go k (means_context b i m n) = absurd (k _ refl)
 
   module _ {p : Parts} where
     -- What lies in the record is left out.
@@ -152,14 +147,14 @@ module _ {f C : Bytes} where
     context_part {r} e d = record { means = λ A B T top v l g m. rw d (context_named f m e) }
 
 -- ---- where a value lies
-pub no_place : (h : Handle) → OneOf (0 ∷ 1 ∷ 2 ∷ 3 ∷ 4 ∷ 5 ∷ []) (tag_of the_type h) → Cells ≡ place_of h
+pub no_place : (h : Handle) → ((p : Parts) → h ≡ Compound p → ⊥) → Cells ≡ place_of h
 no_place Null k = refl
 no_place False k = refl
 no_place True k = refl
 no_place (Integer n) k = refl
 no_place (Instant n) k = refl
 no_place (String s) k = refl
-no_place (Compound p) k = absurd (miss (0 ∷ 1 ∷ 2 ∷ 3 ∷ 4 ∷ 5 ∷ []) 6 tt k)
+no_place (Compound p) k = absurd (k _ refl)
 
 -- In the record: its node denotes the value.
 pub place_denotes : {a : Areas} {top : ℕ} {v : Value} {h : Handle} {n : Node} → Means a top v h → Record n ≡ place_of h → Denotes a.table a.strings v n

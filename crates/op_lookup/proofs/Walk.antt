@@ -1,23 +1,16 @@
 -- Walk: the loop over the fragments of a path.
 use mathlib.Core.Path.{◌≡◌, sym}
 use mathlib.Core.List.{[]}
-use mathlib.Core.Option.{some}
 use Prim.Native.Nat.{ℕ, ◌+◌, ◌-◌, ◌≤◌, ◌<◌}
 use native.Mathlib.Omega.{arith}
 use lib.ListN.{length, take, drop, length-drop, drop_of_length-le}
 use lib.Seq.{drop-drop, take_all}
 use Rattle.model.specs.Bytes.{Bytes}
-use Rattle.model.specs.Path.{Path, part, path_of, value_at}
-use Rattle.model.specs.Value.{Value}
 use Rattle.table.specs.declared.node.Node.{Node}
-use Rattle.table.specs.Denotes.{Denotes}
 use Rattle.paths.specs.Contract as paths
-use Rattle.paths.specs.Inner.{or_null}
 use Rattle.paths.specs.Laws.Fragments.{size, first, value_on}
 use Rattle.heap.specs.declared.handle.Handle.{Handle}
 use Rattle.heap.specs.Handles.{record_handle}
-use Rattle.heap.specs.Means.{Means}
-use Rattle.heap.specs.Unfold.{Areas, areas}
 use Rattle.heap.proofs.Laws.Rows.{node_means}
 use Rattle.op_lookup.specs.declared.Place.TheVariants.{Record, Cells}
 use Rattle.op_lookup.specs.Contract.{Leads}
