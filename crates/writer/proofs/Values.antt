@@ -2,12 +2,10 @@
 use mathlib.Core.Path.{◌≡◌, refl, sym, ap, ◌∙◌}
 use mathlib.Core.Bool.{Bool, true, false}
 use mathlib.Core.List.{[], ◌∷◌, ◌++◌}
-use mathlib.Core.Logic.{inl, inr, ⊎_elim}
+use mathlib.Core.Logic.{inl, inr}
 use Prim.Native.Nat.{ℕ, zero, suc, ◌+◌, ◌-◌, ◌≤◌, ◌<◌}
 use native.Mathlib.Omega.{arith}
 use native.Mathlib.Numerals.{add-one}
-use denote.Enum.Declared.{tag_of}
-use types.Run.{OneOf}
 use lib.ListN.{length, length-append, set}
 use lib.Seq.{sets}
 use Rattle.area.specs.Laws.{sets_append}
@@ -19,7 +17,6 @@ use Rattle.model.specs.Value.{Value, scalar, instant, null}
 use Rattle.model.specs.Writing.{value_text}
 use Rattle.model.proofs.Laws.Logic.{clash}
 use Rattle.syntax.proofs.Laws.Layout.{count_positive}
-use Rattle.heap.specs.contracts.handle.Handle.{the_type}
 use Rattle.heap.specs.declared.handle.Handle.{Handle}
 use Rattle.heap.specs.declared.handle.Handle.TheVariants.{Null, False, True, Integer, Instant, String, Compound}
 use Rattle.heap.specs.declared.handle.Form.{Form}
@@ -72,14 +69,14 @@ pub data Scalarlike : Handle → Type 0 where
   of_instant : {n : ℕ} → Scalarlike (Instant n)
   of_string : {s : Span} → Scalarlike (String s)
 
-pub scalarlike : (h : Handle) → OneOf (0 ∷ 1 ∷ 2 ∷ 3 ∷ 4 ∷ 5 ∷ []) (tag_of the_type h) → Scalarlike h
+pub scalarlike : (h : Handle) → ((p : Parts) → h ≡ Compound p → ⊥) → Scalarlike h
 scalarlike Null k = of_null
 scalarlike False k = of_false
 scalarlike True k = of_true
 scalarlike (Integer n) k = of_integer
 scalarlike (Instant n) k = of_instant
 scalarlike (String s) k = of_string
-scalarlike (Compound p) k = absurd (⊎_elim (λ x. omega arith) (⊎_elim (λ x. omega arith) (⊎_elim (λ x. omega arith) (⊎_elim (λ x. omega arith) (⊎_elim (λ x. omega arith) (λ x. omega arith))))) k)
+scalarlike (Compound p) k = absurd (k p refl)
 
 scalar_piece : (a : Areas) (f : Handle → Value) {h : Handle} → Scalarlike h → value_piece (value_by a f h) ≡ piece (handle_text a.rule a.strings h) 1 0
 unfolding value_text value_count nesting
