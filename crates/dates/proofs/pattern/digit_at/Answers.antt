@@ -6,7 +6,7 @@ pub returns-then-i-text : goal.returns-then-i-text
 returns-then-i-text c = (digit_past c.args.text.now c.args.i c.if-i-text.true, omega arith)
 
 pub overflow_cast-result : goal.overflow_cast-result
-overflow_cast-result c = omega (arith, c.shared_slice_known-1.given c.args.i)
+overflow_cast-result c = omega (arith, c.type_inv.text c.args.i)
 
 pub returns : goal.returns
-returns c = omega (arith, c.shared_slice_known-1.given c.args.i)
+returns c = omega (arith, c.type_inv.text c.args.i)
