@@ -12,7 +12,7 @@ TOK = re.compile(r"[^\s(){}\[\],;.@\"«»]+")
 
 
 def norm(s):
-    s = s.replace("-", "_").replace("·", "")
+    s = s.replace("-", "_").replace("·", "").lower()
     return s[:-4] if s.endswith("_lem") else s
 
 
@@ -258,14 +258,14 @@ def convert(path, crate, names, keep_search):
             params = clause.group("params").split()
             params = [p for p in params if not re.match(r"κs?\d*$", p)]
             flat = " ".join(bodytext.split())
-            if flat in ("search rules", "omega arith") and not unf and not keep_search:
+            if flat in ("search rules", "omega arith", "tt") and not unf and not keep_search:
                 continue
             place = asked[i][0]
             bodytext = inline_lets(bodytext)
             bodytext = rewrite_paths(bodytext, fn, place, left)
             # a test of !x says today what x says
-            bodytext = re.sub(r"\(not-(?:true|false) _ (c\.[^\s(),]+)\)", r"\1", bodytext)
-            bodytext = re.sub(r"not-(?:true|false) _ (c\.[^\s(),]+)", r"\1", bodytext)
+            bodytext = re.sub(r"\(not-(?:true|false) (?:_|c\.[^\s(),]+) (c\.[^\s(),]+)\)", r"\1", bodytext)
+            bodytext = re.sub(r"not-(?:true|false) (?:_|c\.[^\s(),]+) (c\.[^\s(),]+)", r"\1", bodytext)
             for a, g in renames.items():
                 bodytext = re.sub(rf"(?<![\w.'-]){re.escape(a)}(?![\w'-])", g, bodytext) if a != name and re.search(rf"(?<![\w.'-]){re.escape(a)} c\b", bodytext) else bodytext
             ans_out.append((pre + "\n" if pre else "") + f"pub {goal} : goal.{goal}\n" + (unf.group(0) + "\n" if unf else "") + f"{goal} {' '.join(params)} ={bodytext}")
