@@ -25,7 +25,7 @@ use Rattle.op_scalars.specs.declared.compare.Number.{Number}
 use Rattle.op_scalars.specs.declared.compare.Number.TheVariants.{Is, NotOne}
 use Rattle.op_scalars.specs.Contract.{Compared, ComparedThree}
 use Rattle.op_scalars.specs.Inner.{boolean_handle, Raised, NumberIs, is_number, is_none, Numbered, ordered}
-use Rattle.op_scalars.proofs.Answers.{gives-bool, same_answer}
+use Rattle.op_scalars.proofs.Answers.{gives_bool, same_answer}
 use Rattle.op_scalars.proofs.Operands.{NotInteger, NotInstant, no_integer, no_instant}
 use Rattle.op_scalars.proofs.Raised.{le_raised, lt_raised, biased_raised, since_raised}
 
@@ -89,14 +89,14 @@ same_number {m = m} {n = n} e s = let q : m ≡ n = cc in rw q s
 module _ {a : Areas} {top : ℕ} (d : Domain) (c : Comparison) {r : Operated} where
   chained_two : {o p : Option ℤ} {m n : ℕ} {b : Bool} → NumberIs d o (Is m) → NumberIs d p (Is n) → r ≡ Operateds.Value (boolean_handle b) → b ≡ ordered c m n → Gives a top (chained c (o ∷ p ∷ [])) r
   chained_two (is_number {z = y} e s) (is_number {z = z} f t) w g =
-      gives-bool (compares c y z && true) (same_answer w (g ∙ sym (and-true (compares c y z) ∙ same_order c (same_number e s) (same_number f t))))
+      gives_bool (compares c y z && true) (same_answer w (g ∙ sym (and-true (compares c y z) ∙ same_order c (same_number e s) (same_number f t))))
   chained_two (is_number e s) (is_none f) w g = clash cc
   chained_two (is_none e) p w g = clash cc
 
   chained_three : {o p q : Option ℤ} {l m n : ℕ} {b : Bool} → NumberIs d o (Is l) → NumberIs d p (Is m) → NumberIs d q (Is n) → r ≡ Operateds.Value (boolean_handle b) → b ≡ ordered c l m && ordered c m n
       → Gives a top (chained c (o ∷ p ∷ q ∷ [])) r
   chained_three (is_number {z = x} e s) (is_number {z = y} f t) (is_number {z = z} g u) w h =
-      gives-bool (compares c x y && (compares c y z && true))
+      gives_bool (compares c x y && (compares c y z && true))
       (same_answer w
       (h ∙ sym (ap₂ ◌&&◌ (same_order c (same_number e s) (same_number f t)) (and-true (compares c y z) ∙ same_order c (same_number f t) (same_number g u)))))
   chained_three (is_number e s) (is_number f t) (is_none g) w h = clash cc

@@ -25,7 +25,7 @@ use Rattle.op_result.specs.declared.Operated.{Operated}
 use Rattle.op_result.specs.declared.Operated.TheVariants as Operateds
 use Rattle.op_scalars.specs.Contract.{Equality, Membership}
 use Rattle.op_scalars.specs.Inner.{boolean_handle, scalar_of, is_scalar, is_the, same_handles, among_parts, is_array}
-use Rattle.op_scalars.proofs.Answers.{gives-bool, same_answer, first-wrong, second-wrong, both_right}
+use Rattle.op_scalars.proofs.Answers.{gives_bool, same_answer, first_wrong, second_wrong, both_right}
 use Rattle.op_scalars.proofs.Operands.{scalar_means, no_scalar, a_scalar, no_array, NotInteger, NotCompound, no_compound}
 use Rattle.op_scalars.proofs.Raised.{same_raised, unbiased_raised}
 
@@ -81,10 +81,10 @@ is_same_integer A B m n = sym (same_raised (unbiased_raised m) (unbiased_raised 
 -- ---- `===`
 module _ (A B : Bytes) {x y : Handle} {r : Operated} where
   pub equality_first : is_scalar x ≡ false → r ≡ Operateds.WrongKind → Equality A B x y r
-  equality_first e w = record { gives = λ T C top v u m n. first-wrong (λ s t. ok (operations.bool (same_scalar s t))) (as_scalar v) (as_scalar u) (scalar_means m ∙ no_scalar A B x e) w }
+  equality_first e w = record { gives = λ T C top v u m n. first_wrong (λ s t. ok (operations.bool (same_scalar s t))) (as_scalar v) (as_scalar u) (scalar_means m ∙ no_scalar A B x e) w }
 
   pub equality_second : is_scalar y ≡ false → r ≡ Operateds.WrongKind → Equality A B x y r
-  equality_second e w = record { gives = λ T C top v u m n. second-wrong (λ s t. ok (operations.bool (same_scalar s t))) (as_scalar v) (as_scalar u) (scalar_means n ∙ no_scalar A B y e) w }
+  equality_second e w = record { gives = λ T C top v u m n. second_wrong (λ s t. ok (operations.bool (same_scalar s t))) (as_scalar v) (as_scalar u) (scalar_means n ∙ no_scalar A B y e) w }
 
   pub equality_both : {b : Bool} → is_scalar x ≡ true → is_scalar y ≡ true → r ≡ Operateds.Value (boolean_handle b) → b ≡ same_handles A B x y → Equality A B x y r
   equality_both e f w g =
@@ -93,7 +93,7 @@ module _ (A B : Bytes) {x y : Handle} {r : Operated} where
       record {
         gives = λ T C top v u m n.
             both_right (λ s t. ok (operations.bool (same_scalar s t))) (as_scalar v) (as_scalar u) (scalar_means m ∙ s.1) (scalar_means n ∙ t.1)
-            (gives-bool (same_scalar s.0 t.0) (same_answer w (g ∙ ap (holds (λ x. is_the A B x y)) s.1 ∙ ap (holds (same_scalar s.0)) t.1)));
+            (gives_bool (same_scalar s.0 t.0) (same_answer w (g ∙ ap (holds (λ x. is_the A B x y)) s.1 ∙ ap (holds (same_scalar s.0)) t.1)));
       }
 
 -- ---- `in`
@@ -117,14 +117,14 @@ an_array (means_context b i m n) q = clash cc
 
 module _ (A B T C : Bytes) {x y : Handle} {r : Operated} where
   pub membership_first : is_scalar x ≡ false → r ≡ Operateds.WrongKind → Membership A B T C x y r
-  membership_first e w = record { gives = λ top v u m n. first-wrong (λ s vs. ok (operations.bool (operations.among s vs))) (as_scalar v) (as_array u) (scalar_means m ∙ no_scalar A B x e) w }
+  membership_first e w = record { gives = λ top v u m n. first_wrong (λ s vs. ok (operations.bool (operations.among s vs))) (as_scalar v) (as_array u) (scalar_means m ∙ no_scalar A B x e) w }
 
   pub membership_second : NotCompound y → r ≡ Operateds.WrongKind → Membership A B T C x y r
-  membership_second k w = record { gives = λ top v u m n. second-wrong (λ s vs. ok (operations.bool (operations.among s vs))) (as_scalar v) (as_array u) (no_compound n k) w }
+  membership_second k w = record { gives = λ top v u m n. second_wrong (λ s vs. ok (operations.bool (operations.among s vs))) (as_scalar v) (as_array u) (no_compound n k) w }
 
 module _ (A B T C : Bytes) {x : Handle} {p : Parts} {r : Operated} where
   pub membership_object : is_array p.form ≡ false → r ≡ Operateds.WrongKind → Membership A B T C x (Compound p) r
-  membership_object e w = record { gives = λ top v u m n. second-wrong (λ s vs. ok (operations.bool (operations.among s vs))) (as_scalar v) (as_array u) (no_array n e) w }
+  membership_object e w = record { gives = λ top v u m n. second_wrong (λ s vs. ok (operations.bool (operations.among s vs))) (as_scalar v) (as_array u) (no_array n e) w }
 
   pub membership_both : {b : Bool} → is_scalar x ≡ true → is_array p.form ≡ true → r ≡ Operateds.Value (boolean_handle b) → b ≡ among_parts A B T C x p.count p → Membership A B T C x (Compound p) r
   membership_both e f w g =
@@ -133,7 +133,7 @@ module _ (A B T C : Bytes) {x : Handle} {p : Parts} {r : Operated} where
         gives = λ top v u m n.
             let vs = an_array n f in
             both_right (λ s vs. ok (operations.bool (operations.among s vs))) (as_scalar v) (as_array u) (scalar_means m ∙ s.1) vs.1
-            (gives-bool (operations.among s.0 vs.0)
+            (gives_bool (operations.among s.0 vs.0)
             (same_answer w (g ∙ ap (λ k. among_parts A B T C x k p) (array_count vs.2) ∙ among_parts_lem x vs.0 vs.2 s.1)));
       }
 

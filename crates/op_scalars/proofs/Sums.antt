@@ -21,7 +21,7 @@ use Rattle.op_result.specs.declared.Operated.{Operated}
 use Rattle.op_result.specs.declared.Operated.TheVariants as Operateds
 use Rattle.op_scalars.specs.Contract.{Sum}
 use Rattle.op_scalars.specs.Inner.{Raised}
-use Rattle.op_scalars.proofs.Answers.{first-wrong, second-wrong}
+use Rattle.op_scalars.proofs.Answers.{first_wrong, second_wrong}
 use Rattle.op_scalars.proofs.Operands.{NotInteger, no_integer}
 use Rattle.op_scalars.proofs.Raised.{sum_raised, limits_raised, biased_raised, biased_over}
 
@@ -34,10 +34,10 @@ summed y z = limited (y +ℤ z)
 
 -- ---- an operand of another kind
 pub sum_first : {x y : Handle} {r : Operated} → NotInteger x → r ≡ Operateds.WrongKind → Sum x y r
-sum_first k w = record { gives = λ a top v u m n. first-wrong summed (as_integer v) (as_integer u) (no_integer m k) w }
+sum_first k w = record { gives = λ a top v u m n. first_wrong summed (as_integer v) (as_integer u) (no_integer m k) w }
 
 pub sum_second : {x y : Handle} {r : Operated} → NotInteger y → r ≡ Operateds.WrongKind → Sum x y r
-sum_second k w = record { gives = λ a top v u m n. second-wrong summed (as_integer v) (as_integer u) (no_integer n k) w }
+sum_second k w = record { gives = λ a top v u m n. second_wrong summed (as_integer v) (as_integer u) (no_integer n k) w }
 
 -- ---- two integers
 -- What is shown of the sum by the numbers in their handles, which raise it twice as much, is shown of them.

@@ -28,7 +28,7 @@ use Rattle.op_result.specs.declared.Operated.{Operated}
 use Rattle.op_result.specs.declared.Operated.TheVariants as Operateds
 use Rattle.op_scalars.specs.Contract.{TruthIs, truth_of, Negated}
 use Rattle.op_scalars.specs.Inner.{truthy_unless}
-use Rattle.op_scalars.proofs.Answers.{gives-bool}
+use Rattle.op_scalars.proofs.Answers.{gives_bool}
 
 -- Falsy where a number is none, truthy where it is another.
 falsy_at : (m n : ℕ) → m ≡ n → truth_of (truthy_unless (eqb m n)) ≡ truths.falsy
@@ -113,10 +113,10 @@ negated_is : {x : Handle} {t : Truth} {r : Operated} → TruthIs x t → ((a : A
 negated_is {r = r} k g = record { gives = λ a top v m. subst (λ u. Gives a top (operations.negated u) r) (k.is a top v m) (g a top) }
 
 pub negated_truthy : {x : Handle} {t : Truth} → TruthIs x t → t ≡ Truthy → Negated x (Operateds.Value False)
-negated_truthy k e = negated_is k (λ a top. rw e (gives-bool false refl))
+negated_truthy k e = negated_is k (λ a top. rw e (gives_bool false refl))
 
 pub negated_falsy : {x : Handle} {t : Truth} → TruthIs x t → t ≡ Falsy → Negated x (Operateds.Value True)
-negated_falsy k e = negated_is k (λ a top. rw e (gives-bool true refl))
+negated_falsy k e = negated_is k (λ a top. rw e (gives_bool true refl))
 
 pub negated_neither : {x : Handle} {t : Truth} → TruthIs x t → t ≡ Neither → Negated x Operateds.WrongKind
 negated_neither k e = negated_is k (λ a top. rw e (gives_wrong_kind refl))

@@ -37,9 +37,9 @@ use Rattle.op_uvci.specs.Inner.{fragments_from, numbered, named, Finds, finds_no
 use Rattle.op_uvci.specs.Contract.{Extracts}
 
 -- ---- the index
-pub below-zero : {s : Bytes} {index : ℕ} → index < 9007199254740992 → Finds s (named s index) Absent
+pub below_zero : {s : Bytes} {index : ℕ} → index < 9007199254740992 → Finds s (named s index) Absent
 unfolding unbiased
-below-zero {s} {index} h = rw (unbiased, lt-leb 9007199254740992 index h) (finds_none refl)
+below_zero {s} {index} h = rw (unbiased, lt-leb 9007199254740992 index h) (finds_none refl)
 
 pub from_zero : {s : Bytes} {index : ℕ} {r : Fragment} (from : ℕ) → 9007199254740992 ≤ index → fragments_from s from ≡ numbered s
     → Finds s (nth_string (fragments_from s from) (index - 9007199254740992)) r → Finds s (named s index) r
@@ -53,8 +53,8 @@ inside_take (suc from) n zero l h = absurd (omega arith)
 inside_take (suc from) n (suc size) [] h = refl
 inside_take (suc from) n (suc size) (x ∷ l) h = inside_take from n size l (omega arith)
 
-lies-part : {A s : Bytes} {start size : ℕ} (from n : ℕ) → Lies A start size s → from + n ≤ length s → Lies A (start + from) n (part s from n)
-lies-part {A} {s} {start} {size} from n l h =
+lies_part : {A s : Bytes} {start size : ℕ} (from n : ℕ) → Lies A start size s → from + n ≤ length s → Lies A (start + from) n (part s from n)
+lies_part {A} {s} {start} {size} from n l h =
     let e : length s ≡ size = ap length l.is ∙ length-take-le size (drop start A) (omega (arith, length-drop start A, l.inside)) in
     record {
       is = ap (λ (x : Bytes). part x from n) l.is ∙ (inside_take from n size (drop start A) (omega arith) ∙ ap (take n) (drop-drop from start A));
@@ -64,9 +64,9 @@ lies-part {A} {s} {start} {size} from n l h =
 
 -- ---- a string
 -- The answer, by where its fragment lies.
-abbrev fragmentHandle : Span → Fragment → Operated
-fragmentHandle s Absent = Operateds.Value Null
-fragmentHandle s (At start size) = Operateds.Value (String (span s.area (s.start + start) size))
+abbrev fragment_handle : Span → Fragment → Operated
+fragment_handle s Absent = Operateds.Value Null
+fragment_handle s (At start size) = Operateds.Value (String (span s.area (s.start + start) size))
 
 found_inside : {s : Bytes} {v : Value} {r : Fragment} {start size : ℕ} → Finds s v r → r ≡ At start size → start + size ≤ length s
 found_inside (finds_none e) f = clash cc
@@ -76,9 +76,9 @@ found_inside {s} {start = start} {size = size} (finds_part {start = i} {size = n
     omega arith
 
 -- The place of a fragment in the area.
-pub place-fits : {s : Bytes} {v : Value} {r : Fragment} {start size : ℕ} (A B : Bytes) (x : Span) → Fits w64 (length A) → Fits w64 (length B) → Fits w64 x.start
+pub place_fits : {s : Bytes} {v : Value} {r : Fragment} {start size : ℕ} (A B : Bytes) (x : Span) → Fits w64 (length A) → Fits w64 (length B) → Fits w64 x.start
     → s ≡ span_bytes A B x → Finds s v r → r ≡ At start size → Fits w64 (x.start + start)
-place-fits {start = start} {size = size} A B x a b k e f g = go x.area x.start x.size start size (rw e at (found_inside f g)) k
+place_fits {start = start} {size = size} A B x a b k e f g = go x.area x.start x.size start size (rw e at (found_inside f g)) k
   where
     go : (area : Area) (i n start size : ℕ) → start + size ≤ length (part (area_bytes A B area) i n) → Fits w64 i → Fits w64 (i + start)
     go Rule i n start size h l = omega (arith, length-take n (drop i A), length-drop i A)
@@ -87,16 +87,16 @@ place-fits {start = start} {size = size} A B x a b k e f g = go x.area x.start x
 string_is : {a : Areas} {top : ℕ} {v : Value} {s : Span} → Means a top v (String s) → v ≡ scalar (string (span_bytes a.rule a.strings s))
 string_is (means_string l) = ap (λ (x : Bytes). scalar (string x)) l.is
 
-string-lies : {a : Areas} {top : ℕ} {s : Span} → Means a top (scalar (string (span_bytes a.rule a.strings s))) (String s) → Lies (area_bytes a.rule a.strings s.area) s.start s.size (span_bytes a.rule a.strings s)
-string-lies (means_string l) = l
+string_lies : {a : Areas} {top : ℕ} {s : Span} → Means a top (scalar (string (span_bytes a.rule a.strings s))) (String s) → Lies (area_bytes a.rule a.strings s.area) s.start s.size (span_bytes a.rule a.strings s)
+string_lies (means_string l) = l
 
 found : {a : Areas} {top : ℕ} {v : Value} {r : Operated} (s : Span) (q : Fragment)
     → Lies (area_bytes a.rule a.strings s.area) s.start s.size (span_bytes a.rule a.strings s)
     → Finds (span_bytes a.rule a.strings s) v q
-    → r ≡ fragmentHandle s q
+    → r ≡ fragment_handle s q
     → Gives a top (ok v) r
-found s q l (finds_none e) f = gives_value (f ∙ ap (fragmentHandle s) e) means_null
-found s q l (finds_part {start = start} {size = n} e h) f = gives_value (f ∙ ap (fragmentHandle s) e) (means_string (lies-part start n l h))
+found s q l (finds_none e) f = gives_value (f ∙ ap (fragment_handle s) e) means_null
+found s q l (finds_part {start = start} {size = n} e h) f = gives_value (f ∙ ap (fragment_handle s) e) (means_string (lies_part start n l h))
 
 -- ---- null and other kinds
 null_is : {a : Areas} {top : ℕ} {v : Value} → Means a top v Null → v ≡ scalar null
@@ -107,36 +107,36 @@ record Other (h : Handle) : Type 0 where
   no_null : h ≡ Null → ⊥
   no_string : (s : Span) → h ≡ String s → ⊥
 
-other-is : {a : Areas} {top : ℕ} {v : Value} {h : Handle} (k : ℤ) → Means a top v h → Other h → extract_from_uvci k v ≡ refuse wrong_kind
-other-is k means_null o = absurd (o.no_null refl)
-other-is k means_false o = refl
-other-is k means_true o = refl
-other-is k (means_integer w e) o = refl
-other-is k (means_instant w e) o = refl
-other-is k (means_string l) o = absurd (o.no_string _ refl)
-other-is k (means_items e f r) o = refl
-other-is k (means_members e f r) o = refl
-other-is k (means_list e b r) o = refl
-other-is k (means_context b i m n) o = refl
+other_is : {a : Areas} {top : ℕ} {v : Value} {h : Handle} (k : ℤ) → Means a top v h → Other h → extract_from_uvci k v ≡ refuse wrong_kind
+other_is k means_null o = absurd (o.no_null refl)
+other_is k means_false o = refl
+other_is k means_true o = refl
+other_is k (means_integer w e) o = refl
+other_is k (means_instant w e) o = refl
+other_is k (means_string l) o = absurd (o.no_string _ refl)
+other_is k (means_items e f r) o = refl
+other_is k (means_members e f r) o = refl
+other_is k (means_list e b r) o = refl
+other_is k (means_context b i m n) o = refl
 
 -- ---- all of them
 module _ {A B : Bytes} {index : ℕ} where
   -- p is what was found in the text of the string s.
-  pub extracts-part : {text : Bytes} {p q : Fragment} {r : Operated} (s : Span) → text ≡ span_bytes A B s → Finds text (named text index) p → p ≡ q → r ≡ fragmentHandle s q
+  pub extracts_part : {text : Bytes} {p q : Fragment} {r : Operated} (s : Span) → text ≡ span_bytes A B s → Finds text (named text index) p → p ≡ q → r ≡ fragment_handle s q
       → Extracts A B index (String s) r
-  extracts-part {q = q} s e f g h = record {
+  extracts_part {q = q} s e f g h = record {
     gives = λ R C top k v w i m.
         let n : unbiased index ≡ k = ap unbiased i ∙ unbiased_biased k w in
-        let l = string-lies (rw (string_is m) at m) in
+        let l = string_lies (rw (string_is m) at m) in
         rw (string_is m) (found s q l (rw (e, n, g) at f) h);
   }
 
   module _ {h : Handle} where
-    pub extracts-string : {s : Span} {r : Operated} → h ≡ String s → Extracts A B index (String s) r → Extracts A B index h r
-    extracts-string e x = rw e x
+    pub extracts_string : {s : Span} {r : Operated} → h ≡ String s → Extracts A B index (String s) r → Extracts A B index h r
+    extracts_string e x = rw e x
 
-    pub extracts-null : h ≡ Null → Extracts A B index h (Operateds.Value Null)
-    extracts-null e = record { gives = λ R C top k v w i m. rw (null_is (rw e at m)) (gives_value refl means_null) }
+    pub extracts_null : h ≡ Null → Extracts A B index h (Operateds.Value Null)
+    extracts_null e = record { gives = λ R C top k v w i m. rw (null_is (rw e at m)) (gives_value refl means_null) }
 
-    pub extracts-other : (h ≡ Null → ⊥) → ((s : Span) → h ≡ String s → ⊥) → Extracts A B index h Operateds.WrongKind
-    extracts-other n s = record { gives = λ R C top k v w i m. rw (other-is k m (record { no_null = n; no_string = s })) (gives_wrong_kind refl) }
+    pub extracts_other : (h ≡ Null → ⊥) → ((s : Span) → h ≡ String s → ⊥) → Extracts A B index h Operateds.WrongKind
+    extracts_other n s = record { gives = λ R C top k v w i m. rw (other_is k m (record { no_null = n; no_string = s })) (gives_wrong_kind refl) }
