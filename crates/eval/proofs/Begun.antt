@@ -38,7 +38,7 @@ use Rattle.eval.specs.declared.task.Next.{Next}
 use Rattle.eval.specs.declared.task.Next.TheVariants.{Ends, Asks}
 use Rattle.eval.specs.declared.task.Pending.{Pending}
 use Rattle.eval.specs.declared.task.Task.{Task}
-use Rattle.eval.specs.Inner.{Charged, RowsHold, row_rule, reduced, Asked, Argues, Starts, pending, first_task, first_of, first_argument, literal_handle}
+use Rattle.eval.specs.Inner.{RowsHold, row_rule, reduced, Asked, Argues, Starts, pending, first_task, first_of, first_argument, literal_handle}
 use Rattle.eval.proofs.Arguments.{asks_next}
 use Rattle.eval.proofs.Bounds.{gives_at, stops_at}
 use Rattle.eval.proofs.Rows.{rows_hold}

@@ -1,6 +1,6 @@
 -- Literals: an operand that is a literal has its value by its row, and takes one step.
 use mathlib.Core.Bool.{Bool, true, false, cond}
-use mathlib.Core.Option.{none, some}
+use mathlib.Core.Option.{some}
 use mathlib.Core.Path.{◌≡◌, refl, sym, ap, ◌∙◌}
 use Prim.Native.Nat.{ℕ, zero, suc, ◌+◌, ◌-◌, ◌≤◌, ◌<◌}
 use native.Mathlib.Omega.{arith}
@@ -28,7 +28,6 @@ use Rattle.eval.specs.declared.literal.LiteralValue.{LiteralValue}
 use Rattle.eval.specs.declared.literal.LiteralValue.TheVariants.{NotLiteral, Of}
 use Rattle.eval.specs.declared.task.Frame.TheVariants.{Argument}
 use Rattle.eval.specs.declared.task.Next.{Next}
-use Rattle.eval.specs.declared.task.Next.TheVariants.{Asks}
 use Rattle.eval.specs.declared.task.Pending.{Pending}
 use Rattle.eval.specs.declared.task.Task.{Task}
 use Rattle.eval.specs.Inner.{Room, literal_handle, literal_of, literal_next, one_step, one_begun, Asked, Follows, Argues, Takes, task}

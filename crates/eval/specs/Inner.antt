@@ -3,7 +3,7 @@
 use Rattle.std.specs.Prelude.{cond, ◌≡◌, ℕ, zero, suc, ◌+◌, ◌*◌, ◌-◌, ◌/◌, ◌≤◌, eqb, length}
 use Rattle.model.specs.Bytes.{Bytes}
 use Rattle.model.specs.Eval.{context}
-use Rattle.model.specs.EvalPlain.{Plain, PlainRun, gives, lift, branch, continue, fold, plain_body, plain_all, plain_and, eval_plain, ◌>>=◌}
+use Rattle.model.specs.EvalPlain.{Plain, PlainRun, gives, lift, branch, continue, fold, plain_all, plain_and, eval_plain, ◌>>=◌}
 use Rattle.model.specs.Limits.{heap_cells}
 use Rattle.model.specs.Operations.{operate}
 use Rattle.model.specs.Refusal.{wrong_kind}
