@@ -1,10 +1,16 @@
 #!/usr/bin/env python3
-"""Moves the theorems of model and syntax from specs/ to proofs/: a wrong definition is refused today only by what stands in proofs/.
+"""Moves the theorems of some crates from specs/ to proofs/: a wrong definition is refused today only by what stands in proofs/.
 It ran once, after respell.py (docs/PORT.md). Run it at the top of the repository."""
 import os
 import re
 
-MOVED = {"model": ["Laws", "Main"], "syntax": ["Laws", "Main", "Demand2", "Demand3"]}
+MOVED = {
+    "model": ["Laws", "Main"],
+    "syntax": ["Laws", "Main", "Demand2", "Demand3"],
+    "heap": ["Laws", "Main"],
+    "calendar": ["Laws", "Main"],
+    "instants": ["Laws", "Main"],
+}
 
 
 def texts():
@@ -23,9 +29,12 @@ def main():
         for line in open(f"{specs}/Lib.antt", encoding="utf-8"):
             (head if line.strip() in [f"pub mod {n}" for n in names] else kept).append(line)
         open(f"{specs}/Lib.antt", "w", encoding="utf-8").writelines(kept)
-        with open(f"{proofs}/Lib.antt", "w", encoding="utf-8") as lib:
-            lib.write("-- The theorems: Main and the demands restate what matters most, Laws prove all.\n")
-            lib.writelines(head)
+        if head:
+            new = not os.path.exists(f"{proofs}/Lib.antt")
+            with open(f"{proofs}/Lib.antt", "a", encoding="utf-8") as lib:
+                if new:
+                    lib.write("-- The theorems: Main and the demands restate what matters most, Laws prove all.\n")
+                lib.writelines(head)
         for name in names:
             for end in ("", ".antt"):
                 if os.path.exists(f"{specs}/{name}{end}"):

@@ -18,7 +18,7 @@ use Rattle.model.proofs.Laws.Logic.{and_l, true→t, T→true}
 use Rattle.model.specs.Refusal.{bad_date, out_of_range}
 use Rattle.model.specs.Result.{ok, refuse}
 use Rattle.model.specs.declared.Date.{Date}
-use Rattle.calendar.specs.Laws.Instant.{from_late}
+use Rattle.calendar.proofs.Laws.Instant.{from_late}
 
 -- ---- the range
 pub early : (t : ℤ) → lt_z t earliest ≡ true → ranged t ≡ refuse out_of_range

@@ -1,4 +1,2 @@
 -- The calendar's answers in the terms of the model, and the theorems in plain terms.
 pub mod Contract
-pub mod Main
-pub mod Laws

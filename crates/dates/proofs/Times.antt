@@ -16,7 +16,7 @@ use Rattle.model.specs.Refusal.{bad_date, out_of_range, Fault}
 use Rattle.model.specs.Result.{Result, ok, refuse, provided}
 use Rattle.model.specs.declared.Date.{Date}
 use Rattle.calendar.specs.Contract.{date_result}
-use Rattle.calendar.specs.Laws.Instant.{since_from}
+use Rattle.calendar.proofs.Laws.Instant.{since_from}
 use Rattle.calendar.specs.declared.instant.DateAnswer.{DateAnswer}
 use Rattle.calendar.specs.declared.instant.Instant.{Instant}
 use Rattle.calendar.specs.declared.instant.DateAnswer.TheVariants.{At, BadDate, OutOfRange}

@@ -7,7 +7,7 @@ use Rattle.model.specs.DateText.{to_utc, zoned}
 use Rattle.model.specs.Instant.{from_year0, ranged}
 use Rattle.model.specs.Refusal.{bad_date, out_of_range}
 use Rattle.model.specs.Result.{Result, refuse, ◌>>=◌, required}
-use Rattle.calendar.specs.Laws.Instant.{moved_on, moved_back, moved_out}
+use Rattle.calendar.proofs.Laws.Instant.{moved_on, moved_back, moved_out}
 use Rattle.dates.specs.Inner.{correction}
 use Rattle.dates.specs.declared.offset.Offset.{Offset}
 use Rattle.dates.specs.declared.offset.Offset.TheVariants.{On, Back, Bad}

@@ -1,3 +1,5 @@
 -- Laws that the proofs of this crate cite.
 pub mod Shifts
 pub mod Texts
+pub mod Main
+pub mod Laws

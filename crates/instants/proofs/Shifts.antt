@@ -24,8 +24,8 @@ use Rattle.model.specs.declared.TimeUnit.{TimeUnit}
 use Rattle.model.specs.declared.TimeUnit.TheVariants.{Year, Month, Day, Hour}
 use Rattle.calendar.specs.Contract.{shifted}
 use Rattle.instants.specs.Inner.{amount_of, in_month, month_of}
-use Rattle.calendar.specs.Laws.Instant.{from_late, minus, minus_below, moved_back, moved_on, moved_out}
-use Rattle.instants.specs.Laws.Shift.{in_month_lem}
+use Rattle.calendar.proofs.Laws.Instant.{from_late, minus, minus_below, moved_back, moved_on, moved_out}
+use Rattle.instants.proofs.Laws.Shift.{in_month_lem}
 use Rattle.instants.specs.declared.shift.Move.{Move}
 use Rattle.instants.specs.declared.shift.Move.TheVariants.{On, Back}
 

@@ -13,7 +13,7 @@ use Rattle.model.specs.Limits.{max_integer}
 use Rattle.model.specs.Value.{within_limits}
 use Rattle.model.proofs.Laws.Logic.{and_l}
 use Rattle.syntax.specs.Layout.{biased}
-use Rattle.calendar.specs.Laws.Instant.{minus, minus_below}
+use Rattle.calendar.proofs.Laws.Instant.{minus, minus_below}
 use Rattle.op_dates.specs.Inner.{Unbiased}
 
 -- A number below 2^54, as the machine reads it.

@@ -19,7 +19,7 @@ use Rattle.model.proofs.Laws.Logic.{clash}
 use Rattle.model.proofs.Laws.Shift.{shift_in_range}
 use Rattle.model.specs.declared.TimeUnit.{TimeUnit}
 use Rattle.calendar.specs.Contract.{instant_result, date_result, shifted}
-use Rattle.calendar.specs.Laws.Answer.{own_in}
+use Rattle.calendar.proofs.Laws.Answer.{own_in}
 use Rattle.calendar.specs.declared.instant.DateAnswer.{DateAnswer}
 use Rattle.calendar.specs.declared.instant.DateAnswer.TheVariants as Dated
 use Rattle.calendar.specs.declared.instant.Instant.{Instant}

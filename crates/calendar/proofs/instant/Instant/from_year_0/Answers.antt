@@ -4,7 +4,7 @@ use mir.Facts.{to_z-of_z, to_z_pos}
 use mir.Syntax.{w64}
 use Rattle.model.specs.Instant.{from_year0}
 use Rattle.model.proofs.Laws.DateText.{from_in_range, ranged_ok}
-use Rattle.calendar.specs.Laws.Instant.{from_late}
+use Rattle.calendar.proofs.Laws.Instant.{from_late}
 use Rattle.calendar.proofs.Instants.{from_fits}
 use Rattle.calendar.proofs.instant.Instant.from_year_0.Goals as goal
 

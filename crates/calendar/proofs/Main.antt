@@ -18,7 +18,7 @@ use Rattle.model.proofs.Laws.DayCount as DayCountLaws
 use Rattle.model.proofs.Laws.DayCount.{days_after, earlier}
 use Rattle.model.proofs.Laws.InstantText as InstantTextLaws
 use Rattle.calendar.specs.Contract.{date_number, date_result, instant_number, instant_result, shifted}
-use Rattle.calendar.specs.Laws.Answer as AnswerLaws
+use Rattle.calendar.proofs.Laws.Answer as AnswerLaws
 use Rattle.calendar.specs.declared.instant.DateAnswer.{DateAnswer}
 use Rattle.calendar.specs.declared.instant.Instant.{Instant}
 use Rattle.calendar.specs.declared.instant.InstantAnswer.{InstantAnswer}

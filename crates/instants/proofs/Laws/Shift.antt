@@ -19,8 +19,8 @@ use Rattle.model.specs.declared.TimeUnit.TheVariants.{Year, Month}
 use Rattle.model.proofs.Laws.Logic.{clash}
 use Rattle.calendar.specs.Contract.{shifted}
 use Rattle.instants.specs.Inner.{in_month, month_of}
-use Rattle.calendar.specs.Laws.Answer.{own_in, year_months}
-use Rattle.calendar.specs.Laws.Instant.{from_early, from_late, minus, minus_below, since_from}
+use Rattle.calendar.proofs.Laws.Answer.{own_in, year_months}
+use Rattle.calendar.proofs.Laws.Instant.{from_early, from_late, minus, minus_below, since_from}
 
 -- ---- the first of a month
 no_months : month_start 0 ≡ 0

@@ -9,8 +9,8 @@ use Rattle.model.specs.Result.{refuse}
 use Rattle.model.specs.declared.TimeUnit.TheVariants.{Year, Month}
 use Rattle.model.proofs.Laws.Shift.{date_of}
 use Rattle.calendar.specs.Contract.{shifted}
-use Rattle.instants.specs.Laws.Shift as ShiftLaws
-use Rattle.instants.specs.Laws.Shift.{Lands, month_to}
+use Rattle.instants.proofs.Laws.Shift as ShiftLaws
+use Rattle.instants.proofs.Laws.Shift.{Lands, month_to}
 
 -- "Year and month shifts keep the day number", which is the day of the month,
 pub month_kept :
