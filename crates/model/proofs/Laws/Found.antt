@@ -72,7 +72,7 @@ sheet_some (object ms) s e = all_some Lists (entries_some ms) (when_some (leb (m
 literal_some : (l : Literal) → Some (literal_types l)
 literal_some (Literal.boolean b) = tt
 literal_some (Literal.integer z) = tt
-literal_some (Literal.string s) = some_cond (is_day s) _ _ tt (some_cond (is_date s) (Ty.Date ∷ []) (Ty.String ∷ []) tt tt)
+literal_some (Literal.string s) = some_cond (is_day s) _ _ tt (some_cond (is_date s) _ _ tt tt)
 
 given_some : (o : Operation) (l : List Types) → Some (given o l)
 given_some Operation.array l = some_cond (every_operand (Ty.Integer ∷ []) l) _ _ tt (some_cond (every_operand (Ty.String ∷ []) l) (Ty.Strings ∷ []) (Ty.Array ∷ []) tt tt)

@@ -246,15 +246,21 @@ items_sound ts (instant t) h k = absurd k
 items_sound ts (array vs) h k = items_types_sound ts vs h
 items_sound ts (object ms) h k = absurd k
 
+has_cond : (v : Value) (b : Bool) (ts us : Types) → (T b → Has ts v) → Has us v → Has (cond b ts us) v
+has_cond v true ts us f h = f tt
+has_cond v false ts us f h = h
+
+-- The types are met apart from the texts' tests, which so are compared with nothing but themselves.
 literal_sound : (l : Literal) → Has (literal_types l) (literal_value l)
 literal_sound (Literal.boolean b) = tt
 literal_sound (Literal.integer z) = tt
-literal_sound (Literal.string s) = go (is_day s) (is_date s) (λ h. h) (λ h. h)
+literal_sound (Literal.string s) = has_cond (scalar (string s)) (is_day s) _ _ (day _ refl) (has_cond (scalar (string s)) (is_date s) _ _ (date _ refl) tt)
   where
-    go : (a b : Bool) → (T a → T (is_day s)) → (T b → T (is_date s)) → Has (cond a (Ty.Day ∷ []) (cond b (Ty.Date ∷ []) (Ty.String ∷ []))) (scalar (string s))
-    go true b f g = or_l (is_day s) false (f tt)
-    go false true f g = or_l (is_date s) false (g tt)
-    go false false f g = tt
+    day : (ts : Types) → Ty.Day ∷ [] ≡ ts → T (is_day s) → Has ts (scalar (string s))
+    day ts e h = subst (λ us. Has us (scalar (string s))) e (or_l (is_day s) false h)
+
+    date : (ts : Types) → Ty.Date ∷ [] ≡ ts → T (is_date s) → Has ts (scalar (string s))
+    date ts e h = subst (λ us. Has us (scalar (string s))) e (or_l (is_date s) false h)
 
 -- ---- the induction
 -- A rule's own step.
