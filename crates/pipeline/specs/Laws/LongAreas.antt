@@ -11,7 +11,7 @@ use Rattle.pipeline.specs.declared.check.Checked.{Checked}
 use Rattle.pipeline.specs.declared.fit.Fitted.{Fitted}
 use Rattle.pipeline.specs.Areas.{TextAreas, is_short, left_by, tidied, HoldsIndexed, HoldsMarked}
 use Rattle.pipeline.specs.Contract.{stop_of, lent, left_in, tidied_in, Reads, ReadsRule, ReadsSheet, left_after, words_of, check_in, ChecksTexts, fit_of, fits_in, FitsTexts}
-use Rattle.pipeline.specs.Stage.{Stage, passed, refused, ◌>>=◌, rule_text, sheet_text, record_text, read_as}
+use Rattle.pipeline.specs.Stage.{Stage, passed, refused, ◌>>=◌, rule_text, sheet_text, read_as}
 use Rattle.pipeline.specs.Texts.{TextRead, rule_stage, sheet_stage, TextsChecked, check_stage, fits_stage}
 
 pub record Long (a : TextAreas) : Type 0 where

@@ -1,5 +1,5 @@
 -- Tidied: areas once the work room behind the table's rows is cleared.
-use Rattle.std.specs.Prelude.{◌++◌, ◌≡◌, refl, ℕ, zero, suc, ◌*◌, ◌-◌, length, take, drop, replicate}
+use Rattle.std.specs.Prelude.{◌++◌, ◌≡◌, ℕ, zero, suc, ◌*◌, ◌-◌, length, take, drop, replicate}
 use Rattle.std.proofs.Common.{sym, ap, ◌∙◌, arith, take-append-drop}
 use Rattle.std.proofs.lemmas.List.{length-replicate}
 use Rattle.area.specs.Words.{zero_from}

@@ -1,12 +1,9 @@
 use borrow.Author.Tests.{eq-eqb, ne_eqb}
 use mathlib.Core.Path.{◌∙◌}
-use borrow.Author.Rules.{rules}
 use Rattle.pipeline.proofs.text.told.Goals as goal
 
--- src/text.rt:46:9
 pub returns-then-a-eq0 : goal.returns-then-a-eq0
 returns-then-a-eq0 c = c.numbered.ensures ∙ rw (eq-eqb _ _ c.if-a-eq0.true)
 
--- src/text.rt:42:1
 pub returns : goal.returns
 returns c = rw (ne_eqb _ _ c.if-a-eq0.false)
