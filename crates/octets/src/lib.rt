@@ -42,6 +42,7 @@ fn same_eights(a: &[u8], b: &[u8]) -> usize
 }
 
 // 01, Reading: "Names and strings are equal when their decoded UTF-8 bytes are."
+#[tactic(auto, using(crate::proofs::Bytewise::unequal_lengths))]
 pub fn same(a: &[u8], b: &[u8]) -> bool
     ensures { result ≡ same_bytes a.now b.now }
 {

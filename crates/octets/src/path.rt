@@ -24,6 +24,7 @@ fn has_fragments(text: &[u8]) -> bool
 }
 
 // "empty, or non-empty fragments parted by dots"
+#[tactic(auto, using(crate::proofs::Paths::no_path, crate::proofs::Paths::path_fragments))]
 pub fn is_path(text: &[u8]) -> bool
     ensures { result ≡ is_some (path_of text.now) }
 {
@@ -48,6 +49,7 @@ fn is_one_of(x: u8, bytes: &[u8]) -> bool
 }
 
 // Where the fragment that begins at `at` ends: at a separator, or with the text.
+#[tactic(auto, using(crate::proofs::Fragments::length_stops, crate::proofs::Fragments::length_on, crate::proofs::Fragments::length_ends))]
 pub fn fragment_end(text: &[u8], at: usize, separators: &[u8]) -> usize
     ensures { result ≡ at + fragment_length separators.now (drop at text.now) }
 {

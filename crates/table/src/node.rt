@@ -69,6 +69,7 @@ pub fn node_at(table: &[u8], row: usize) -> Node
 }
 
 // The row after a value and all that it holds; the row itself where the table has no such row.
+#[tactic(auto, unfolding(crate::specs::Node::next_row, crate::specs::Row::row_at, syntax::specs::Layout::row_bytes))]
 pub fn next_row(table: &[u8], row: usize) -> usize
     ensures { result ≡ next_row table.now row }
 {

@@ -1,17 +1,11 @@
 use mathlib.Core.Path.{sym, ◌∙◌}
 use native.Mathlib.Omega.{arith}
 use borrow.Author.Tests.{eq-eqb, ne_eqb}
-use Rattle.octets.proofs.Bytewise.{unequal_lengths, same_on, same_end}
+use Rattle.octets.proofs.Bytewise.{same_on, same_end}
 use Rattle.octets.proofs.same.Goals as goal
 
-pub returns-then-a-b : goal.returns-then-a-b
-returns-then-a-b c = sym (unequal_lengths c.args.a.now c.args.b.now c.if-a-b.true)
-
-pub same_eights-i-requires : goal.same_eights-i-requires
-same_eights-i-requires c = c.if-a-b.false
-
 pub loop-i-init : goal.loop-i-init
-loop-i-init c = (c.same_eights-i.ensures.inside, c.if-a-b.false, c.same_eights-i.ensures.is)
+loop-i-init c = (c.same_eights-i.ensures.inside, omega arith, c.same_eights-i.ensures.is)
 
 pub returns-then-a-i : goal.returns-then-a-i
 returns-then-a-i c =
