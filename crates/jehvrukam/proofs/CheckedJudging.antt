@@ -1,6 +1,5 @@
 -- CheckedJudging: the stages of evaluation under a sheet, one after the other.
 use mathlib.Core.Bool.{Bool}
-use mathlib.Core.List.{[]}
 use mathlib.Core.Path.{◌≡◌, refl, sym, ap, ◌∙◌}
 use Prim.Native.Nat.{ℕ}
 use lib.ListN.{length, replicate}

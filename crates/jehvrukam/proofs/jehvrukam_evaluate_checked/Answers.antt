@@ -1,0 +1,123 @@
+use mathlib.Core.Path.{sym, ◌∙◌, refl}
+use Rattle.jehvrukam.proofs.Entries.{checked_cannot, checked_rule_short, checked_sheet_short, checked_record_short, evaluated_checked}
+use Rattle.jehvrukam.proofs.jehvrukam_evaluate_checked.Goals as goal
+
+-- src/lib.rt:192:9
+pub shape_of-cells-then-cannot_run : goal.shape_of-cells-then-cannot_run
+shape_of-cells-then-cannot_run c = refl
+
+-- src/lib.rt:192:9
+pub returns-then-cannot_run : goal.returns-then-cannot_run
+returns-then-cannot_run c = checked_cannot _ _ _ c.args.limit _ _ _ _ _ _ _ _ _ (sym c.cannot_run.ensures ∙ c.if-cannot_run.true)
+
+-- src/lib.rt:195:9
+pub shape_of-rule_table-then-is_short : goal.shape_of-rule_table-then-is_short
+shape_of-rule_table-then-is_short c = refl
+
+-- src/lib.rt:195:9
+pub shape_of-rule_strings-then-is_short : goal.shape_of-rule_strings-then-is_short
+shape_of-rule_strings-then-is_short c = refl
+
+-- src/lib.rt:195:9
+pub shape_of-cells-then-is_short : goal.shape_of-cells-then-is_short
+shape_of-cells-then-is_short c = refl
+
+-- src/lib.rt:195:9
+pub returns-then-is_short : goal.returns-then-is_short
+returns-then-is_short c = checked_rule_short _ _ _ c.args.limit _ _ _ _ _ _ _ _ _ (sym c.cannot_run.ensures ∙ c.if-cannot_run.false) (sym c.is_short.ensures ∙ c.if-is_short.true)
+
+-- src/lib.rt:198:9
+pub shape_of-rule_table-then-is_short-2 : goal.shape_of-rule_table-then-is_short-2
+shape_of-rule_table-then-is_short-2 c = refl
+
+-- src/lib.rt:198:9
+pub shape_of-rule_strings-then-is_short-2 : goal.shape_of-rule_strings-then-is_short-2
+shape_of-rule_strings-then-is_short-2 c = refl
+
+-- src/lib.rt:198:9
+pub shape_of-sheet_table-then-is_short-2 : goal.shape_of-sheet_table-then-is_short-2
+shape_of-sheet_table-then-is_short-2 c = refl
+
+-- src/lib.rt:198:9
+pub shape_of-sheet_strings-then-is_short-2 : goal.shape_of-sheet_strings-then-is_short-2
+shape_of-sheet_strings-then-is_short-2 c = refl
+
+-- src/lib.rt:198:9
+pub shape_of-cells-then-is_short-2 : goal.shape_of-cells-then-is_short-2
+shape_of-cells-then-is_short-2 c = refl
+
+-- src/lib.rt:198:9
+pub returns-then-is_short-2 : goal.returns-then-is_short-2
+returns-then-is_short-2 c = checked_sheet_short _ _ _ c.args.limit _ _ _ _ _ _ _ _ _ (sym c.cannot_run.ensures ∙ c.if-cannot_run.false) (sym c.is_short.ensures ∙ c.if-is_short.false) (sym c.is_short-2.ensures ∙ c.if-is_short-2.true)
+
+-- src/lib.rt:201:9
+pub shape_of-rule_table-then-is_short-3 : goal.shape_of-rule_table-then-is_short-3
+shape_of-rule_table-then-is_short-3 c = refl
+
+-- src/lib.rt:201:9
+pub shape_of-rule_strings-then-is_short-3 : goal.shape_of-rule_strings-then-is_short-3
+shape_of-rule_strings-then-is_short-3 c = refl
+
+-- src/lib.rt:201:9
+pub shape_of-sheet_table-then-is_short-3 : goal.shape_of-sheet_table-then-is_short-3
+shape_of-sheet_table-then-is_short-3 c = refl
+
+-- src/lib.rt:201:9
+pub shape_of-sheet_strings-then-is_short-3 : goal.shape_of-sheet_strings-then-is_short-3
+shape_of-sheet_strings-then-is_short-3 c = refl
+
+-- src/lib.rt:201:9
+pub shape_of-record_table-then-is_short-3 : goal.shape_of-record_table-then-is_short-3
+shape_of-record_table-then-is_short-3 c = refl
+
+-- src/lib.rt:201:9
+pub shape_of-record_strings-then-is_short-3 : goal.shape_of-record_strings-then-is_short-3
+shape_of-record_strings-then-is_short-3 c = refl
+
+-- src/lib.rt:201:9
+pub shape_of-cells-then-is_short-3 : goal.shape_of-cells-then-is_short-3
+shape_of-cells-then-is_short-3 c = refl
+
+-- src/lib.rt:201:9
+pub returns-then-is_short-3 : goal.returns-then-is_short-3
+returns-then-is_short-3 c = checked_record_short _ _ _ c.args.limit _ _ _ _ _ _ _ _ _ (sym c.cannot_run.ensures ∙ c.if-cannot_run.false) (sym c.is_short.ensures ∙ c.if-is_short.false) (sym c.is_short-2.ensures ∙ c.if-is_short-2.false) (sym c.is_short-3.ensures ∙ c.if-is_short-3.true)
+
+-- src/lib.rt:203:9
+pub judge-o-requires : goal.judge-o-requires
+judge-o-requires c = (record { long = (sym c.is_short.ensures ∙ c.if-is_short.false) }, record { long = (sym c.is_short-2.ensures ∙ c.if-is_short-2.false) }, record { long = (sym c.is_short-3.ensures ∙ c.if-is_short-3.false) }, record { runs = (sym c.cannot_run.ensures ∙ c.if-cannot_run.false) })
+
+-- src/lib.rt:168:1
+pub shape_of-rule_table : goal.shape_of-rule_table
+shape_of-rule_table c = c.settle_text.auto.table ∙ c.judge-o.auto.rule_table
+
+-- src/lib.rt:168:1
+pub shape_of-rule_strings : goal.shape_of-rule_strings
+shape_of-rule_strings c = c.settle_text.auto.strings ∙ c.judge-o.auto.rule_strings
+
+-- src/lib.rt:168:1
+pub shape_of-sheet_table : goal.shape_of-sheet_table
+shape_of-sheet_table c = c.settle_text-2.auto.table ∙ c.judge-o.auto.sheet_table
+
+-- src/lib.rt:168:1
+pub shape_of-sheet_strings : goal.shape_of-sheet_strings
+shape_of-sheet_strings c = c.settle_text-2.auto.strings ∙ c.judge-o.auto.sheet_strings
+
+-- src/lib.rt:168:1
+pub shape_of-record_table : goal.shape_of-record_table
+shape_of-record_table c = c.settle_text-3.auto.table ∙ c.judge-o.auto.record_table
+
+-- src/lib.rt:168:1
+pub shape_of-record_strings : goal.shape_of-record_strings
+shape_of-record_strings c = c.settle_text-3.auto.strings ∙ c.judge-o.auto.record_strings
+
+-- src/lib.rt:168:1
+pub shape_of-cells : goal.shape_of-cells
+shape_of-cells c = c.settle_work.auto.cells ∙ c.judge-o.auto.cells
+
+-- src/lib.rt:168:1
+pub shape_of-output : goal.shape_of-output
+shape_of-output c = c.settle_work.auto.output ∙ c.judge-o.auto.output
+
+-- src/lib.rt:168:1
+pub returns : goal.returns
+returns c = evaluated_checked _ _ _ c.args.limit _ _ _ _ _ _ _ _ _ (sym c.cannot_run.ensures ∙ c.if-cannot_run.false) (sym c.is_short.ensures ∙ c.if-is_short.false) (sym c.is_short-2.ensures ∙ c.if-is_short-2.false) (sym c.is_short-3.ensures ∙ c.if-is_short-3.false) c.judge-o.result c.judge-o.ensures c.settle_text.ensures c.settle_text-2.ensures c.settle_text-3.ensures c.settle_work.ensures c.yes_or_no.ensures
