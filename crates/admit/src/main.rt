@@ -4,12 +4,11 @@
 #![tactic(auto)]
 
 ghost use Rattle.std.specs.Prelude.{◌≡◌, ◌+◌, ◌≤◌, length};
-ghost use Rattle.io.specs.Counts.{IsPrefixLen};
 ghost use Rattle.model.specs.Writing.{decimal};
 ghost use Rattle.print.specs.Contract.{Put};
 ghost use Rattle.admit.specs.Limits.{step_limit, output_bytes};
 ghost use Rattle.admit.specs.Printed.{answer_to, line, printed_for};
-ghost use Rattle.admit.specs.Inner.{Answers, result_by, Near, Begins};
+ghost use Rattle.admit.specs.Inner.{Answers, result_by, Near, Begins, Counts};
 
 use heap::cell::CELL_BYTES;
 use jehvrukam::jehvrukam_evaluate;
@@ -158,7 +157,7 @@ fn report(rule: &[u8], record: &[u8], out: &mut [u8]) -> usize
 
 // Reads until the buffer is full, the input ends or a read fails; how many bytes were put at the start of the buffer.
 fn read_full(reader: &mut impl Read, buffer: &mut [u8]) -> usize
-    ensures { IsPrefixLen result buffer.new }
+    ensures { Counts result buffer.new }
 {
     let mut done: usize = 0;
     while done < buffer.len() {
@@ -173,7 +172,7 @@ fn read_full(reader: &mut impl Read, buffer: &mut [u8]) -> usize
 
 // The first bytes of a file, as many as the buffer takes; a missing file counts as empty.
 fn read_file(rt: &impl Files, path: &str, buffer: &mut [u8]) -> usize
-    ensures { IsPrefixLen result buffer.new }
+    ensures { Counts result buffer.new }
 {
     match fs::open(rt, path) {
         Ok(mut file) => read_full(&mut file, buffer),

@@ -3,7 +3,6 @@
 #![tactic(auto)]
 
 ghost use Rattle.std.specs.Prelude.{◌≤◌, length};
-ghost use Rattle.io.specs.Counts.{IsPrefixLen};
 ghost use Rattle.test_dates.specs.Inner.{number_of};
 
 use calendar::instant::{DateAnswer, Instant, InstantAnswer, dated};
@@ -374,7 +373,7 @@ fn take_lines(rt: &impl Print, text: &[u8]) -> io::Result<Tally> {
 
 // Reads until the buffer is full, the input ends or a read fails; how many bytes were put at the start of the buffer.
 fn read_full(reader: &mut impl Read, buffer: &mut [u8]) -> usize
-    ensures { IsPrefixLen result buffer.new }
+    ensures { result ≤ length buffer.new }
 {
     let mut done: usize = 0;
     while done < buffer.len() {

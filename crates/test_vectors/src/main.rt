@@ -5,11 +5,10 @@
 #![tactic(auto)]
 
 ghost use Rattle.std.specs.Prelude.{◌≡◌, true, ◌+◌, ◌*◌, ◌≤◌, ◌<◌, length};
-ghost use Rattle.io.specs.Counts.{IsPrefixLen};
 ghost use Rattle.model.specs.Bytes.{digit_value};
 ghost use Rattle.jehvrukam.specs.Evaluate.{evaluate_entry};
 ghost use Rattle.test_vectors.specs.Cases.{takes_digit, number_at, header_at, is_whole, lent, untold, is_expected, is_text, agrees_in, agrees_on, counted, tally_of};
-ghost use Rattle.test_vectors.specs.Inner.{Past, Gives, Ran, Few};
+ghost use Rattle.test_vectors.specs.Inner.{Past, Gives, Ran, Few, Counts};
 
 use octets::same;
 use heap::cell::CELL_BYTES;
@@ -368,7 +367,7 @@ fn take_cases(rt: &impl Print, text: &[u8]) -> Tally
 
 // Reads until the buffer is full, the input ends or a read fails; how many bytes were put at the start of the buffer.
 fn read_full(reader: &mut impl Read, buffer: &mut [u8]) -> usize
-    ensures { IsPrefixLen result buffer.new }
+    ensures { Counts result buffer.new }
 {
     let mut done: usize = 0;
     while done < buffer.len() {
@@ -383,7 +382,7 @@ fn read_full(reader: &mut impl Read, buffer: &mut [u8]) -> usize
 
 // The first bytes of a file, as many as the buffer takes; a missing file counts as empty.
 fn read_file(rt: &impl Files, path: &str, buffer: &mut [u8]) -> usize
-    ensures { IsPrefixLen result buffer.new }
+    ensures { Counts result buffer.new }
 {
     match fs::open(rt, path) {
         Ok(mut file) => read_full(&mut file, buffer),
