@@ -10,10 +10,10 @@ ghost use Rattle.jehvrukam.specs.Evaluate.{evaluate_entry};
 ghost use Rattle.test_vectors.specs.Cases.{takes_digit, number_at, header_at, is_whole, lent, untold, is_expected, is_text, agrees_in, agrees_on, counted, tally_of};
 ghost use Rattle.test_vectors.specs.Inner.{Past, Gives, Ran, Few, Counts};
 
-use octets::same;
 use heap::cell::CELL_BYTES;
 use jehvrukam::jehvrukam_evaluate;
 use model::{HEAP_CELLS, MAX_TEXT_BYTES};
+use octets::same;
 use std::io::Read;
 use std::rt::Files;
 use std::{fs, io};
