@@ -1,22 +1,23 @@
 // The program of document 01: evaluates rule.json on record.json, both of the folder that it is run in, and prints the
-// answer or the refusal, and the steps. No contract can say what is read or printed: the C library does both. What lies
-// between is promised: `report` makes, of the bytes of the files, the bytes that are printed (`printedFor`).
+// answer or the refusal, and the steps. No contract can say what is read or printed: the system does both. What lies
+// between is promised: `report` makes, of the bytes of the files, the bytes that are printed (`printed_for`).
 #![tactic(auto)]
 
 ghost use Rattle.std.specs.Prelude.{◌≡◌, ◌+◌, ◌≤◌, length};
-ghost use Rattle.io.specs.Counts.{IsPrefixLen};
 ghost use Rattle.model.specs.Writing.{decimal};
 ghost use Rattle.print.specs.Contract.{Put};
 ghost use Rattle.admit.specs.Limits.{step_limit, output_bytes};
 ghost use Rattle.admit.specs.Printed.{answer_to, line, printed_for};
-ghost use Rattle.admit.specs.Inner.{Answers, result_by, Near, Begins};
+ghost use Rattle.admit.specs.Inner.{Answers, result_by, Near, Begins, Counts};
 
 use heap::cell::CELL_BYTES;
 use jehvrukam::jehvrukam_evaluate;
-use libc::STDOUT_FILENO;
 use model::{HEAP_CELLS, MAX_TEXT_BYTES};
 use print::decimal::put_decimal;
 use print::put::{put_byte, put_bytes};
+use std::io::Read;
+use std::rt::Files;
+use std::{fs, io};
 use syntax::{STRINGS_BYTES, TABLE_BYTES};
 
 // The program's own limits, as specs/Limits.antt has them: they stay where the model's are raised.
@@ -33,7 +34,7 @@ const CELLS_BYTES: usize = HEAP_CELLS * CELL_BYTES;
 const REPORT_BYTES: usize = OUTPUT_BYTES + 64;
 
 // A refusal's number, or 0; the steps; the length of the answer's text.
-#[derive(Clone, Copy)]
+#[derive(Drop)]
 struct Outcome {
     refusal: u32,
     steps: u64,
@@ -154,32 +155,49 @@ fn report(rule: &[u8], record: &[u8], out: &mut [u8]) -> usize
 
 // ---- files
 
-// The first bytes of a file, as many as the buffer takes; a missing file counts as empty.
-fn read_file(path: &[u8], buffer: &mut [u8]) -> usize
-    ensures { IsPrefixLen result buffer.new }
+// Reads until the buffer is full, the input ends or a read fails; how many bytes were put at the start of the buffer.
+fn read_full(reader: &mut impl Read, buffer: &mut [u8]) -> usize
+    ensures { Counts result buffer.new }
 {
-    let fd = os::open_read(path);
-    if fd < 0 {
-        return 0;
+    let mut done: usize = 0;
+    while done < buffer.len() {
+        match reader.read(&mut buffer[done..]) {
+            Ok(0) => return done,
+            Ok(n) => done += n,
+            Err(_) => return done,
+        }
     }
-    let n = io::read_full(fd, buffer);
-    libc::close(fd);
-    n
+    done
+}
+
+// The first bytes of a file, as many as the buffer takes; a missing file counts as empty.
+fn read_file(rt: &impl Files, path: &str, buffer: &mut [u8]) -> usize
+    ensures { Counts result buffer.new }
+{
+    match fs::open(rt, path) {
+        Ok(mut file) => read_full(&mut file, buffer),
+        Err(_) => 0,
+    }
 }
 
 // Reads into two buffers, and prints what a third takes.
-fn run(rule: &mut [u8], record: &mut [u8], out: &mut [u8])
+fn run(
+    rt: &(impl Files + Print),
+    rule: &mut [u8],
+    record: &mut [u8],
+    out: &mut [u8],
+) -> io::Result<()>
     requires { length out.old ≡ output_bytes + 64 }
 {
-    let rule_size = read_file(b"rule.json", rule);
-    let record_size = read_file(b"record.json", record);
+    let rule_size = read_file(rt, "rule.json", rule);
+    let record_size = read_file(rt, "record.json", record);
     let size = report(&rule[..rule_size], &record[..record_size], out);
-    io::write_all(STDOUT_FILENO, &out[..size]);
+    rt.write_all(&out[..size])
 }
 
-fn main() {
+fn main(rt: HostRuntime) -> io::Result<()> {
     let mut rule = [0u8; FILE_BYTES];
     let mut record = [0u8; FILE_BYTES];
     let mut out = [0u8; REPORT_BYTES];
-    run(&mut rule, &mut record, &mut out);
+    run(&rt, &mut rule, &mut record, &mut out)
 }

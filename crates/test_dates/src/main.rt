@@ -2,17 +2,16 @@
 // Prints each line that differs, then how many of each kind agree and differ.
 #![tactic(auto)]
 
-ghost use Rattle.std.specs.Prelude.{◌≤◌, length};
+ghost use Rattle.std.specs.Prelude.{◌≡◌, ◌≤◌, length};
 ghost use Rattle.test_dates.specs.Inner.{number_of};
 
 use calendar::instant::{DateAnswer, Instant, InstantAnswer, dated};
-use check::same;
 use dates::{read_date, read_day};
 use instants::shift::shift;
 use instants::text::InstantText;
-use libc::{STDIN_FILENO, STDOUT_FILENO};
 use model::TimeUnit;
-use std::num::wrapping_add_u64;
+use std::io;
+use std::io::Read;
 
 // The most bytes that are read.
 const ROOM: usize = 524288;
@@ -169,6 +168,10 @@ fn is_number(text: &[u8], n: i64) -> bool {
 
 // ---- vectors: whether the crates answer what the fields say
 
+fn same(a: &[u8], b: &[u8]) -> bool {
+    a == b
+}
+
 fn kind_of(line: &[u8]) -> Kind {
     let name = first(line);
     if same(name, b"date") {
@@ -280,13 +283,13 @@ impl Count {
     fn counted(self, agrees: bool) -> Count {
         if agrees {
             return Count {
-                agree: wrapping_add_u64(self.agree, 1),
+                agree: self.agree.wrapping_add(1),
                 differ: self.differ,
             };
         }
         Count {
             agree: self.agree,
-            differ: wrapping_add_u64(self.differ, 1),
+            differ: self.differ.wrapping_add(1),
         }
     }
 }
@@ -329,49 +332,70 @@ impl Tally {
     }
 }
 
-fn print_count(name: &[u8], count: Count) {
-    io::write_all(STDOUT_FILENO, name);
-    io::print_decimal(STDOUT_FILENO, count.agree);
-    io::write_all(STDOUT_FILENO, b" agree, ");
-    io::print_decimal(STDOUT_FILENO, count.differ);
-    io::write_all(STDOUT_FILENO, b" differ\n");
+fn print_count(rt: &impl Print, name: &str, count: Count) -> io::Result<()> {
+    let agree = count.agree;
+    let differ = count.differ;
+    println!(rt; "{name} {agree} agree, {differ} differ")
 }
 
-fn print_tally(tally: Tally) {
-    print_count(b"date ", tally.date);
-    print_count(b"day ", tally.day);
-    print_count(b"shift ", tally.shift);
-    print_count(b"text ", tally.text);
-    print_count(b"all ", tally.all);
+fn print_tally(rt: &impl Print, tally: Tally) -> io::Result<()> {
+    print_count(rt, "date", tally.date)?;
+    print_count(rt, "day", tally.day)?;
+    print_count(rt, "shift", tally.shift)?;
+    print_count(rt, "text", tally.text)?;
+    print_count(rt, "all", tally.all)
 }
 
 // ---- lines
 
 // Counts a line, and prints it if it differs.
-fn take_line(tally: Tally, line: &[u8]) -> Tally {
+fn take_line(rt: &impl Print, tally: Tally, line: &[u8]) -> io::Result<Tally> {
     let kind = kind_of(line);
     let is_right = agrees(kind, rest(line));
     if !is_right {
-        io::write_all(STDOUT_FILENO, b"differs: ");
-        io::write_all(STDOUT_FILENO, line);
-        io::write_all(STDOUT_FILENO, b"\n");
+        rt.write_all(b"differs: ")?;
+        rt.write_all(line)?;
+        rt.write_all(b"\n")?;
     }
-    tally.counted(kind, is_right)
+    Ok(tally.counted(kind, is_right))
 }
 
-fn take_lines(text: &[u8]) -> Tally {
+fn take_lines(rt: &impl Print, text: &[u8]) -> io::Result<Tally> {
     let mut tally = Tally::new();
     let mut at: usize = 0;
     while at < text.len() {
         let end = find(text, b'\n', at);
-        tally = take_line(tally, &text[at..end]);
+        tally = take_line(rt, tally, &text[at..end])?;
         at = end + 1;
     }
-    tally
+    Ok(tally)
 }
 
-fn main() {
-    let mut buffer = [0u8; ROOM];
-    let n = io::read_full(STDIN_FILENO, &mut buffer);
-    print_tally(take_lines(&buffer[..n]));
+// Reads until the buffer is full, the input ends or a read fails; how many bytes were put at the start of the buffer.
+fn read_full(reader: &mut impl Read, buffer: &mut [u8]) -> usize
+    ensures { result ≤ length buffer.new }
+{
+    let mut done: usize = 0;
+    while done < buffer.len() {
+        match reader.read(&mut buffer[done..]) {
+            Ok(0) => return done,
+            Ok(n) => done += n,
+            Err(_) => return done,
+        }
+    }
+    done
+}
+
+// Zeros. The clause gives the length alone, so that no proof computes with so many bytes.
+fn zeros() -> [u8; ROOM]
+    ensures { length result ≡ ROOM }
+{
+    [0; ROOM]
+}
+
+fn main(rt: HostRuntime) -> io::Result<()> {
+    let mut buffer = zeros();
+    let mut input = rt.stdin();
+    let n = read_full(&mut input, &mut buffer);
+    print_tally(&rt, take_lines(&rt, &buffer[..n])?)
 }

@@ -1,21 +1,22 @@
 // Runs the cases of the file `cases`, which host/vectors makes of vectors/ and document 01, on the entry for C. Prints the
 // first line of each case that differs, then how many there are and how many differ. No contract can say what is read or
-// printed: the C library does both. What the two numbers are is promised: `take_cases` counts, of the bytes of the file,
+// printed: the system does both. What the two numbers are is promised: `take_cases` counts, of the bytes of the file,
 // what the definition of the entry gives (`tally_of`).
 #![tactic(auto)]
 
 ghost use Rattle.std.specs.Prelude.{◌≡◌, true, ◌+◌, ◌*◌, ◌≤◌, ◌<◌, length};
-ghost use Rattle.io.specs.Counts.{IsPrefixLen};
 ghost use Rattle.model.specs.Bytes.{digit_value};
 ghost use Rattle.jehvrukam.specs.Evaluate.{evaluate_entry};
 ghost use Rattle.test_vectors.specs.Cases.{takes_digit, number_at, header_at, is_whole, lent, untold, is_expected, is_text, agrees_in, agrees_on, counted, tally_of};
-ghost use Rattle.test_vectors.specs.Inner.{Past, Gives, Ran, Few};
+ghost use Rattle.test_vectors.specs.Inner.{Past, Gives, Ran, Few, Counts};
 
 use heap::cell::CELL_BYTES;
 use jehvrukam::jehvrukam_evaluate;
-use libc::STDOUT_FILENO;
 use model::{HEAP_CELLS, MAX_TEXT_BYTES};
 use octets::same;
+use std::io::Read;
+use std::rt::Files;
+use std::{fs, io};
 use syntax::{STRINGS_BYTES, TABLE_BYTES};
 
 // The most bytes that are read.
@@ -336,15 +337,16 @@ fn count(t: Tally, agrees: bool) -> Tally
 }
 
 // A case's first line.
-fn print_first_line(text: &[u8], at: usize)
+fn print_first_line(rt: &impl Print, text: &[u8], at: usize) -> io::Result<()>
     requires { at < length text.now }
 {
     let end = past(text, b'\n', at);
-    io::write_all(STDOUT_FILENO, b"differs: ");
-    io::write_all(STDOUT_FILENO, &text[at..end]);
+    rt.write_all(b"differs: ")?;
+    rt.write_all(&text[at..end])
 }
 
-fn take_cases(text: &[u8]) -> Tally
+// Counts what it promises whether or not the lines reach the output; a case whose line does not is counted all the same.
+fn take_cases(rt: &impl Print, text: &[u8]) -> Tally
     ensures { result ≡ tally_of text.now }
 {
     let mut tally = Tally {
@@ -355,7 +357,7 @@ fn take_cases(text: &[u8]) -> Tally
     while at < text.len() {
         let c = run_case(text, at);
         if !c.agrees {
-            print_first_line(text, at);
+            let _ = print_first_line(rt, text, at);
         }
         tally = count(tally, c.agrees);
         at = c.end;
@@ -363,25 +365,43 @@ fn take_cases(text: &[u8]) -> Tally
     tally
 }
 
-// The first bytes of a file, as many as the buffer takes; a missing file counts as empty.
-fn read_file(path: &[u8], buffer: &mut [u8]) -> usize
-    ensures { IsPrefixLen result buffer.new }
+// Reads until the buffer is full, the input ends or a read fails; how many bytes were put at the start of the buffer.
+fn read_full(reader: &mut impl Read, buffer: &mut [u8]) -> usize
+    ensures { Counts result buffer.new }
 {
-    let fd = os::open_read(path);
-    if fd < 0 {
-        return 0;
+    let mut done: usize = 0;
+    while done < buffer.len() {
+        match reader.read(&mut buffer[done..]) {
+            Ok(0) => return done,
+            Ok(n) => done += n,
+            Err(_) => return done,
+        }
     }
-    let n = io::read_full(fd, buffer);
-    libc::close(fd);
-    n
+    done
 }
 
-fn main() {
-    let mut text = [0u8; FILE_BYTES];
-    let n = read_file(b"cases", &mut text);
-    let tally = take_cases(&text[..n]);
-    io::print_decimal(STDOUT_FILENO, tally.cases);
-    io::write_all(STDOUT_FILENO, b" cases, ");
-    io::print_decimal(STDOUT_FILENO, tally.differ);
-    io::write_all(STDOUT_FILENO, b" differ\n");
+// The first bytes of a file, as many as the buffer takes; a missing file counts as empty.
+fn read_file(rt: &impl Files, path: &str, buffer: &mut [u8]) -> usize
+    ensures { Counts result buffer.new }
+{
+    match fs::open(rt, path) {
+        Ok(mut file) => read_full(&mut file, buffer),
+        Err(_) => 0,
+    }
+}
+
+// Zeros. The clause gives the length alone, so that no proof computes with so many bytes.
+fn zeros() -> [u8; FILE_BYTES]
+    ensures { length result ≡ FILE_BYTES }
+{
+    [0; FILE_BYTES]
+}
+
+fn main(rt: HostRuntime) -> io::Result<()> {
+    let mut text = zeros();
+    let n = read_file(&rt, "cases", &mut text);
+    let tally = take_cases(&rt, &text[..n]);
+    let cases = tally.cases;
+    let differ = tally.differ;
+    println!(rt; "{cases} cases, {differ} differ")
 }
