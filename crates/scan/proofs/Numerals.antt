@@ -1,5 +1,5 @@
 -- Numbers, digit by digit.
-use mathlib.Core.Path.{◌≡◌, refl, ap, ◌∙◌, subst⁻¹}
+use mathlib.Core.Path.{◌≡◌, refl, sym, ap, ◌∙◌, subst⁻¹}
 use mathlib.Core.Bool.{Bool, true, false}
 use mathlib.Core.List.{[], ◌∷◌}
 use Prim.Native.Nat.{ℕ, zero, suc, ◌+◌, ◌*◌, ◌-◌, ◌≤◌, ◌<◌}
@@ -17,9 +17,10 @@ use Rattle.model.specs.Value.{Value}
 use Rattle.syntax.specs.Layout.{biased}
 use Rattle.syntax.specs.Read.{Parsed, ok, bad, then, ◌>>=◌, give, fail, if, eat, signed, is_part, end_number, digits, after_zero, first_digit, int}
 use Rattle.syntax.specs.Tokens.{is_digit, digit_value}
-use Rattle.scan.specs.Contract.{fault_at, fault_of, NumberMeets}
+use Rattle.scan.specs.Contract.{decimal_of, fault_at, fault_of, NumberMeets}
 use Rattle.scan.specs.Inner.{Signed, ending, Rest}
-use Rattle.scan.specs.Laws.{peek_in, peek_end, eat_in}
+use Rattle.scan.specs.declared.token.Decimal.TheVariants.{DecimalDigit}
+use Rattle.scan.specs.Laws.{decimal_as, peek_in, peek_end, eat_in}
 use Rattle.scan.specs.declared.number.Numeral.{Numeral}
 use Rattle.scan.specs.declared.number.Numeral.TheVariants.{Integer, NoInteger}
 
@@ -162,6 +163,9 @@ module _ (negative : Bool) (s : Bytes) (at : ℕ) (r : Numeral) where
       let f : int negative (drop at s) at ≡ ending negative 0 (drop (at + 1) s) (at + 1) =
       first negative s at l e ∙ ap (λ (d : ℕ). first_digit negative d (drop (suc at) s) (suc at)) z ∙ rw add-one (after_zero_lem negative (drop (suc at) s) (suc at)) in
       subst⁻¹ Meets f (g.run at (omega arith))
+
+  pub number_zero_at : at < length s → decimal_of (get_or s at 0) ≡ DecimalDigit 0 → Rest s (at + 1) (ending negative 0 (drop (at + 1) s) (at + 1)) r → Meets (int negative (drop at s) at)
+  number_zero_at l e g = let d = decimal_as (get_or s at 0) refl e in number_zero l d.0 (sym d.1) g
 
   pub number_digits : {d : ℕ} → at < length s → is_digit (get_or s at 0) ≡ true → (d ≡ 0 → ⊥) → d ≡ digit_value (get_or s at 0)
       → Rest s (at + 1) (digits negative d (drop (at + 1) s) (at + 1)) r → Meets (int negative (drop at s) at)

@@ -87,6 +87,7 @@ fn digits(text: &[u8], at: usize, negative: bool, first: u64) -> Numeral
 }
 
 // The integer at `at`, its sign having been read.
+#[tactic(auto, using(crate::proofs::Numerals::number_zero_at))]
 pub fn number(text: &[u8], at: usize, negative: bool) -> Numeral
     ensures { NumberMeets text.now at (reading.int negative (drop at text.now) at) result }
 {

@@ -10,6 +10,7 @@ use model::{MAX_NESTING, MAX_VALUES};
 use syntax::{Separator, Start, Word};
 
 // The offset after the white space at `at`.
+#[tactic(auto, using(crate::proofs::Words::skip_more, crate::proofs::Words::skip_stop))]
 pub fn skip_white(text: &[u8], at: usize) -> usize
     ensures { Skipped text.now at result }
 {
@@ -23,6 +24,7 @@ pub fn skip_white(text: &[u8], at: usize) -> usize
     i
 }
 
+#[tactic(auto, using(crate::proofs::Decisions::white_last), unfolding(syntax::specs::Tokens::is_white))]
 fn is_white(b: u8) -> bool
     ensures { result ≡ tokens.is_white b }
 {
@@ -48,6 +50,7 @@ pub fn start(text: &[u8], at: usize, row: usize, depth: usize) -> Start
     start_of(row, depth, text[at])
 }
 
+#[tactic(auto, unfolding(model::specs::Limits::max_values))]
 fn start_of(row: usize, depth: usize, b: u8) -> Start
     ensures { result ≡ tokens.start_of row depth b }
 {
@@ -98,6 +101,7 @@ fn too_many(kind: Start) -> Start
     }
 }
 
+#[tactic(auto, unfolding(model::specs::Limits::max_nesting, syntax::specs::Tokens::nested))]
 fn nested(depth: usize, kind: Start) -> Start
     ensures { result ≡ tokens.nested depth kind }
 {
@@ -114,6 +118,7 @@ pub enum Decimal {
     NoDecimal,
 }
 
+#[tactic(auto, unfolding(syntax::specs::Tokens::is_digit, syntax::specs::Tokens::within, crate::specs::Contract::decimal_of))]
 pub fn decimal_of(b: u8) -> Decimal
     ensures { result ≡ decimal_of b }
 {
@@ -127,6 +132,7 @@ pub fn decimal_of(b: u8) -> Decimal
 }
 
 // What stands at `at`, after an item or a member.
+#[tactic(auto, using(crate::proofs::Decisions::separator_comma, crate::proofs::Decisions::separator_close, crate::proofs::Decisions::separator_neither))]
 pub fn separator(text: &[u8], at: usize, close: u8) -> Separator
     ensures { Separated text.now close at result }
 {

@@ -1,19 +1,11 @@
 use mathlib.Core.Path.{sym, ap}
 use Rattle.syntax.specs.Tokens.{is_white}
-use Rattle.scan.proofs.Decisions.{white_last}
 use Rattle.scan.proofs.token.is_white.Goals as goal
 
 pub returns-then-b-eq32 : goal.returns-then-b-eq32
 unfolding is_white
 returns-then-b-eq32 c = ap is_white (sym c.if-b-eq32.true)
 
-pub returns-then-b-eq9 : goal.returns-then-b-eq9
-unfolding is_white
-returns-then-b-eq9 c = ap is_white (sym c.if-b-eq9.true)
-
 pub returns-then-b-eq10 : goal.returns-then-b-eq10
 unfolding is_white
 returns-then-b-eq10 c = ap is_white (sym c.if-b-eq10.true)
-
-pub returns : goal.returns
-returns c = white_last _ c.if-b-eq32.false c.if-b-eq9.false c.if-b-eq10.false
