@@ -366,7 +366,7 @@ def main():
     checks, traces = checks_of(cases)
     try_definitions.in_scratch("differential")
     try_definitions.clear()
-    agree, refuted, tested = tried(checks + traces, try_definitions.copy_definitions())
+    agree, refuted, tested = tried(checks + traces, try_definitions.needed_modules())
 
     for case, said in refuted[:SHOWN]:
         print(shown(case, said, options))

@@ -66,7 +66,7 @@ def prove(cases):
     with contextlib.redirect_stdout(sys.stderr):
         try_definitions.in_scratch("evaluate")
         try_definitions.clear()
-        modules = try_definitions.copy_definitions()
+        modules = try_definitions.needed_modules()
         crates = {CRATE: try_definitions.grouped(checks, try_definitions.ALONE)}
         refuted = try_definitions.judged(crates, try_definitions.run(crates, modules))[1]
         for check, said in refuted:

@@ -364,13 +364,14 @@ unfolding {}
 definitions = 0
 """
 
-# The crates of the definitions, each with those that it needs.
-DEFINING = {"model": [], "syntax": ["model"], "pipeline": ["model", "syntax"]}
-# Those whose code declares types of the definitions; another crate has this for code.
+# The crates of the definitions, lowest first, and those whose code declares types of them. A crate that states cases has a
+# copy of the definitions: each check costs some seconds for what it loads, however little it has to do.
+DEFINING = {"model": "Model", "syntax": "Syntax", "pipeline": "Pipeline"}
 DECLARING = ["model", "syntax"]
-NO_CODE = "#![tactic(auto)]\n\npub enum Unused {\n    Only,\n}\n"
 # The modules that a text uses, but for those of declared types.
 USED = re.compile(r"^(?:\w+ )*use Rattle\.(model|syntax|pipeline)\.specs\.(?!declared\b)(\w+)", re.MULTILINE)
+PATH = re.compile(r"\bRattle\.(model|syntax|pipeline)\.specs\.(declared\b)?")
+OF_ALL = re.compile(r"^(?:#!\[tactic\(auto\)\]|use (?:model|syntax)::.*;)\n", re.MULTILINE)
 
 
 def source(crate, module):
@@ -383,24 +384,36 @@ def put(crate, file, text):
     path.write_text(text, encoding="utf-8")
 
 
-def copy_definitions():
-    """Copies the modules that the cases need, which leaves the laws out; gives the crate and the name of each."""
+def place_of(crate, file):
+    """Where a file of the definitions stands in a copy of them."""
+    return re.sub("^specs/", f"specs/{DEFINING[crate]}/", file)
+
+
+def moved(name, text):
+    """A text of the definitions as it reads in the copy in a crate of this name."""
+    return PATH.sub(lambda m: f"Rattle.{name}.specs.{m[2] or DEFINING[m[1]] + '.'}", text)
+
+
+def needed_modules():
+    """The modules that the cases need, which leaves the laws out: the crate and the name of each."""
     modules, found = [], USED.findall(USES)
     while found:
         module = found.pop()
         if module not in modules:
             modules.append(module)
             found += USED.findall(source(*module))
-    for crate in DEFINING:
-        names = [name for owner, name in modules if owner == crate]
-        for name in names:
-            put(crate, f"specs/{name}.antt", source(crate, name))
-        put(crate, "specs/Lib.antt", "".join(f"pub mod {name}\n" for name in names))
-        if crate in DECLARING:
-            shutil.copytree(ROOT / "crates" / crate / "src", SCRATCH / "crates" / crate / "src")
-        else:
-            put(crate, "src/lib.rt", NO_CODE)
     return modules
+
+
+def copy_definitions(name, modules):
+    """Copies the modules into a crate of this name, and the code that declares their types."""
+    for crate, module in modules:
+        put(name, place_of(crate, f"specs/{module}.antt"), moved(name, source(crate, module)))
+    for crate, above in DEFINING.items():
+        put(name, f"specs/{above}.antt", "".join(f"pub mod {module}\n" for owner, module in modules if owner == crate))
+    declared = [(ROOT / "crates" / crate / "src" / "lib.rt").read_text(encoding="utf-8") for crate in DECLARING]
+    put(name, "src/lib.rt", "#![tactic(auto)]\n\n" + "".join(OF_ALL.sub("", text) for text in declared))
+    put(name, "specs/Lib.antt", "".join(f"pub mod {above}\n" for above in [*DEFINING.values(), "Seen"]))
 
 
 def unfoldable(module):
@@ -419,8 +432,8 @@ def declaration(name, checks, texts):
     return f"{name} :\n    ({calls})\n    ≡ ({expected})\nunfolding definitions\n{name} = refl\n"
 
 
-def write_crate(name, groups, modules):
-    """Writes a crate with a name for each text, and a declaration for each group of checks."""
+def write_cases(name, groups, modules):
+    """Writes a name for each text, and a declaration for each group of checks, into a crate with the definitions."""
     opened = [(*module, word) for module in modules for word in unfoldable(module)]
     renamed = "".join(f"use Rattle.{crate}.specs.{module}.{{{word} as {named(crate, module, word)}}}\n" for crate, module, word in opened)
     unfolding = " ".join(named(*names) for names in opened)
@@ -428,11 +441,9 @@ def write_crate(name, groups, modules):
     every = dict.fromkeys(text for checks in groups.values() for check in checks for text in check.texts)
     texts = {text: f"text-{number}" for number, text in enumerate(every)}
     stated = "".join(f"\nabbrev {word} : Bytes\n{word} = {numbers(text)}\n" for text, word in texts.items())
-    put(name, "src/lib.rt", NO_CODE)
-    put(name, "specs/Lib.antt", "pub mod Seen\n")
-    put(name, "specs/Seen.antt", USES + renamed + SEEN.replace("{}", unfolding))
+    put(name, "specs/Seen.antt", moved(name, USES + renamed) + SEEN.replace("{}", unfolding))
     put(name, "proofs/Lib.antt", "pub mod Cases\n")
-    put(name, "proofs/Cases.antt", USES + seen + stated + "".join("\n" + declaration(group, checks, texts) for group, checks in groups.items()))
+    put(name, "proofs/Cases.antt", moved(name, USES) + seen + stated + "".join("\n" + declaration(group, checks, texts) for group, checks in groups.items()))
 
 
 # ---- the run
@@ -475,11 +486,9 @@ def clear():
 def rt_check(names):
     """Has these crates of the scratch repository checked, and gives what rt printed."""
     for crate in (SCRATCH / "crates").iterdir():
-        if crate.name not in (*DEFINING, *names):
+        if crate.name not in names:
             shutil.rmtree(crate)
-    needs = {**DEFINING, **{name: list(DEFINING) for name in names}}
-    listed = "".join(f"{' '.join([name + ':', *needed])}\n" for name, needed in needs.items())
-    (SCRATCH / "crates.txt").write_text(listed, encoding="utf-8")
+    (SCRATCH / "crates.txt").write_text("".join(f"{name}:\n" for name in names), encoding="utf-8")
     done = subprocess.run(["rt", "all", "check", "--jobs", str(JOBS)], cwd=SCRATCH, stdout=subprocess.PIPE, stderr=subprocess.STDOUT, check=False)
     output = done.stdout.decode("utf-8", "replace")
     with open(SCRATCH / "output.txt", "a", encoding="utf-8") as log:
@@ -490,7 +499,8 @@ def rt_check(names):
 def run(crates, modules):
     """Checks crates, each with its groups of checks; gives the refusals of each."""
     for name, groups in crates.items():
-        write_crate(name, groups, modules)
+        copy_definitions(name, modules)
+        write_cases(name, groups, modules)
     output = rt_check(list(crates))
     refused = {name: refusals(output, name, groups) for name, groups in crates.items()}
     if None in refused.values():
@@ -608,7 +618,7 @@ def main():
 
     in_scratch("definitions")
     clear()
-    modules = copy_definitions()
+    modules = needed_modules()
     crates = dealt(grouped(checks, TOGETHER), "trial")
     refused = run({**crates, "wrong": tests}, modules)
     tested = self_tested(tests, refused.pop("wrong") or {})

@@ -72,7 +72,8 @@ def changes_of(program):
 def apply(crate, changes):
     """Makes the changes in the copied definitions of a crate."""
     for file, old, new in changes:
-        path = try_definitions.SCRATCH / 'crates' / crate / file
+        path = try_definitions.SCRATCH / 'crates' / CRATE / try_definitions.place_of(crate, file)
+        old, new = try_definitions.moved(CRATE, old), try_definitions.moved(CRATE, new)
         if not path.is_file():
             raise Fault('%s is not among the definitions that the cases need' % file)
         text = path.read_text(encoding='utf-8')
@@ -87,13 +88,14 @@ def refused(task):
     try_definitions.in_scratch('witnesses/%s/%s' % (crate, label))
     try_definitions.JOBS = 1
     try_definitions.clear()
-    modules = try_definitions.copy_definitions()
+    modules = try_definitions.needed_modules()
+    try_definitions.copy_definitions(CRATE, modules)
     try:
         apply(crate, changes)
     except Fault as fault:
         return fault
     groups = {check.case['id']: [check] for check in checks}
-    try_definitions.write_crate(CRATE, groups, modules)
+    try_definitions.write_cases(CRATE, groups, modules)
     output = try_definitions.rt_check([CRATE])
     found = try_definitions.refusals(output, CRATE, groups)
     if found is None:
