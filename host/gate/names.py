@@ -142,4 +142,5 @@ def results():
             yield document.relative_to(ROOT), None if there else 'there is no %s' % name
 
 
-report(results())
+if __name__ == "__main__":
+    report(results())
