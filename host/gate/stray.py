@@ -15,6 +15,7 @@ sys.dont_write_bytecode = True
 from tally import ROOT, report
 
 READ = re.compile(r'src/.+\.rt|(?:specs|proofs)/.+\.antt|must-fail/[^/]+\.edit|stdin|stdout|args|status|data/.+')
+PAGE = re.compile(r'must-fail/[^/]+\.md')  # an edit that is only to be read
 SOURCE = re.compile(r'.*\.(?:rt|antt)')
 
 
@@ -23,8 +24,8 @@ def listed(text):
     return re.findall(r'^\s*([^\s:#]+)(?:\s+staticlib)?\s*:', text, re.M)
 
 
-def fault(path, crates):
-    """None if the file of this path, from the root, has its place, else what is wrong."""
+def fault(path, crates, told=''):
+    """None if the file of this path, from the root, has its place, else what is wrong. `told` is docs/PORT.md."""
     top, _, below = path.partition('/')
     if top != 'crates':
         return 'stray: a source outside crates/' if SOURCE.fullmatch(path) else None
@@ -33,6 +34,8 @@ def fault(path, crates):
         return 'stray: a file directly under crates/'
     if name not in crates:
         return 'stray: crates.txt lists no crate `%s`' % name
+    if PAGE.fullmatch(file):
+        return None if path in told else 'stray: rt tries no such edit, and docs/PORT.md does not name it'
     return None if READ.fullmatch(file) else 'stray: nothing reads it'
 
 
@@ -63,12 +66,12 @@ def files():
     return sorted([path for path in inside if path not in left_out] + outside)
 
 
-GOOD = ['crates/a/src/lib.rt', 'crates/a/src/in/side.rt', 'crates/a/specs/A.antt', 'crates/a/proofs/f/Proof.antt',
+GOOD = ['crates/a/src/lib.rt', 'crates/a/must-fail/x.md', 'crates/a/src/in/side.rt', 'crates/a/specs/A.antt', 'crates/a/proofs/f/Proof.antt',
         'crates/b/must-fail/x.edit', 'crates/b/stdin', 'crates/b/stdout', 'crates/b/args', 'crates/b/data/in/side.json',
         'crates/b/status', 'README.md', 'crates.txt', 'host/tool.py', 'examples/a/src', 'target/staticlib/liba.a']
 BAD = ['crates/note.md', 'crates/lib.rt', 'crates/c/src/lib.rt', 'crates/#/src/lib.rt', 'crates/a/lib.rt', 'crates/a/README.md',
        'crates/a/src/A.antt', 'crates/a/src/lib.rt.orig', 'crates/a/specs/lib.rt', 'crates/a/specs/A.antt~',
-       'crates/a/must-fail/in/x.edit', 'crates/a/must-fail/x.log', 'crates/a/stdin/x', 'crates/a/data', 'crates/a/tests/x.rt',
+       'crates/a/must-fail/in/x.edit', 'crates/a/must-fail/y.md', 'crates/a/must-fail/x.log', 'crates/a/stdin/x', 'crates/a/data', 'crates/a/tests/x.rt',
        'lib.rt', 'docs/A.antt', 'host/crates/a/src/lib.rt', '.ci/x.rt', 'target/crates/a/src/lib.rt']
 
 
@@ -76,13 +79,15 @@ def results():
     sample = listed('# c: none\na:\nb staticlib: a # as c: is not\n')
     yield 'sample', None if sample == ['a', 'b'] else 'the crates listed are %r' % sample
     for path in GOOD + BAD:
-        got = fault(path, sample)
+        got = fault(path, sample, 'crates/a/must-fail/x.md is only to be read')
         yield 'sample', None if (got is None) == (path in GOOD) else '%s is judged wrongly: %s' % (path, got)
     crates = listed((ROOT / 'crates.txt').read_text(encoding='utf-8'))
     for name in crates:
         yield 'crates.txt', None if (ROOT / 'crates' / name).is_dir() else 'there is no folder crates/%s' % name
+    port = ROOT / 'docs' / 'PORT.md'
+    told = port.read_text(encoding='utf-8') if port.exists() else ''
     for path in files():
-        yield path, fault(path, crates)
+        yield path, fault(path, crates, told)
 
 
 report(results())
