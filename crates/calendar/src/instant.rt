@@ -56,6 +56,7 @@ impl Instant {
     }
 
     // The instant so many milliseconds from 1970-01-01.
+    #[tactic(auto, using(crate::proofs::Instants::late, crate::proofs::Instants::within))]
     pub fn new(ms: i64) -> InstantAnswer
         ensures { instant_result result ≡ ranged ms }
     {
@@ -69,6 +70,7 @@ impl Instant {
     }
 
     // The instant so many milliseconds from 0000-01-01.
+    #[tactic(auto, using(model::proofs::Laws::DateText::from_in_range, model::proofs::Laws::DateText::ranged_ok, crate::proofs::Laws::Instant::from_late, crate::proofs::Instants::from_fits))]
     pub fn from_year_0(since: u64) -> InstantAnswer
         ensures { instant_result result ≡ ranged (from_year0 since) }
     {

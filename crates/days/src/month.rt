@@ -35,6 +35,7 @@ fn place(month: u64) -> usize
 }
 
 // The days of a month from 1 to 12. (Month 0 is taken as January, one after the twelfth as a month without days.)
+#[tactic(auto, using(crate::proofs::Dates::no_month))]
 pub fn month_days(year: u64, month: u64) -> u64
     ensures { result ≡ month_days year month }
 {

@@ -1,13 +1,10 @@
 use mathlib.Core.Path.{ap, ◌∙◌}
 use native.Mathlib.Numerals.{add-one}
 use native.Mathlib.Omega.{arith}
-use borrow.Author.Tests.{le-ltb, lt-ltb}
+use borrow.Author.Tests.{lt-ltb}
 use Rattle.days.specs.Laws.{first_within}
 use Rattle.days.specs.declared.day.MonthAnswer.TheVariants.{Begins}
 use Rattle.days.proofs.day.month_start.Goals as goal
-
-pub returns-then-month-ge-RANGE_MONTHS : goal.returns-then-month-ge-RANGE_MONTHS
-returns-then-month-ge-RANGE_MONTHS c = rw (le-ltb c.args.month 120000 (omega arith))
 
 pub day_number-requires : goal.day_number-requires
 day_number-requires c = rw add-one (first_within c.args.month (omega arith))

@@ -1,12 +1,7 @@
-use mathlib.Core.Path.{sym}
 use native.Mathlib.Omega.{arith}
 use Rattle.model.specs.Calendar.{months}
 use Rattle.model.proofs.Laws.Calendar.{table_bound}
-use Rattle.days.proofs.Dates.{no_month}
 use Rattle.days.proofs.month.month_days.Goals as goal
-
-pub returns-then-month-gt12 : goal.returns-then-month-gt12
-returns-then-month-gt12 c = sym (no_month c.args.year c.args.month c.if-month-gt12.true)
 
 pub overflow_cast-result : goal.overflow_cast-result
 overflow_cast-result c = omega (arith, table_bound c.row-k.result c.place-i.result)
