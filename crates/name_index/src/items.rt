@@ -63,6 +63,7 @@ fn link(table: &mut [u8], q: Rows)
 }
 
 // Whether the array in a row has an index: one of many items, some of which have parts.
+#[tactic(auto, using(crate::proofs::Doubles::index_few, crate::proofs::Doubles::index_before, crate::proofs::Doubles::index_after))]
 pub fn has_index(table: &[u8], row: usize, q: Rows) -> bool
     ensures { result ≡ has_index table.now row q }
 {
@@ -87,6 +88,7 @@ fn is_array(table: &[u8], row: usize) -> bool
 }
 
 // Enters the items of an array in a row, if it is to have an index.
+#[tactic(auto, using(crate::proofs::Doubles::no_array, crate::proofs::Doubles::array_linked, crate::proofs::Doubles::array_left))]
 fn link_row(table: &mut [u8], row: usize)
     ensures { table.new ≡ link_node table.old row (node_at table.old row) }
 {
