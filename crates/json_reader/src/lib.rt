@@ -112,6 +112,7 @@ pub fn read_rows(text: &[u8], table: &mut [u8], strings: &mut [u8]) -> Answer
 }
 
 // Reads a text into the two areas, and enters the items of its long arrays. Behind the rows of the table the index of names and items stays.
+#[tactic(auto, using(crate::proofs::All::law_unread, crate::proofs::All::law_entered))]
 pub fn read_indexed(text: &[u8], table: &mut [u8], strings: &mut [u8]) -> Answer
     ensures { RowsReadAs IndexedWhole text.now table.old strings.old result table.new strings.new }
 {
@@ -131,6 +132,7 @@ pub fn clear_index(table: &mut [u8])
 }
 
 // Reads a text into the two areas, and leaves no index.
+#[tactic(auto, using(crate::proofs::All::law_kept))]
 pub fn read(text: &[u8], table: &mut [u8], strings: &mut [u8]) -> Answer
     ensures { AllRead text.now table.old strings.old result table.new strings.new }
 {

@@ -29,6 +29,7 @@ fn end_of(text: &[u8], at: usize) -> usize
 }
 
 // The fragment so many after the one that begins at `at`.
+#[tactic(auto, using(crate::proofs::Fragments::seek_here))]
 fn nth(text: &[u8], at: usize, index: u64) -> Fragment
     ensures { Finds text.now (nth_string (fragments_from text.now at) index) result }
 {

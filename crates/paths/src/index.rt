@@ -28,6 +28,7 @@ fn is_plain(fragment: &[u8]) -> bool
 }
 
 // "0 or digits without a leading zero are an index"
+#[tactic(auto, using(crate::proofs::Digits::index_high, crate::proofs::Digits::index_past, crate::proofs::Digits::index_on))]
 pub fn read_index(fragment: &[u8]) -> Index
     ensures { result ≡ index_in fragment.now }
 {

@@ -11,6 +11,7 @@ use table::node::{Node, Rows, next_row, node_at, tail};
 const FEW: usize = 4;
 
 // The item so many after the first, row by row.
+#[tactic(auto, using(crate::proofs::Rows::item_first))]
 fn item_among(at: usize, table: &[u8], q: Rows) -> Node
     ensures { result ≡ item_in table.now q.first q.count at }
 {

@@ -16,6 +16,7 @@ const FEW: usize = 16;
 const SHORT: usize = 32;
 
 // The first of some rows with this name, row by row.
+#[tactic(auto, using(crate::proofs::Rows::named_first, crate::proofs::Rows::named_later))]
 fn row_among(name: &[u8], table: &[u8], strings: &[u8], q: Rows) -> Found
     ensures { result ≡ row_named table.now strings.now name.now q.first q.count }
 {
@@ -46,6 +47,7 @@ fn goes_by_index(name: &[u8], table: &[u8], q: Rows) -> bool
 }
 
 // The first of some rows with this name.
+#[tactic(auto, using(crate::proofs::Rows::named_indexed))]
 pub fn row_named(name: &[u8], table: &[u8], strings: &[u8], q: Rows) -> Found
     requires { IndexedTable table.now strings.now }
     ensures { result ≡ row_named table.now strings.now name.now q.first q.count }

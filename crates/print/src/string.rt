@@ -154,6 +154,7 @@ fn put_quoted(output: &mut [u8], at: usize, s: &[u8]) -> usize
 }
 
 // A string; one that no text has room for is not written, and ends past the largest text.
+#[tactic(auto, unfolding(model::specs::Limits::max_text_bytes))]
 pub fn put_string(output: &mut [u8], at: usize, s: &[u8]) -> usize
     requires { Near at }
     ensures { StringPut s.now at output.old result output.new }

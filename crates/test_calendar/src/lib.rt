@@ -111,6 +111,7 @@ fn put_text(text: InstantText, area: &mut [u8])
 
 // An instant's text into an area of 24 bytes: 0; 1 for an area of another length and 9 for an instant outside the range, the area as it was.
 #[unsafe(no_mangle)]
+#[tactic(auto, using(crate::proofs::Entry::no_area, crate::proofs::Entry::text_out, crate::proofs::Entry::text_in))]
 pub extern "C" fn calendar_text(ms: i64, text: &mut [u8]) -> u32
     ensures { (result ≡ text_number ms text.old) × (text.new ≡ text_bytes ms text.old) }
 {

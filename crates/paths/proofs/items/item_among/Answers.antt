@@ -1,6 +1,6 @@
 use mathlib.Core.Path.{refl, ◌∙◌}
 use native.Mathlib.Omega.{arith}
-use Rattle.paths.proofs.Rows.{item_none, item_first, item_later}
+use Rattle.paths.proofs.Rows.{item_none, item_later}
 use Rattle.paths.proofs.items.item_among.Goals as goal
 
 pub loop-rest-init : goal.loop-rest-init
@@ -8,9 +8,6 @@ loop-rest-init c = refl
 
 pub node_at-requires : goal.node_at-requires
 node_at-requires c = tt
-
-pub returns-then-left-eq0 : goal.returns-then-left-eq0
-returns-then-left-eq0 c = c.node_at.ensures ∙ item_first c.args.table.now c.loop-rest.rest c.loop-rest.left (omega arith) c.if-left-eq0.true ∙ c.loop-rest.invariant
 
 pub tail-rest-requires : goal.tail-rest-requires
 tail-rest-requires c = tt

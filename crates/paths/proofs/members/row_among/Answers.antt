@@ -1,6 +1,6 @@
 use mathlib.Core.Path.{refl, ◌∙◌}
 use native.Mathlib.Omega.{arith}
-use Rattle.paths.proofs.Rows.{named_none, named_first, named_later}
+use Rattle.paths.proofs.Rows.{named_none}
 use Rattle.paths.proofs.members.row_among.Goals as goal
 
 pub loop-rest-init : goal.loop-rest-init
@@ -15,17 +15,11 @@ bytes_of-requires c = tt
 pub same-requires : goal.same-requires
 same-requires c = tt
 
-pub returns-then-same : goal.returns-then-same
-returns-then-same c = named_first c.args.table.now c.args.strings.now c.args.name.now c.loop-rest.rest (omega arith) (c.bytes_of.ensures ∙ rw c.name_at.ensures) c.same.ensures c.if-same.true ∙ c.loop-rest.invariant
-
 pub tail-rest-requires : goal.tail-rest-requires
 tail-rest-requires c = tt
 
 pub loop-rest-smaller : goal.loop-rest-smaller
 loop-rest-smaller c = rw c.tail-rest.ensures (omega arith)
-
-pub loop-rest-preserved : goal.loop-rest-preserved
-loop-rest-preserved c = named_later c.args.table.now c.args.strings.now c.args.name.now c.loop-rest.rest (omega arith) (c.bytes_of.ensures ∙ rw c.name_at.ensures) c.same.ensures c.if-same.false c.tail-rest.ensures ∙ c.loop-rest.invariant
 
 pub returns : goal.returns
 returns c = named_none c.args.table.now c.args.strings.now c.args.name.now c.loop-rest.rest (omega arith) ∙ c.loop-rest.invariant
