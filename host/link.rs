@@ -1,6 +1,6 @@
 // Included by the build scripts of the programs that call a proved library.
 
-/// Tells cargo where a static library stands: the file that the variable names, or what `rt staticlib NAME` writes.
+/// Tells cargo where a static library stands: the file that the variable names, or what `host/build NAME` writes.
 fn find_library(variable: &str, name: &str) {
     let root = std::path::PathBuf::from(env!("CARGO_MANIFEST_DIR")).join("../..");
     let built = || root.join(format!("target/staticlib/lib{name}.a"));

@@ -5,7 +5,7 @@
  * different areas may run at the same time. A call uses less than 16 KiB of stack to read and less than 32 KiB to check,
  * to tell whether a record fits, and to evaluate (some 13, 28, 13 and 29 KB at the deepest nesting, measured:
  * host/tests/stack.c); a call of the viewer uses less than 1 KiB (some 100 bytes, measured there too). Link
- * target/staticlib/libjehvrukam.a, which `rt staticlib jehvrukam` writes, for x86-64.
+ * target/staticlib/libjehvrukam.a, which `host/build jehvrukam` writes, for x86-64.
  */
 #ifndef JEHVRUKAM_H
 #define JEHVRUKAM_H

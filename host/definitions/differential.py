@@ -17,11 +17,9 @@ import certlogic
 import try_definitions
 from try_definitions import Check, Members
 
-try_definitions.SCRATCH = try_definitions.ROOT / "target" / "differential"
-try_definitions.USES += """use mathlib.Core.List.{_++_}
-use lib.ListN.{length}
-use Rattle·model.specs.Eval.{run}
-use Rattle·model.specs.Run.{Name, trace}
+try_definitions.USES += """use Rattle.std.specs.Prelude.{◌++◌, length}
+use Rattle.model.specs.Eval.{run}
+use Rattle.model.specs.Run.{Name, trace}
 """
 try_definitions.SEEN += """
 abbrev spelled : List Name → List ℕ
@@ -29,9 +27,9 @@ spelled [] = []
 spelled (name ∷ names) = length name ∷ (name ++ spelled names)
 
 -- Of a stage that passes: 0, and for each step the length of the name and the name; of another the refusal's number.
-abbrev pub seenTrace : Stage TextsRead → ℕ → List ℕ
-seenTrace (passed t) limit = 0 ∷ spelled (trace (run (t .rule .content) (t .«record») limit))
-seenTrace (refused e which place) limit = number e ∷ []
+abbrev pub seen_trace : Stage TextsRead → ℕ → List ℕ
+seen_trace (passed t) limit = 0 ∷ spelled (trace (run t.rule.content t.«record» limit))
+seen_trace (refused e which place) limit = number e ∷ []
 """
 
 CASES = 5000  # some 150 s of processor time
@@ -299,7 +297,7 @@ def trace_check(check):
     expect = {"refusal": refusal if refusal == certlogic.NOT_A_RULE else certlogic.DONE, "places": places}
     names = [[len(place), *reversed(place)] for place in places]
     traced = {**case, "id": case["id"].replace("evaluate", "trace"), "entry": "trace", "expect": expect}
-    return Check(traced, f"seenTrace (evaluateStage {{}} {{}}) {case['limit']}", [expect["refusal"], *itertools.chain(*names)], check.texts)
+    return Check(traced, f"seen_trace (evaluate_stage {{}} {{}}) {case['limit']}", [expect["refusal"], *itertools.chain(*names)], check.texts)
 
 
 def checks_of(cases):
@@ -366,8 +364,9 @@ def main():
     cases = [judged(maker.case(number)) for number in range(options.cases)]
     print(f"seed {options.seed}, {len(cases)} cases", counts(cases), sep="\n")
     checks, traces = checks_of(cases)
+    try_definitions.in_scratch("differential")
     try_definitions.clear()
-    agree, refuted, tested = tried(checks + traces, try_definitions.copy_definitions())
+    agree, refuted, tested = tried(checks + traces, try_definitions.needed_modules())
 
     for case, said in refuted[:SHOWN]:
         print(shown(case, said, options))

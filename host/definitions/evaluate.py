@@ -16,7 +16,6 @@ sys.path.insert(0, str(Path(__file__).resolve().parents[1] / "reference"))
 import certlogic
 import try_definitions
 
-try_definitions.SCRATCH = try_definitions.ROOT / "target" / "evaluate"
 CRATE = "evaluation"
 BEFORE_EVALUATION = (certlogic.NOT_A_RULE, certlogic.NOT_A_SHEET, certlogic.NOT_ACCEPTED)
 
@@ -65,8 +64,9 @@ def prove(cases):
     if shutil.which("rt") is None:
         sys.exit("the Rattle toolchain (rt) is not on PATH")
     with contextlib.redirect_stdout(sys.stderr):
+        try_definitions.in_scratch("evaluate")
         try_definitions.clear()
-        modules = try_definitions.copy_definitions()
+        modules = try_definitions.needed_modules()
         crates = {CRATE: try_definitions.grouped(checks, try_definitions.ALONE)}
         refuted = try_definitions.judged(crates, try_definitions.run(crates, modules))[1]
         for check, said in refuted:

@@ -2,12 +2,11 @@
 """Runs the definitions of crates/syntax, crates/model and crates/pipeline on the cases of vectors/, by computation.
 
 antt accepts `refl` for a case exactly if the definitions give what the case expects: `read` of
-crates/syntax/specs/Read.antt, or a stage of crates/pipeline/specs/Texts.antt and then `answerOf` of
+crates/syntax/specs/Read.antt, or a stage of crates/pipeline/specs/Texts.antt and then `answer_of` of
 crates/model/specs/Judgement.antt. All go from the bytes of the texts. README.md, beside this file, says more.
 """
 import argparse
 import json
-import os
 import re
 import shutil
 import subprocess
@@ -15,11 +14,15 @@ import sys
 import time
 from pathlib import Path
 
+sys.dont_write_bytecode = True
+sys.path.insert(0, str(Path(__file__).resolve().parents[1] / "gate"))
+from scratch import scratch
+
 ROOT = Path(__file__).resolve().parents[2]
 VECTORS = ROOT / "vectors"
 MODEL = ROOT / "crates" / "model"
 SYNTAX = ROOT / "crates" / "syntax"
-SCRATCH = ROOT / "target" / "definitions"
+SCRATCH = None  # the scratch repository; in_scratch sets it
 
 JOBS = 2  # crates that are checked at once
 # antt computes a call once in a declaration, so cases that share a text take less time; but it gives up on a declaration
@@ -199,10 +202,10 @@ class Check:
 TEXTS = ["rule", "sheet", "record"]
 # Of each entry: what is seen of it (SEEN, below), its stage in crates/pipeline/specs/Texts.antt, and the texts that this takes.
 STAGES = {
-    "check": ("seenTypes", "checkStage", ["rule", "sheet"]),
-    "fits": ("seenFit", "fitsStage", ["sheet", "record"]),
-    "evaluate": ("seenAnswer", "evaluateStage", ["rule", "record"]),
-    "evaluate_with_sheet": ("seenCheckedAnswer", "evaluateCheckedStage", ["rule", "sheet", "record"]),
+    "check": ("seen_types", "check_stage", ["rule", "sheet"]),
+    "fits": ("seen_fit", "fits_stage", ["sheet", "record"]),
+    "evaluate": ("seen_answer", "evaluate_stage", ["rule", "record"]),
+    "evaluate_with_sheet": ("seen_checked_answer", "evaluate_checked_stage", ["rule", "sheet", "record"]),
 }
 
 
@@ -225,7 +228,7 @@ def reading_of(case):
         seen = [expect["refusal"], expect["place"]]
     else:
         seen = [0, expect["values"], expect["nest"], *bytes.fromhex(expect["written"])]
-    return Check(case, "seenRead (read {})", seen, [text_of(case, "text")])
+    return Check(case, "seen_read (read {})", seen, [text_of(case, "text")])
 
 
 def compare_reading(case):
@@ -274,7 +277,7 @@ def check_of(case):
     if entry == "read":
         return reading_of(case)
     seen, stage, keys = STAGES[entry]
-    call = f"{'seenPrinted' if printed else seen} ({stage}{' {}' * len(keys)})"
+    call = f"{'seen_printed' if printed else seen} ({stage}{' {}' * len(keys)})"
     if entry.startswith("evaluate"):
         call += f" {case['limit']} {case['out']}"
     return Check(case, call, expected_of(entry, expect), [text_of(case, key) for key in keys], () if printed else told_of(expect))
@@ -303,22 +306,18 @@ def shown(case, said):
 
 # ---- the scratch repository
 
-USES = """use mathlib.Core.Bool.{cond}
-use mathlib.Core.List.{List, [], _∷_}
-use mathlib.Core.Path.{_≡_, refl}
-use Prim.Native.Nat.{ℕ}
-use lib.ListN.{drop}
-use Rattle·model.specs.Bytes.{Bytes}
-use Rattle·model.specs.Judgement.{Judged, done, refuses, Answer, judgedNumber, answerOf}
-use Rattle·model.specs.Refusal.{number, readNumber}
-use Rattle·model.specs.Sheet.{fits}
-use Rattle·model.specs.Size.{valueCount, nesting}
-use Rattle·model.specs.Types.{typeBits}
-use Rattle·model.specs.Writing.{valueText}
-use Rattle·syntax.specs.Read.{Read, read}
-use Rattle·syntax.specs.Read as reading
-use Rattle·pipeline.specs.Stage.{Stage, passed, refused}
-use Rattle·pipeline.specs.Texts.{TextsChecked, checkStage, TextsFitted, fitsStage, TextsRead, evaluateStage, CheckedTextsRead, evaluateCheckedStage}
+USES = """use Rattle.std.specs.Prelude.{cond, List, [], ◌∷◌, ◌≡◌, refl, ℕ, drop}
+use Rattle.model.specs.Bytes.{Bytes}
+use Rattle.model.specs.Judgement.{Judged, done, refuses, Answer, judged_number, answer_of}
+use Rattle.model.specs.Refusal.{number, read_number}
+use Rattle.model.specs.Sheet.{fits}
+use Rattle.model.specs.Size.{value_count, nesting}
+use Rattle.model.specs.Types.{type_bits}
+use Rattle.model.specs.Writing.{value_text}
+use Rattle.syntax.specs.Read.{Read, read}
+use Rattle.syntax.specs.Read as readings
+use Rattle.pipeline.specs.Stage.{Stage, passed, refused}
+use Rattle.pipeline.specs.Texts.{TextsChecked, check_stage, TextsFitted, fits_stage, TextsRead, evaluate_stage, CheckedTextsRead, evaluate_checked_stage}
 """
 
 SEEN = """
@@ -328,36 +327,36 @@ abbrev seen : {A : Type 0} → (A → List ℕ) → Stage A → List ℕ
 seen given (passed a) = 0 ∷ 0 ∷ given a
 seen given (refused e which place) = which ∷ place ∷ number e ∷ 0 ∷ []
 
-abbrev textIn : Judged Bytes → Bytes
-textIn (done s) = s
-textIn (refuses e) = []
+abbrev text_in : Judged Bytes → Bytes
+text_in (done s) = s
+text_in (refuses e) = []
 
 abbrev answered : Answer → List ℕ
-answered a = judgedNumber (a .result) ∷ a .stepsBegun ∷ textIn (a .result)
+answered a = judged_number a.result ∷ a.steps_begun ∷ text_in a.result
 
 -- `evaluate` and `evaluate_with_sheet` give the steps and the bytes of the answer.
-abbrev pub seenAnswer : Stage TextsRead → ℕ → ℕ → List ℕ
-seenAnswer s limit room = seen (λ t. answered (answerOf (t .rule .content) (t .«record») limit room)) s
+abbrev pub seen_answer : Stage TextsRead → ℕ → ℕ → List ℕ
+seen_answer s limit room = seen (λ t. answered (answer_of t.rule.content t.«record» limit room)) s
 
-abbrev pub seenCheckedAnswer : Stage CheckedTextsRead → ℕ → ℕ → List ℕ
-seenCheckedAnswer s limit room = seen (λ t. answered (answerOf (t .checked .rule .content) (t .«record») limit room)) s
+abbrev pub seen_checked_answer : Stage CheckedTextsRead → ℕ → ℕ → List ℕ
+seen_checked_answer s limit room = seen (λ t. answered (answer_of t.checked.rule.content t.«record» limit room)) s
 
 -- `check` gives the bits of the types found.
-abbrev pub seenTypes : Stage TextsChecked → List ℕ
-seenTypes s = seen (λ c. 0 ∷ typeBits (c .types) ∷ []) s
+abbrev pub seen_types : Stage TextsChecked → List ℕ
+seen_types s = seen (λ c. 0 ∷ type_bits c.types ∷ []) s
 
 -- `fits` gives 1 if the record fits, else 0.
-abbrev pub seenFit : Stage TextsFitted → List ℕ
-seenFit s = seen (λ t. 0 ∷ cond (fits (t .sheet .content) (t .«record»)) 1 0 ∷ []) s
+abbrev pub seen_fit : Stage TextsFitted → List ℕ
+seen_fit s = seen (λ t. 0 ∷ cond (fits t.sheet.content t.«record») 1 0 ∷ []) s
 
 -- The program prints neither which text nor the place.
-abbrev pub seenPrinted : Stage TextsRead → ℕ → ℕ → List ℕ
-seenPrinted s limit room = drop 2 (seenAnswer s limit room)
+abbrev pub seen_printed : Stage TextsRead → ℕ → ℕ → List ℕ
+seen_printed s limit room = drop 2 (seen_answer s limit room)
 
 -- Of a text that reads: 0, the number of values, the nesting, and the bytes of the text as it is written. Of another: the refusal's number and the place.
-abbrev pub seenRead : Read → List ℕ
-seenRead (reading.done v) = 0 ∷ valueCount v ∷ nesting v ∷ valueText v
-seenRead (reading.refuse k p) = readNumber k ∷ p ∷ []
+abbrev pub seen_read : Read → List ℕ
+seen_read (readings.done v) = 0 ∷ value_count v ∷ nesting v ∷ value_text v
+seen_read (readings.refuse k p) = read_number k ∷ p ∷ []
 
 -- Where this unfolds, so does every definition.
 unfoldable pub definitions : ℕ
@@ -365,13 +364,14 @@ unfolding {}
 definitions = 0
 """
 
-# The crates of the definitions, each with those that it needs.
-DEFINING = {"model": [], "syntax": ["model"], "pipeline": ["model", "syntax"]}
-# Those whose code declares types of the definitions; another crate has this for code.
+# The crates of the definitions, lowest first, and those whose code declares types of them. A crate that states cases has a
+# copy of the definitions: each check costs some seconds for what it loads, however little it has to do.
+DEFINING = {"model": "Model", "syntax": "Syntax", "pipeline": "Pipeline"}
 DECLARING = ["model", "syntax"]
-NO_CODE = "pub enum Unused {\n    Only,\n}\n"
 # The modules that a text uses, but for those of declared types.
-USED = re.compile(r"^(?:\w+ )*use Rattle·(\w+)(?:·specs)?\.specs\.(?!declared\b)(\w+)", re.MULTILINE)
+USED = re.compile(r"^(?:\w+ )*use Rattle\.(model|syntax|pipeline)\.specs\.(?!declared\b)(\w+)", re.MULTILINE)
+PATH = re.compile(r"\bRattle\.(model|syntax|pipeline)\.specs\.(declared\b)?")
+OF_ALL = re.compile(r"^(?:#!\[tactic\(auto\)\]|use (?:model|syntax)::.*;)\n", re.MULTILINE)
 
 
 def source(crate, module):
@@ -384,29 +384,46 @@ def put(crate, file, text):
     path.write_text(text, encoding="utf-8")
 
 
-def copy_definitions():
-    """Copies the modules that the cases need, which leaves the laws out; gives the crate and the name of each."""
+def place_of(crate, file):
+    """Where a file of the definitions stands in a copy of them."""
+    return re.sub("^specs/", f"specs/{DEFINING[crate]}/", file)
+
+
+def moved(name, text):
+    """A text of the definitions as it reads in the copy in a crate of this name."""
+    return PATH.sub(lambda m: f"Rattle.{name}.specs.{m[2] or DEFINING[m[1]] + '.'}", text)
+
+
+def needed_modules():
+    """The modules that the cases need, which leaves the laws out: the crate and the name of each."""
     modules, found = [], USED.findall(USES)
     while found:
         module = found.pop()
         if module not in modules:
             modules.append(module)
             found += USED.findall(source(*module))
-    for crate in DEFINING:
-        names = [name for owner, name in modules if owner == crate]
-        for name in names:
-            put(crate, f"specs/{name}.antt", source(crate, name))
-        put(crate, "specs/Lib.antt", "".join(f"pub mod {name}\n" for name in names))
-        if crate in DECLARING:
-            shutil.copytree(ROOT / "crates" / crate / "src", SCRATCH / "crates" / crate / "src")
-        else:
-            put(crate, "src/lib.rt", NO_CODE)
     return modules
+
+
+def copy_definitions(name, modules):
+    """Copies the modules into a crate of this name, and the code that declares their types."""
+    for crate, module in modules:
+        put(name, place_of(crate, f"specs/{module}.antt"), moved(name, source(crate, module)))
+    for crate, above in DEFINING.items():
+        put(name, f"specs/{above}.antt", "".join(f"pub mod {module}\n" for owner, module in modules if owner == crate))
+    declared = [(ROOT / "crates" / crate / "src" / "lib.rt").read_text(encoding="utf-8") for crate in DECLARING]
+    put(name, "src/lib.rt", "#![tactic(auto)]\n\n" + "".join(OF_ALL.sub("", text) for text in declared))
+    put(name, "specs/Lib.antt", "".join(f"pub mod {above}\n" for above in [*DEFINING.values(), "Seen"]))
 
 
 def unfoldable(module):
     """The definitions of a module that are marked `unfoldable`; a block of functions goes by the first."""
     return re.findall(r"^unfoldable (?:mutual\s+(?:--.*\s+)*)?(?:abbrev )?pub (?!use )(\S+)", source(*module), re.MULTILINE)
+
+
+def named(crate, module, word):
+    """What a definition is called where those of all modules stand side by side."""
+    return f"{crate}'{module}'{word}" if word[0].isalpha() else f"◌{crate}'{module}'{word.strip('◌')}◌"
 
 
 def declaration(name, checks, texts):
@@ -415,50 +432,64 @@ def declaration(name, checks, texts):
     return f"{name} :\n    ({calls})\n    ≡ ({expected})\nunfolding definitions\n{name} = refl\n"
 
 
-def write_crate(name, groups, modules):
-    """Writes a crate with a name for each text, and a declaration for each group of checks."""
+def write_cases(name, groups, modules):
+    """Writes a name for each text, and a declaration for each group of checks, into a crate with the definitions."""
     opened = [(*module, word) for module in modules for word in unfoldable(module)]
-    renamed = "".join(f"use Rattle·{crate}.specs.{module}.{{{word} as {crate}·{module}·{word}}}\n" for crate, module, word in opened)
-    unfolding = " ".join("·".join(names) for names in opened)
-    seen = f"use Rattle·{name}·specs.specs.Seen.{{definitions, {', '.join(re.findall('^abbrev pub (.*) :', SEEN, re.MULTILINE))}}}\n"
+    renamed = "".join(f"use Rattle.{crate}.specs.{module}.{{{word} as {named(crate, module, word)}}}\n" for crate, module, word in opened)
+    unfolding = " ".join(named(*names) for names in opened)
+    seen = f"use Rattle.{name}.specs.Seen.{{definitions, {', '.join(re.findall('^abbrev pub (.*) :', SEEN, re.MULTILINE))}}}\n"
     every = dict.fromkeys(text for checks in groups.values() for check in checks for text in check.texts)
     texts = {text: f"text-{number}" for number, text in enumerate(every)}
-    named = "".join(f"\nabbrev {word} : Bytes\n{word} = {numbers(text)}\n" for text, word in texts.items())
-    put(name, "src/lib.rt", NO_CODE)
-    put(name, "specs/Lib.antt", "pub mod Seen\npub mod Cases\n")
-    put(name, "specs/Seen.antt", USES + renamed + SEEN.replace("{}", unfolding))
-    put(name, "specs/Cases.antt", USES + seen + named + "".join("\n" + declaration(group, checks, texts) for group, checks in groups.items()))
+    stated = "".join(f"\nabbrev {word} : Bytes\n{word} = {numbers(text)}\n" for text, word in texts.items())
+    put(name, "specs/Seen.antt", moved(name, USES + renamed) + SEEN.replace("{}", unfolding))
+    put(name, "proofs/Lib.antt", "pub mod Cases\n")
+    put(name, "proofs/Cases.antt", moved(name, USES) + seen + stated + "".join("\n" + declaration(group, checks, texts) for group, checks in groups.items()))
 
 
 # ---- the run
 
+def said_of(output, name):
+    """What `rt all check` printed of a crate, and whether it is proved."""
+    sections = re.split(r"^== (.*)\n", output, flags=re.MULTILINE)
+    found = dict(zip(sections[1::2], sections[2::2]))
+    return found.get(name, ""), re.search(rf"^{name}: ok$", found.get("summary", ""), re.MULTILINE) is not None
+
+
 def refusals(output, name, groups):
     """The declarations of a crate that were refused, each with what antt said. None where the crate has no verdict on its declarations alone."""
-    if re.search(rf"^rt: {name} proved \(", output, re.MULTILINE):
+    said, is_proved = said_of(output, name)
+    if is_proved:
         return {}
     refused = {}
-    for error in re.findall(rf"^.*/{name}/specs/.*?: error: (.*(?:\n  .*)*)", output, re.MULTILINE):
+    for place, error in re.findall(r"^(?:\./)?(\S+?):\d+:\d+: error: (.*(?:\n  .*)*)", said, re.MULTILINE):
         found = re.match(r"`([^`]*)`: ", error)
-        if not found or found[1] not in groups:
+        if place != "proofs/Cases.antt" or not found or found[1] not in groups:
             return None
         refused[found[1]] = error
     return refused or None
 
 
+def in_scratch(name):
+    """Has the scratch repository of this name made and checked."""
+    global SCRATCH
+    SCRATCH = scratch(name)
+
+
 def clear():
-    """Removes the sources of the scratch repository. What rt proved stays: it proves only what has changed since."""
-    shutil.rmtree(SCRATCH / "crates", ignore_errors=True)
+    """Removes the sources of the scratch repository. What rt kept of them stays: it checks only what has changed since."""
+    for crate in (SCRATCH / "crates").glob("*"):
+        for part in ("src", "specs", "proofs"):
+            shutil.rmtree(crate / part, ignore_errors=True)
     (SCRATCH / "output.txt").unlink(missing_ok=True)
 
 
 def rt_check(names):
-    """Runs `rt check` on crates of the scratch repository, and gives what it printed."""
-    others = [path.name for path in (SCRATCH / "crates").iterdir() if path.name not in DEFINING]
-    needs = {**DEFINING, **{name: list(DEFINING) for name in others}}
-    listed = "".join(f"{' '.join([name + ':', *needed])}\n" for name, needed in needs.items())
-    (SCRATCH / "crates.txt").write_text(listed, encoding="utf-8")
-    environment = {**os.environ, "RT_JOBS": str(JOBS), "RT_CUT": "0"}
-    done = subprocess.run(["rt", "check", *names], cwd=SCRATCH, env=environment, stdout=subprocess.PIPE, stderr=subprocess.STDOUT, check=False)
+    """Has these crates of the scratch repository checked, and gives what rt printed."""
+    for crate in (SCRATCH / "crates").iterdir():
+        if crate.name not in names:
+            shutil.rmtree(crate)
+    (SCRATCH / "crates.txt").write_text("".join(f"{name}:\n" for name in names), encoding="utf-8")
+    done = subprocess.run(["rt", "all", "check", "--jobs", str(JOBS)], cwd=SCRATCH, stdout=subprocess.PIPE, stderr=subprocess.STDOUT, check=False)
     output = done.stdout.decode("utf-8", "replace")
     with open(SCRATCH / "output.txt", "a", encoding="utf-8") as log:
         log.write(output)
@@ -468,12 +499,13 @@ def rt_check(names):
 def run(crates, modules):
     """Checks crates, each with its groups of checks; gives the refusals of each."""
     for name, groups in crates.items():
-        write_crate(name, groups, modules)
+        copy_definitions(name, modules)
+        write_cases(name, groups, modules)
     output = rt_check(list(crates))
     refused = {name: refusals(output, name, groups) for name, groups in crates.items()}
     if None in refused.values():
-        said = [line for line in output.splitlines() if ": error: " in line or "NOT PROVED" in line]
-        print(f"no verdict ({SCRATCH.relative_to(ROOT)}/output.txt has all that rt said):", *[line[:300] for line in said[:5]], sep="\n  ")
+        said = [line for line in output.splitlines() if ": error" in line or line.startswith(("rt: ", "error"))]
+        print(f"no verdict ({SCRATCH}/output.txt has all that rt said):", *[line[:300] for line in said[:5]], sep="\n  ")
     return refused
 
 
@@ -488,7 +520,7 @@ def weight(check, known):
 
 
 def grouped(checks, most):
-    """Groups of checks that weigh no more in all, by the name of the first. In antt a `_` in a name is the place of an operand."""
+    """Groups of checks that weigh no more in all, by the name of the first."""
     groups, room, known = [], 0, set()
     for check in sorted(checks, key=by_text):
         if weight(check, known) > room:
@@ -497,7 +529,7 @@ def grouped(checks, most):
         room -= weight(check, known)
         known |= set(check.texts)
         groups[-1].append(check)
-    return {group[0].case["id"].replace("_", "·"): group for group in groups}
+    return {group[0].case["id"]: group for group in groups}
 
 
 def dealt(groups, name):
@@ -584,8 +616,9 @@ def main():
     cases = [case for case in cases if case["id"].startswith(tuple(options.only or [""]))]
     checks, skipped, disagreeing = ([], {}, []) if options.self_test else sort_out(cases)
 
+    in_scratch("definitions")
     clear()
-    modules = copy_definitions()
+    modules = needed_modules()
     crates = dealt(grouped(checks, TOGETHER), "trial")
     refused = run({**crates, "wrong": tests}, modules)
     tested = self_tested(tests, refused.pop("wrong") or {})

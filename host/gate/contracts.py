@@ -13,13 +13,10 @@ sys.dont_write_bytecode = True
 from sources import functions_of, skip
 from tally import ROOT, report
 
-BINDERS = re.compile(r'\s*λ\s*([^.]*)\.')
-
-
 def clauses(head, word):
     """The texts of the clauses of one kind."""
     found = []
-    for m in re.finditer(r'\b%s\b[^{]*\{' % word, head):
+    for m in re.finditer(r'\b%s\b\*?(?:\s+\w+)?\s*\{' % word, head):
         found.append(head[m.end():skip(head, m.end() - 1, '{', '}') - 1])
     return found
 
@@ -32,19 +29,13 @@ def parameters(head):
 
 
 def names(promise, name):
-    """The promise names this: by itself, not as a field or as a part of a longer name."""
-    return re.search(r"(?<![\w.′·])(?<![\w′]-)«?%s»?(?!-?[\w′·])" % re.escape(name), promise)
+    """The promise names this: by itself, not as a field or as a part of a longer name; and of what is lent, not only what it was."""
+    return re.search(r"(?<![\w.'◌])«?%s»?(?![\w'◌]|\.old\b)" % re.escape(name), promise)
 
 
 def promises(head):
     """The texts of the `ensures` that name the result or a parameter."""
-    for clause in clauses(head, 'ensures'):
-        bound = BINDERS.match(clause)
-        said = clause[bound.end():] if bound else clause
-        result = re.search(r'(?:\([^()]*\)|\S+)\s*$', bound.group(1)) if bound else None  # the last binder
-        result_names = [name for name in re.findall(r'[^\s(),]+', result.group(0)) if name != '_'] if result else []
-        if any(names(said, name) for name in result_names + parameters(head)):
-            yield said
+    return [said for said in clauses(head, 'ensures') if any(names(said, name) for name in ['result', *parameters(head)])]
 
 
 def faults(text):
@@ -70,23 +61,24 @@ SAMPLES = [
     ('pub fn f(x: u8) -> u8 { x }', ['no promise']),
     ('pub const fn f(x: u8) -> u8 { x }', ['no promise']),
     ('pub unsafe fn f(x: u8) -> u8 { x }', ['no promise']),
-    ('#[no_mangle]\npub const  unsafe extern\t"C" fn f(x: u8) -> u8 { x }', ['no promise']),
+    ('#[unsafe(no_mangle)]\npub const  unsafe extern\t"C" fn f(x: u8) -> u8 { x }', ['no promise']),
     ('fn f(x: u8) -> u8 { x }', []),
-    ('#[cfg(y: u8)] pub fn f(x: u8) -> u8\n    ensures { ⌜ y ≡ 1 ⌝ }\n{ x }', ['no promise']),
-    ('pub fn f(x: u8) -> u8\n    ensures { λ r. ⌜ r ≡ x ⌝ }\n{ x }', [None]),
-    ('pub const fn f() -> u8\n    ensures { λ r. ⌜ r ≡ 1 ⌝ }\n{ 1 }', [None]),
-    ('pub fn f() -> (u8, u8)\n    ensures { λ (a, b). ⌜ b ≡ 1 ⌝ }\n{ (1, 1) }', [None]),
-    ('pub fn f(x: u8) -> u8\n    ensures { ⌜ Unit ⌝ }\n{ x }', ['no promise']),
-    ('pub fn f(x: u8) -> u8\n    ensures { λ r. ⌜ Unit ⌝ }\n{ x }', ['no promise']),
-    ('pub fn f(x: u8) -> u8\n    ensures { λ α r. ⌜ α .x ≡ x′ ⌝ }\n{ x }', ['no promise']),
-    ('pub fn f(x: u8) -> u8\n    ensures { ⌜ Unit ⌝ }\n    ensures named { λ r. do ⌜ r ≡ (← ⟦g(x)⟧ .entry) ⌝ }\n{ x }', [None]),
-    ('pub fn f(&self)\n    ensures { λ _. ⌜ self .at ≡ 0 ⌝ }\n{ }', [None]),
-    ('pub extern "C" fn f(x: u8) -> u8\n    requires { ⌜ T ⌝ }\n    ensures { λ r. ⌜ r ≡ x ⌝ }\n{ x }', ['a C entry with a requires']),
-    ('pub extern\n    "C"  fn f(x: u8) -> u8\n    requires { ⌜ T ⌝ }\n    ensures { λ r. ⌜ r ≡ x ⌝ }\n{ x }', ['a C entry with a requires']),
-    ('pub fn f(x: u8) -> u8\n    requires { ⌜ x ≡ 1 ⌝ }\n    ensures { λ r. ⌜ r ≡ x ⌝ }\n{ x }', [None]),
-    ('pub fn f(a: &mut [u8], n: u8)\n    ensures { ⌜ n ≡ 0 ⌝ }\n{ }', ['nothing promised of `a`']),
-    ('pub fn f(a: &mut [u8])\n    ensures { ⌜ now a ≡ b ⌝ }\n{ }', [None]),
-    ('pub fn f(a_b: &mut u8)\n    ensures { ⌜ now («a_b» .exit) ≡ 1 ⌝ }\n{ }', [None]),
+    ('#[cfg(y: u8)] pub fn f(x: u8) -> u8\n    ensures { y ≡ 1 }\n{ x }', ['no promise']),
+    ('pub fn f(x: u8) -> u8\n    ensures { result ≡ x }\n{ x }', [None]),
+    ('pub const fn f() -> u8\n    ensures { result ≡ 1 }\n{ 1 }', [None]),
+    ('pub fn f() -> (u8, u8)\n    ensures { result.1 ≡ 1 }\n{ (1, 1) }', [None]),
+    ('pub fn f(x: u8) -> u8\n    ensures { ⊤ }\n{ x }', ['no promise']),
+    ("pub fn f(x: u8) -> u8\n    ensures { a.x ≡ x' }\n{ x }", ['no promise']),
+    ('pub fn f(x: u8) -> u8\n    ensures { ⊤ }\n    ensures named { result ≡ g 1 }\n{ x }', [None]),
+    ('pub fn f(x: u8) -> u8\n    ensures* named { ⌜ result ≡ 1 ⌝ }\n{ x }', [None]),
+    ('pub fn f(&self)\n    ensures { self.now.at ≡ 0 }\n{ }', [None]),
+    ('pub extern "C" fn f(x: u8) -> u8\n    requires { x ≡ 1 }\n    ensures { result ≡ x }\n{ x }', ['a C entry with a requires']),
+    ('pub extern\n    "C"  fn f(x: u8) -> u8\n    requires low { x ≡ 1 }\n    ensures { result ≡ x }\n{ x }', ['a C entry with a requires']),
+    ('pub fn f(x: u8) -> u8\n    requires { x ≡ 1 }\n    ensures { result ≡ x }\n{ x }', [None]),
+    ('pub fn f(a: &mut [u8], n: u8)\n    ensures { n ≡ 0 }\n{ }', ['nothing promised of `a`']),
+    ('pub fn f(a: &mut [u8], n: u8)\n    ensures { length a.old ≡ n }\n{ }', ['nothing promised of `a`']),
+    ('pub fn f(a: &mut [u8])\n    ensures { a.new ≡ b }\n{ }', [None]),
+    ('pub fn f(a_b: &mut u8)\n    ensures { «a_b».new ≡ 1 }\n{ }', [None]),
 ]
 
 

@@ -2,8 +2,9 @@
 
 A file crates/CRATE/must-fail/*.edit holds wrong programs, each under a heading `== LABEL`, with comments, a line
 `refused-by: NAME ..` and replacements: `file:`, `old:` and `new:` lines, where a `file:` holds for all pairs after it.
-A name of `refused-by` is a law, or a need of a function's proof as FOLDER:NEED, where FOLDER is that of its Proof.antt
-under proofs/. Functions that call one another have one folder +A+B, and their needs begin with the function's name.
+A name of `refused-by` is a law, or a goal of a function's proof as FOLDER:GOAL, where FOLDER is that of its files under
+proofs/: modules, type and name, as `view/take:returns`. Functions that call one another share a folder +NAME, by their
+`#[cycle(NAME)]`; their goals stand there as `run/+walk:step-returns`, after the function's name.
 """
 import dataclasses
 import re
@@ -50,11 +51,14 @@ def edits(crate):
         yield file, programs_of(file.read_text(encoding='utf-8'))
 
 
-def function_of(refuser):
-    """The function whose need this is, as its path; None of a law."""
-    folder, colon, need = refuser.rpartition(':')
+def function_of(refuser, listed=()):
+    """The function whose goal this is, of those listed, as its path; None of a law."""
+    folder, colon, goal = refuser.partition(':')
     if not colon:
         return None
     module, slash, name = folder.rpartition('/')
-    members = [m for m in name.split('+')[1:] if need.startswith(m.replace('_', '-') + '-')]
-    return module + slash + max(members, key=len, default=name)
+    if not name.startswith('+'):
+        return folder
+    goal = '-%s-' % goal.replace('::', '-')
+    owners = [f.path for f in listed if f.cycle == name[1:] and f.path.startswith(module + slash) and '-%s-' % f.path.split('/')[-1] in goal]
+    return max(owners, key=lambda path: len(path.split('/')[-1]), default=folder)

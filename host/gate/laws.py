@@ -1,4 +1,4 @@
-"""What the laws of a crate's specs rest on, found as text: the declarations that a law names, and those that these name in turn.
+"""What the laws of a crate rest on, in its specs and its lemmas, found as text: the declarations that a law names, and those that these name in turn.
 
 A declaration is a paragraph that begins at the margin; a block of several (`mutual`, `module`, a record) counts as one. A
 word of it is looked up among the declarations of its own file and the names that the file imports from its crate. A local
@@ -9,20 +9,21 @@ import re
 
 MODIFIERS = {'pub', 'abbrev', 'unfoldable', 'mutual', 'data', 'record', 'module', 'infix', 'infixl', 'infixr'}
 BLOCK = re.compile(r'(?:(?:pub|abbrev|unfoldable) )*(data|record|mutual|module)\b')
-IMPORT = re.compile(r'^(?:(?:unfoldable|pub) )*use Rattle·\w+·specs\.specs\.([\w.-]+?)(?:\.\{([^}]*)\}| as (\S+))?$', re.M)
-OWN_IMPORT = re.compile(r'^(?:(?:unfoldable|pub) )*use Rattle·\w+·specs\..*$', re.M)
+IMPORT = re.compile(r"^(?:(?:unfoldable|pub) )*use Rattle\.(\w+)\.((?:specs|proofs)\.[\w.']+?)(?:\.\{([^}]*)\}| as (\S+))?$", re.M)
+OWN_IMPORT = r'^(?:(?:unfoldable|pub) )*use Rattle\.%s\..*$'
 LINE_OF_USE = re.compile(r'^(?:(?:unfoldable|pub) )*(?:use|mod) .*$', re.M)
 WORDS = re.compile(r'[^\s(){}\[\],;]+')
+OF_FUNCTIONS = ('Invariants.antt', 'Answers.antt', 'Proof.antt')
 BOUND = {'do': ('>>=', '>>')}  # what a word stands for without naming it
 
 
 def spellings(name):
     """A name, and the parts of an operator."""
-    return {name, *(part for part in name.split('_') if part)}
+    return {name, *(part for part in name.split('◌') if part)}
 
 
 def file_of(module):
-    return 'specs/%s.antt' % module.replace('.', '/')
+    return module.replace('.', '/') + '.antt'
 
 
 def blanked(pattern, text):
@@ -50,19 +51,20 @@ class Declaration:
 
 
 class Specs:
-    """The declarations of a crate's specs: a text for each file, as `specs/Laws/Rows.antt`."""
+    """The declarations of a crate's specs and lemmas: a text for each file, as `specs/Laws/Rows.antt`."""
 
-    def __init__(self, texts):
+    def __init__(self, texts, crate):
         self.texts = texts
         self.declarations = []
         self.imports = {}
         for file, text in texts.items():
             text = blanked(re.compile(r' *--.*'), text)
-            unread = [line for line in OWN_IMPORT.findall(text) if not IMPORT.match(line.rstrip())]
+            unread = [line for line in re.findall(OWN_IMPORT % crate, text, re.M) if not IMPORT.match(line.rstrip())]
             if unread:
                 raise ValueError('%s: what this imports cannot be told: %s' % (file, unread[0]))
             self.imports[file] = [
-                (file_of(module), names, alias or not names and module.split('.')[-1]) for module, names, alias in IMPORT.findall(text)]
+                (file_of(module), names, alias or not names and module.split('.')[-1])
+                for owner, module, names, alias in IMPORT.findall(text) if owner == crate]
             starts = [0] + [found.end() for found in re.finditer(r'\n *\n(?=\S)', text)] + [len(text)]
             self.declarations += [Declaration(file, start, text[start:end]) for start, end in zip(starts, starts[1:])]
 
@@ -84,10 +86,12 @@ class Specs:
             found |= self.named(declaration.file, word)
             first, dot, last = word.rpartition('.')
             if dot:
-                whole = re.match(r'Rattle·\w+·specs\.specs\.(.+)', first)
+                whole = re.match(r'Rattle\.\w+\.((?:specs|proofs)\..+)', first)
                 found |= self.named(file_of(whole.group(1)), last) if whole else set()
-                found |= {d for d in self.declarations if last in d.fields}
-                found |= self.named(declaration.file, first) if first else set()
+                parts = word.split('.')
+                found |= {d for d in self.declarations if d.fields & set(parts[1:])}
+                for many in range(1, len(parts)):
+                    found |= self.named(declaration.file, '.'.join(parts[:many]))
         return found
 
     def rests_on(self, law):
@@ -116,4 +120,6 @@ class Specs:
 
 
 def specs_of(crate):
-    return Specs({str(path.relative_to(crate)): path.read_text(encoding='utf-8') for path in sorted((crate / 'specs').rglob('*.antt'))})
+    """Those of a crate's folder; in proofs/ all files but those of the functions."""
+    own = [path for part in ('specs', 'proofs') for path in sorted((crate / part).rglob('*.antt')) if path.name not in OF_FUNCTIONS]
+    return Specs({str(path.relative_to(crate)): path.read_text(encoding='utf-8') for path in own}, crate.name)

@@ -1,22 +1,34 @@
 #!/usr/bin/env python3
-"""Checks why each wrong program was refused. Runs after `rt ci`, which leaves target/must-fail/CRATE/FILE/.log.
+"""Checks why each wrong program was refused.
+
+    must_fail_reasons.py PRINTED           by what `rt ci` or `rt must-fail` printed, kept in the file PRINTED
+    must_fail_reasons.py --whole [CRATE[/FILE.edit] ..]
+                                           by all that `rt check` prints of each edit, or of those named, tried once more
+                                           on a copy of the repository outside the checkout
 
 edits.py has the form of an edit. Each wrong program says what is false then, what refuses it, and argues it or has a
-witness. All that it names in `refused-by` must be refused by an error of its own in the log, and no error may be about
-names, paths, layout or parsing: such an edit would only make the proofs unfit, and show nothing. Several may share a
+witness. rt tries an edit's file as a whole, and prints its first error alone: that has to be a refusal, by one of those
+that the file's wrong programs name in `refused-by`, and not about names, paths, layout or parsing: such an edit would
+only make the proofs unfit, and show nothing. With --whole all errors are held to that, and all that a wrong program
+names must have refused it. Several may share a
 file, and so a check, if the functions that refuse one see nothing of what the others change: its own body and contract, the
 constants that it names and the contracts of the functions that it calls are all that a function sees of its crate's code.
 Edits of definitions may share one if no law that refuses one rests on what the others change (laws.py). An edit of anything
-else, as a type, stands alone. Every public function has two wrong programs that are refused by its own needs. The last line is 'N passed, M failed': tests of this script on samples, and one for each wrong program,
+else, as a type, stands alone. Every public function has two wrong programs that are refused by its own goals. The last line is 'N passed, M failed': tests of this script on samples, and one for each edit's file, each wrong program,
 each public function, and each source, of which every function must have been seen; and one that no two wrong programs
 have one label.
 """
+import multiprocessing
+import os
 import re
+import shutil
+import subprocess
 import sys
 
 sys.dont_write_bytecode = True
 from edits import Program, edits, function_of, programs_of
 from laws import Specs, specs_of
+from scratch import scratch
 from sources import functions, functions_of, without_comments
 from tally import ROOT, report
 
@@ -25,7 +37,15 @@ FUNCTION = re.compile(r'\bfn\s+\w')
 ANY_ERROR = re.compile(r'^\S+: error.*(?:\n[ \t].*)*', re.M)  # a long message goes on in indented lines
 OWN_ERROR = re.compile(r'^(\S+): error: `([^`]+)`: (.*)$', re.S)
 CODE = re.compile(r'`(?!mod`)[^`]*`')  # but for the word `mod`
-OF_FUNCTION = re.compile(r'/proofs/(\S+)/Proof\.antt(?::\d+)*$')
+OF_FUNCTION = re.compile(r'(?:^|/)proofs/(\S+)/(?:Answers|Invariants|Proof)\.antt(?::\d+)*$')
+# An open goal, by the line of its function; and all of a function for which no answers are written.
+OPEN_GOAL = re.compile(r'^note: (?:\./)?(src/\S+?\.rt):(\d+):\d+: it is not proved that [^`\n]*\(`([^`\n]*)(`?)', re.M)
+NO_ANSWERS = re.compile(r'^fn \S+: [^\n]*\bexpected answers in (?:\./)?proofs/(\S+)/Answers\.antt; `search` did not prove ((?:`[^`\n]+`(?:, )?)+)', re.M)
+# What rt says of an edit's file.
+OF_EDIT = re.compile(r'^(?:rt: )?must-fail (\w+/\S+\.edit): (.*)$', re.M)
+REFUSED = 'refused, as it must be'
+ONLY_NAMES = 'only because a proof file names what the edit took away'
+PARTS = ('src', 'specs', 'proofs')
 AFTER_ANOTHER = 'was not admitted'
 REMARK = 'not in scope here, so what is shown'  # of a type that is printed, and no error
 CONSTANT = re.compile(r'^[ \t]*(?:pub\s+)?const\s+(\w+)\b.*?;$', re.M | re.S)
@@ -33,11 +53,30 @@ ADDED_IMPORTS = re.compile(r'(?: ghost use [^;]*;)+')
 NO_FACT = ('not in scope', 'can be named from here', 'has no field', 'parse', 'layout', 'already a name', '`mod` line')
 
 
-# ---- what the log says
+# ---- what rt says
 
-def refused_in(printed):
-    """The declarations that a log refuses for a fact, and None; or what is wrong with one of its errors."""
-    refused = set()
+def refuser_of(name, listed):
+    """A name of `refused-by` so that two of them can be compared: the function and its goal; of a law no function."""
+    return function_of(name, listed), name.partition(':')[2] or name
+
+
+def spelled(refuser):
+    return ':'.join(word for word in refuser if word)
+
+
+def open_goals(printed, listed):
+    """The goals that are told to be open, as `refuser_of`; a goal's name may be cut short, and has then … at its end."""
+    for file, line, goal, end in OPEN_GOAL.findall(printed):
+        owner = [f.path for f in listed if f.file == file and f.lines[0] <= int(line) <= f.lines[1]]
+        yield (owner[0] if owner else file), goal + ('' if end else '…')
+    for folder, goals in NO_ANSWERS.findall(printed):
+        for goal in re.findall('`([^`]+)`', goals):
+            yield refuser_of('%s:%s' % (folder, goal), listed)
+
+
+def refused_in(printed, listed):
+    """What a log refuses for a fact, as `refuser_of`, and None; or what is wrong with one of its errors."""
+    refused = set(open_goals(printed, listed))
     for error in ANY_ERROR.findall(printed):
         own = OWN_ERROR.match(error)
         if not own:
@@ -49,17 +88,79 @@ def refused_in(printed):
         if any(words in said for words in NO_FACT):
             return refused, 'an error about names or layout: %s' % error[:300]
         function = OF_FUNCTION.search(place)
-        refused.add('%s:%s' % (function.group(1), name) if function else name)
+        refused.add(refuser_of('%s:%s' % (function.group(1), name) if function else name, listed))
     return refused, None
 
 
-def unmet(stated, printed):
+def unmet(stated, printed, listed=()):
     """None if the printed log refuses each stated declaration for a fact, else what is wrong."""
-    refused, wrong = refused_in(printed)
+    refused, wrong = refused_in(printed, listed)
     if wrong:
         return wrong
-    missing = [name for name in stated if name not in refused]
-    return 'not refused by %s, but by %s' % (', '.join(missing), ', '.join(sorted(refused)) or 'nothing') if missing else None
+    missing = [name for name in stated if refuser_of(name, listed) not in refused]
+    by = ', '.join(sorted(map(spelled, refused))) or 'nothing'
+    return 'not refused by %s, but by %s' % (', '.join(missing), by) if missing else None
+
+
+def unfit_first(stated, said, listed=()):
+    """None if what rt says of an edit's file is a refusal whose first error is of one of the stated declarations, else what is wrong."""
+    if not said.startswith(REFUSED) or ONLY_NAMES in said:
+        return said[:300]
+    error = re.sub(r'^%s(?: \([^)]*\))?:? ?' % REFUSED, '', said)
+    refused, wrong = refused_in(error, listed)
+    if wrong:
+        return wrong
+    known = [refuser_of(name, listed) for name in stated]
+    for owner, goal in refused:
+        if (owner, goal) in known or goal.endswith('…') and any(o == owner and g.startswith(goal[:-1]) for o, g in known):
+            return None
+    return 'refused by %s, which no wrong program of it names' % (', '.join(map(spelled, refused)) or 'nothing that rt names: %s' % said[:200])
+
+
+# ---- the edits once more
+
+def copy_repository(to):
+    """A copy of what rt reads, but the must-fail edits."""
+    shutil.copy(ROOT / 'crates.txt', to / 'crates.txt')
+    for crate in sorted((ROOT / 'crates').iterdir()):
+        for part in PARTS:
+            shutil.rmtree(to / 'crates' / crate.name / part, ignore_errors=True)
+            if (crate / part).is_dir():
+                shutil.copytree(crate / part, to / 'crates' / crate.name / part)
+
+
+def tried_again(task):
+    """The edit's name, and what `rt check` prints of the crate with it; or None and why it cannot be applied."""
+    crate, file, programs = task
+    to = scratch('edits') / ('%d' % (multiprocessing.current_process()._identity or (0,))[0])
+    if not (to / 'crates.txt').exists():
+        to.mkdir(exist_ok=True)
+        copy_repository(to)
+    name, texts = '%s/%s' % (crate, file), {}
+    try:
+        for path, old, new in (change for program in programs for change in program.changes()):
+            place = to / 'crates' / crate / path
+            was = place.read_text(encoding='utf-8')
+            texts.setdefault(place, was)
+            if was.count(old) != 1:
+                return name, None, '%s has %r %d times' % (path, old, was.count(old))
+            place.write_text(was.replace(old, new), encoding='utf-8')
+        done = subprocess.run(['rt', 'check'], cwd=to / 'crates' / crate, stdin=subprocess.DEVNULL, stdout=subprocess.PIPE, stderr=subprocess.STDOUT, check=False)
+        return name, done.returncode, done.stdout.decode('utf-8', 'replace')
+    except OSError as error:
+        return name, None, str(error)
+    finally:
+        for place, was in texts.items():
+            place.write_text(was, encoding='utf-8')
+
+
+def all_tried(wanted):
+    """What each edit's file comes to by all errors of its check: its name, and what tried_again gives."""
+    shutil.rmtree(scratch('edits'), ignore_errors=True)
+    tasks = [(crate.name, file.name, programs) for crate in sorted(ROOT.glob('crates/*')) for file, programs in edits(crate)]
+    tasks = [task for task in tasks if not wanted or task[0] in wanted or '%s/%s' % task[:2] in wanted]
+    with multiprocessing.Pool(max(1, min(os.cpu_count() or 1, len(tasks)))) as pool:
+        yield from pool.imap_unordered(tried_again, tasks, chunksize=4)
 
 
 # ---- what an edit says
@@ -112,7 +213,7 @@ def seen_by(change, listed, texts):
 
 def unfit_functions(program, others, listed, texts):
     """None if no function that refuses a wrong program sees what the others change, else why it may not stand with them."""
-    own = {function_of(name) for name in program.refusers()}
+    own = {function_of(name, listed) for name in program.refusers()}
     if None in own or None in [seen_by(change, listed, texts) for change in program.changes()]:
         return 'it shares a file, and changes more than functions and their constants'
     for other in others:
@@ -150,13 +251,28 @@ def unfit_together(program, others, listed, texts, specs):
 
 # ---- the results
 
-def verdict(program, programs, log, listed, texts, specs):
+def verdict(program, programs, listed, texts, specs):
+    """None if a wrong program says what it should and fits its file, else what is wrong."""
     wrong = unsaid(program)
     if not wrong and len(programs) > 1:
         wrong = unfit_together(program, [p for p in programs if p is not program], listed, texts, specs)
-    if not wrong and not log.exists():
-        wrong = 'it has no log: run `rt ci` first'
-    return wrong or unmet(program.refusers(), log.read_text(encoding='utf-8'))
+    return wrong
+
+
+def of_file(programs, said, listed):
+    """The result of an edit's file by what rt printed of it."""
+    if said is None:
+        return 'rt printed nothing of it'
+    return unfit_first([name for program in programs for name in program.refusers()], said, listed)
+
+
+def of_whole(program, status, printed, listed):
+    """The result of a wrong program by all that the check of its file printed."""
+    if status is None:
+        return printed
+    if status == 0:
+        return 'it is not refused'
+    return unmet(program.refusers(), printed, listed)
 
 
 def unseen(file, text, listed):
@@ -170,8 +286,8 @@ def repeated(labels):
     return sorted({label for label in labels if labels.count(label) > 1})
 
 
-def of_crate(crate):
-    """The results of one crate."""
+def of_crate(crate, said, whole):
+    """The results of one crate, by what rt said of its edits' files, or by what their checks printed as a whole."""
     listed = list(functions(crate))
     for source in sorted((crate / 'src').rglob('*.rt')):
         file = str(source.relative_to(crate))
@@ -180,10 +296,15 @@ def of_crate(crate):
     specs = specs_of(crate)
     counts = {f.path: 0 for f in listed if f.public}
     for file, programs in edits(crate):
-        log = ROOT / 'target' / 'must-fail' / crate.name / file.stem / '.log'
+        name = '%s/%s' % (crate.name, file.name)
+        if said is not None:
+            yield str(file.relative_to(ROOT)), of_file(programs, said.get(name), listed)
         for program in programs:
-            yield '%s: %s' % (file.relative_to(ROOT), program.label), verdict(program, programs, log, listed, texts, specs)
-            for path in {function_of(name) for name in program.refusers()} & set(counts):
+            fault = verdict(program, programs, listed, texts, specs)
+            if not fault and name in whole:
+                fault = of_whole(program, *whole[name], listed)
+            yield '%s: %s' % (file.relative_to(ROOT), program.label), fault
+            for path in {function_of(name, listed) for name in program.refusers()} & set(counts):
                 counts[path] += 1
     for path, count in counts.items():
         yield '%s: %s' % (crate.name, path), None if count >= WANTED else 'it has %d wrong programs, not %d' % (count, WANTED)
@@ -202,11 +323,34 @@ LOGS = [
     (['law'], 'a.antt:1:2: error: `law`: a `mod` line is missing\n', False),
     (['law'], 'a.antt:1:2: error: `law`: the two differ\n  `x` is not in scope here, so what is shown does not paste back\n', True),
     (['law'], 'a.antt:1:2: error: `law`: the two differ: name it on an `unfold` line\n', True),
-    (['m/f:returns'], '/c/proofs/m/f/Proof.antt:1:2: error: `returns`: the two types differ\n', True),
-    (['m/f:returns'], '/c/proofs/m/g/Proof.antt:1:2: error: `returns`: the two types differ\n', False),
-    (['returns'], '/c/proofs/m/f/Proof.antt:1:2: error: `returns`: the two types differ\n', False),
+    (['m/f:returns'], './proofs/m/f/Answers.antt:1:2: error: `returns`: the two types differ\n', True),
+    (['m/f:returns'], './proofs/m/g/Answers.antt:1:2: error: `returns`: the two types differ\n', False),
+    (['returns'], './proofs/m/f/Answers.antt:1:2: error: `returns`: the two types differ\n', False),
+    (['g:returns-then'], 'note: src/lib.rt:18:1: it is not proved that what the function ensures holds (`returns-then`); the facts\n', True),
+    (['g:returns'], 'note: src/lib.rt:18:1: it is not proved that what the function ensures holds (`returns-then`); the facts\n', False),
+    (['f:returns-then'], 'note: src/lib.rt:18:1: it is not proved that what the function ensures holds (`returns-then`); the facts\n', False),
+    (['g:a', 'g:b-1'], 'fn c::g: no proof: expected answers in ./proofs/g/Answers.antt; `search` did not prove `a`, `b-1`\n', True),
+    (['g:a', 'g:c'], 'fn c::g: no proof: expected answers in ./proofs/g/Answers.antt; `search` did not prove `a`, `b-1`\n', False),
 ]
-OWNERS = [('law', None), ('f:returns', 'f'), ('m/f:returns-2', 'm/f'), ('m/+a+a_b:a-b-returns', 'm/a_b'), ('+a+a_b:a-returns', 'a')]
+FIRST = [  # what rt says of a file whose wrong programs name f:returns, g:returns-then and law
+    ('refused, as it must be: ./proofs/f/Answers.antt:1:2: error: `returns`: the two types differ', True),
+    ('refused, as it must be: ./proofs/f/Answers.antt:1:2: error: `exits`: the two types differ', False),
+    ('refused, as it must be: ./proofs/L.antt:1:2: error: `law`: the two types differ only where one has `a', True),
+    ('refused, as it must be: ./proofs/L.antt:1:2: error: `law`: `x` is not in scope', False),
+    ('refused, as it must be: ./proofs/L.antt:1:2: error: `other`: the two types differ', False),
+    ('refused, as it must be: note: src/lib.rt:18:1: it is not proved that it holds (`returns-then`); the', True),
+    ('refused, as it must be: note: src/lib.rt:18:1: it is not proved that it holds (`returns-th', True),
+    ('refused, as it must be: note: src/lib.rt:18:1: it is not proved that it holds (`returns-el', False),
+    ('refused, as it must be: note: src/lib.rt:9:1: it is not proved that it holds (`returns-then`); the', False),
+    ('refused, as it must be (only by a limit of the prover, which gave no verdict): ./proofs/L.antt:1:2: error: `law`: steps', True),
+    ('refused, as it must be (only because a proof file names what the edit took away, so this says little): ./proofs/L.antt:1:2: error: `law`: x', False),
+    ('refused, as it must be', False),
+    ('NOT REFUSED: the crate is still proved with this edit', False),
+    ("BAD EDIT: an 'old:' text is in src/lib.rt 0 times, and not once", False),
+]
+OWNERS = [('law', None), ('f:returns', 'f'), ('m/f:returns-2', 'm/f'), ('m/+w:a-b-returns', 'm/a'), ('m/+w:a_b-returns', 'm/a_b'),
+          ('m/+w:decreases-a_b', 'm/a_b'), ('+w:m::a-returns', 'm/a'), ('m/+v:a-returns', 'm/+v')]
+CYCLIC = '#[cycle(w)]\npub fn a() {}\n#[cycle(w)]\npub fn a_b() {}\nfn c() {}\n'
 SOURCE = '''ghost use a.{b};
 use other::k;
 const LIMIT: u8 = 1;
@@ -214,19 +358,19 @@ const SHARED: u8 = 1;
 const LEAST: u8 = 1;
 const MOST: u8 = LEAST;
 fn f(x: u8) -> u8
-    ensures { λ r. ⌜ r ≡ 2 + x ⌝ }
+    ensures { result ≡ 2 + x }
 {
     if x == b'}' { return 2; }
     if x == LIMIT { return 1; }
     x & SHARED
 }
 pub fn g(x: u8) -> u8
-    ensures { λ r. ⌜ r ≡ 0 + x ⌝ }
+    ensures { result ≡ 0 + x }
 {
     k(f(x)) & SHARED
 }
 fn h() -> u8
-    ensures { λ r. ⌜ r ≡ 3 ⌝ }
+    ensures { result ≡ 3 }
 {
     3
 }
@@ -245,44 +389,48 @@ TOGETHER = [  # the texts of the wrong programs of one file, and whether each ma
     (G + 'new: x\n', LIMIT.replace('LIMIT', 'SHARED'), False),
     (F.replace('f:returns', 'g:returns') + 'new: return 2\n', F + 'new: return 2\n', True),
     (F + 'new: return 2\n', F.replace('f:returns', 'g:returns') + 'new: return 2\n', False),
-    (G + 'new: x\n', F.replace('return 1', 'r ≡ 2 + x') + 'new: r ≡ r\n', False),
-    (H, F.replace('return 1', 'r ≡ 2 + x') + 'new: r ≡ r\n', True),
-    (F + 'new: return 2\n', G.replace('k(f(x))', 'r ≡ 0 + x') + 'new: r ≡ r\n', True),
-    (G.replace('k(f(x))', 'ghost use a.{b};') + 'new: ghost use a.{b}; ghost use a.{c};\nold: r ≡ 0 + x\nnew: c\n', H, True),
-    (G.replace('k(f(x))', 'ghost use a.{b};') + 'new: ghost use a.{c};\nold: r ≡ 0 + x\nnew: c\n', H, False),
+    (G + 'new: x\n', F.replace('return 1', 'result ≡ 2 + x') + 'new: result ≡ result\n', False),
+    (H, F.replace('return 1', 'result ≡ 2 + x') + 'new: result ≡ result\n', True),
+    (F + 'new: return 2\n', G.replace('k(f(x))', 'result ≡ 0 + x') + 'new: result ≡ result\n', True),
+    (G.replace('k(f(x))', 'ghost use a.{b};') + 'new: ghost use a.{b}; ghost use a.{c};\nold: result ≡ 0 + x\nnew: c\n', H, True),
+    (G.replace('k(f(x))', 'ghost use a.{b};') + 'new: ghost use a.{c};\nold: result ≡ 0 + x\nnew: c\n', H, False),
     (F.replace('f:returns', 'law') + 'new: return 2\n', H, False),
 ]
 SPECS = Specs({
-    'specs/A.antt': 'pub f : ℕ\nf = 1\n\n-- of f\npub g : ℕ\ng = 2\n\npub record R : Type where\n  pub field : ℕ\n\npub _>>=_ : ℕ\n_>>=_ = 3\n',
-    'specs/B.antt': 'unfoldable pub use Rattle·c·specs.specs.A.{f as h}\nuse Rattle·c·specs.specs.A as a\nuse Rattle·c·specs.specs.A\n\n'
-                    'pub k : ℕ\nk = a.g\n\npub m : ℕ\nm = A.f\n\npub w : ℕ\nw = Rattle·c·specs.specs.A.g\n',
-    'specs/Laws.antt': 'use Rattle·c·specs.specs.A.{f, g, _>>=_}\nuse Rattle·c·specs.specs.B.{h, k, m, w}\n\nlaw-f : f ≡ 1\nlaw-f = refl\n\n'
-                       'law-g : g ≡ 2\nlaw-g = refl\n\nlaw-h : 1 ≡ h\nlaw-h = refl\n\nlaw-k : 2 ≡ k\nlaw-k = refl\n\nlaw-m : 1 ≡ m\nlaw-m = refl\n\nlaw-w : 2 ≡ w\nlaw-w = refl\n\nlaw-r : ℕ\nlaw-r = x .field\n\n'
-                       'law-do : ℕ\nlaw-do = do\n  f\n\nlaw-both : ℕ\nlaw-both = lemma (law-f, law-g)\n',
-})
+    'specs/A.antt': 'pub f : ℕ\nf = 1\n\n-- of f\npub g : ℕ\ng = 2\n\npub record R : Type where\n  pub field : ℕ\n\npub ◌>>=◌ : ℕ\n◌>>=◌ = 3\n',
+    'specs/B.antt': 'unfoldable pub use Rattle.c.specs.A.{f as h}\nuse Rattle.c.specs.A as a\nuse Rattle.c.specs.A\n\n'
+                    'pub k : ℕ\nk = a.g\n\npub m : ℕ\nm = A.f\n\npub w : ℕ\nw = Rattle.c.specs.A.g\n',
+    'proofs/Laws.antt': 'use Rattle.c.specs.A.{f, g, ◌>>=◌}\nuse Rattle.c.specs.B.{h, k, m, w}\n\nlaw_f : f ≡ 1\nlaw_f = refl\n\n'
+                       'law_g : g ≡ 2\nlaw_g = refl\n\nlaw_h : 1 ≡ h\nlaw_h = refl\n\nlaw_k : 2 ≡ k\nlaw_k = refl\n\nlaw_m : 1 ≡ m\nlaw_m = refl\n\nlaw_w : 2 ≡ w\nlaw_w = refl\n\nlaw_r : ℕ\nlaw_r = x.field\n\n'
+                       'law_do : ℕ\nlaw_do = do\n  f\n\nlaw_both : ℕ\nlaw_both = lemma (law_f, law_g)\n',
+}, 'c')
 RESTS = [  # a law, and which of these it rests on: f, g, field, >>=
-    ('law-f', 'f'), ('law-g', 'g'), ('law-h', 'f'), ('law-k', 'g'), ('law-m', 'f'), ('law-w', 'g'), ('law-r', 'field'), ('law-do', 'f >>='), ('law-both', 'f g'), ('law-none', ''),
+    ('law_f', 'f'), ('law_g', 'g'), ('law_h', 'f'), ('law_k', 'g'), ('law_m', 'f'), ('law_w', 'g'), ('law_r', 'field'), ('law_do', 'f >>='), ('law_both', 'f g'), ('law_none', ''),
 ]
 OF_F, OF_G = 'file: specs/A.antt\nold: f = 1\nnew: f = 2\n', 'file: specs/A.antt\nold: g = 2\nnew: g = 1\n'
 LAWS_TOGETHER = [  # as TOGETHER, of edits of definitions
-    ('refused-by: law-f\n' + OF_F, 'refused-by: law-g\n' + OF_G, True),
-    ('refused-by: law-g\n' + OF_G, 'refused-by: law-f\n' + OF_F, True),
-    ('refused-by: law-both\n' + OF_F, 'refused-by: law-g\n' + OF_G, False),
-    ('refused-by: law-f\n' + OF_F, 'refused-by: law-f\n' + OF_F, False),
-    ('refused-by: law-f\n' + OF_G, 'refused-by: law-g\n' + OF_G, False),
-    ('refused-by: law-f\n' + OF_F, 'refused-by: law-g\nfile: src/lib.rt\nold: return 1\nnew: return 2\n', False),
-    ('refused-by: law-k\nfile: specs/B.antt\nold: use Rattle·c·specs.specs.A.{f as h}\nnew: use Rattle·c·specs.specs.A.{g, f as h}\n' + OF_G, 'refused-by: law-f\n' + OF_F, True),
-    ('refused-by: law-k\nfile: specs/B.antt\nold: use Rattle·c·specs.specs.A as\nnew: use Rattle·c·specs.specs.C as\n' + OF_G, 'refused-by: law-f\n' + OF_F, False),
+    ('refused-by: law_f\n' + OF_F, 'refused-by: law_g\n' + OF_G, True),
+    ('refused-by: law_g\n' + OF_G, 'refused-by: law_f\n' + OF_F, True),
+    ('refused-by: law_both\n' + OF_F, 'refused-by: law_g\n' + OF_G, False),
+    ('refused-by: law_f\n' + OF_F, 'refused-by: law_f\n' + OF_F, False),
+    ('refused-by: law_f\n' + OF_G, 'refused-by: law_g\n' + OF_G, False),
+    ('refused-by: law_f\n' + OF_F, 'refused-by: law_g\nfile: src/lib.rt\nold: return 1\nnew: return 2\n', False),
+    ('refused-by: law_k\nfile: specs/B.antt\nold: use Rattle.c.specs.A.{f as h}\nnew: use Rattle.c.specs.A.{g, f as h}\n' + OF_G, 'refused-by: law_f\n' + OF_F, True),
+    ('refused-by: law_k\nfile: specs/B.antt\nold: use Rattle.c.specs.A as\nnew: use Rattle.c.specs.C as\n' + OF_G, 'refused-by: law_f\n' + OF_F, False),
 ]
 
 
 def samples():
     """The results of the tests of this script."""
+    listed = list(functions_of(SOURCE, 'src/lib.rt'))
     for stated, printed, good in LOGS:
-        yield None if (unmet(stated, printed) is None) == good else '%r is judged wrongly' % printed
+        yield None if (unmet(stated, printed, listed) is None) == good else '%r is judged wrongly' % printed
+    for said, good in FIRST:
+        yield None if (unfit_first(['f:returns', 'g:returns-then', 'law'], said, listed) is None) == good else '%r is judged wrongly' % said
+    cyclic = list(functions_of(CYCLIC, 'src/m.rt', ('m',)))
     for refuser, owner in OWNERS:
-        yield None if function_of(refuser) == owner else '%s is of %r' % (refuser, function_of(refuser))
-    listed, texts = list(functions_of(SOURCE, 'src/lib.rt')), {'src/lib.rt': without_comments(SOURCE)}
+        yield None if function_of(refuser, cyclic) == owner else '%s is of %r' % (refuser, function_of(refuser, cyclic))
+    texts = {'src/lib.rt': without_comments(SOURCE)}
     yield None if [(f.path, f.public) for f in listed] == [('f', False), ('g', True), ('h', False)] else 'the functions are %r' % listed
     for text, shown in (('pub fn h() {}\n', False), ('pub extern "C" fn h() {}\n', True)):
         inner = list(functions_of(text, 'src/m.rt', ('m',), False))
@@ -304,14 +452,21 @@ def samples():
     yield None if unsaid(Program('', SAID + F)) and not unsaid(Program('a', SAID + F)) else 'what is said is judged wrongly'
 
 
-def results():
+def results(words):
     for fault in samples():
         yield 'sample', fault
     crates = sorted(ROOT.glob('crates/*'))
     labels = [program.label for crate in crates for _, programs in edits(crate) for program in programs]
     yield 'labels', ', '.join(repeated(labels)) or None
+    said, whole = None, {}
+    if words and words[0] == '--whole':
+        whole = {name: (status, printed) for name, status, printed in all_tried(words[1:])}
+    elif words:
+        with open(words[0], encoding='utf-8', errors='replace') as file:
+            said = dict(OF_EDIT.findall(re.sub(r'^\d+ (?=rt: )', '', file.read(), flags=re.M)))
     for crate in crates:
-        yield from of_crate(crate)
+        yield from of_crate(crate, said, whole)
 
 
-report(results())
+if __name__ == '__main__':
+    report(results(sys.argv[1:]))

@@ -1,9 +1,9 @@
 #!/usr/bin/env python3
 """Checks that what the documents name is there.
 
-In every document but the papers as given, a code span such as `specs/Laws/Limit.antt: same-end` names
+In every document but the papers as given, a code span such as `proofs/Laws/Limit.antt: same_end` names
 declarations of a file under crates/model, and one such as `syntax/specs/Read.antt: read` those of a file under another
-crate (`specs/` may be left out); a link names a file or a folder, beside the document or from the root, and
+crate (without `specs/` or `proofs/` it is a file of one of the two); a link names a file or a folder, beside the document or from the root, and
 so does a code span that looks like a path of the repository; a word such as (*step_not_taken*) in brackets names a
 wrong program by its heading in a must-fail edit. The last line is 'N passed, M failed': a test of this script on a sample, and one for each name.
 """
@@ -15,7 +15,8 @@ from edits import edits
 from tally import ROOT, report
 
 CRATES = ROOT / 'crates'
-SPAN = re.compile(r'`(?:([a-z]\w*)/)?(specs/[\w/]+\.antt|[A-Z]\w+(?:/[A-Z]\w+)?\.antt): ([^`]+)`')
+SPAN = re.compile(r'`(?:([a-z]\w*)/)?((?:specs|proofs)/[\w/]+\.antt|[A-Z]\w+(?:/[A-Z]\w+)?\.antt): ([^`]+)`')
+PARTS = ('specs/', 'proofs/')
 FOLDERS = '|'.join(sorted(p.name for p in ROOT.iterdir() if p.is_dir() and p.name not in ('.git', 'target')))
 PATH = re.compile(r'`((?:%s)/[\w./-]+)`' % FOLDERS.replace('.', r'\.'))
 LINK = re.compile(r'\]\((?!https?:)([^)#]+)(?:#[^)]*)?\)')
@@ -68,12 +69,11 @@ def declares(source, name):
 def declared(text):
     """(name, whether it is there) for each declaration that a document names."""
     for m in SPAN.finditer(text):
-        crate = m.group(1) if m.group(1) and m.group(1) != 'specs' else 'model'
-        file = m.group(2) if m.group(2).startswith('specs/') else 'specs/' + m.group(2)
-        path = CRATES / crate / file
-        source = path.read_text(encoding='utf-8') if path.exists() else ''
+        crate = m.group(1) if m.group(1) and m.group(1) not in ('specs', 'proofs') else 'model'
+        files = [m.group(2)] if m.group(2).startswith(PARTS) else [part + m.group(2) for part in PARTS]
+        sources = [(CRATES / crate / file).read_text(encoding='utf-8') for file in files if (CRATES / crate / file).exists()]
         for name in m.group(3).split(','):
-            yield '%s/%s: %s' % (crate, file, name.strip()), declares(source, name.strip())
+            yield '%s/%s: %s' % (crate, m.group(2), name.strip()), any(declares(source, name.strip()) for source in sources)
 
 
 def files(document, text):
@@ -116,12 +116,12 @@ unfoldable mutual
   pub data Tree : Type 0 where
     leaf : Tree
 
-infixl 10 _>>=_
-unfoldable abbrev pub _>>=_ : ℕ
-last-law :
+infixl 10 ◌>>=◌
+unfoldable abbrev pub ◌>>=◌ : ℕ
+last_law :
     (far : ℕ) → ℕ
 '''
-STANDING = 'Kind yes no other Pair first law even Tree leaf _>>=_ last-law'
+STANDING = 'Kind yes no other Pair first law even Tree leaf ◌>>=◌ last_law'
 ABSENT = 'gone inner maybe bound left hidden _ given n m k next said helper a half far pub data Type where mutual infixl Bool kind'
 
 
@@ -142,4 +142,5 @@ def results():
             yield document.relative_to(ROOT), None if there else 'there is no %s' % name
 
 
-report(results())
+if __name__ == "__main__":
+    report(results())

@@ -3,7 +3,8 @@ import dataclasses
 import re
 
 HEAD = re.compile(r'^[ \t]*(?:#\[[^\]]*\]\s*)*(?P<pub>pub\s+)?(?:const\s+)?(?:unsafe\s+)?(?P<extern>extern\s*(?:"[^"]*"\s*)?)?\bfn\s+(?P<name>\w+)', re.M)
-CLAUSE = re.compile(r'\b(requires|ensures|ghost)(\s+\w+)?\s*$')
+CLAUSE = re.compile(r'\b(?:(?:requires|ensures)\b\*?(?:\s+\w+)?|ghost\s+\w+\s*:?)\s*$')
+CYCLE = re.compile(r'#\[cycle\((\w+)\)\]')
 IMPL = re.compile(r'^impl(?:<[^>]*>)?\s+(\w+)[^{]*\{', re.M)
 MODULE = re.compile(r'^(pub\s+)?mod\s+(\w+)\s*;', re.M)
 
@@ -17,6 +18,8 @@ class Function:
     start: int  # where its name stands
     head: str  # signature and clauses
     body: tuple  # where its braces open and end
+    lines: tuple  # the first and the last line of all this, its attributes too
+    cycle: str  # the name that it shares with the functions that it and they call in turn, or nothing
 
     def code(self, texts):
         """Its body, of the sources' texts by their files."""
@@ -71,7 +74,11 @@ def functions_of(text, file, modules=(), public=True):
         path = '/'.join([*modules, *owner, m.group('name')])
         extern = bool(m.group('extern'))
         shown = bool(m.group('pub')) and (public or extern)
-        yield Function(path, file, shown, extern, m.start('name'), text[m.start('name'):opens], (opens, skip(text, opens, '{', '}')))
+        ends = skip(text, opens, '{', '}')
+        cycle = CYCLE.search(m.group(0))
+        lines = (text.count('\n', 0, m.start()) + 1, text.count('\n', 0, ends) + 1)
+        head = text[m.start('name'):opens]
+        yield Function(path, file, shown, extern, m.start('name'), head, (opens, ends), lines, cycle.group(1) if cycle else '')
 
 
 def functions(crate):

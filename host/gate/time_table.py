@@ -3,12 +3,13 @@
 
     time_table.py watch SEEN                    passes on what rt prints, and notes in the file SEEN after how many seconds each
                                                 line came
-    time_table.py show SEEN TESTS CLOCK SECONDS prints the table: proofs and must-fail edits, from SEEN; host tests, from TESTS, a
-                                                line `SECONDS TITLE` for each, which took CLOCK seconds; and the whole
+    time_table.py show SEEN TESTS CLOCK SECONDS prints the table: rt ci, from SEEN; host tests, from TESTS, a line
+                                                `SECONDS TITLE` for each, which took CLOCK seconds; and the whole
     time_table.py test                          tests of this script; the last line is 'N passed, M failed'
 
-A part's time on the clock is less than its items' added up, since several run side by side; and as rt starts more than
-there are processors, an item has more seconds than it would have alone. The ten dearest items of each part are listed.
+rt ci does not say how long a crate or an edit took, and tries several side by side. So of what it proved in this run the table
+tells when it was done, the last ten; of its edits how many there are, with what was done when the last was tried. A host test has
+its own time; their time on the clock is less than these added up, since they too run side by side.
 """
 import re
 import sys
@@ -18,14 +19,12 @@ sys.dont_write_bytecode = True
 from tally import report
 
 DEAREST = 10
-PROOFS, EDITS = 'proofs', 'must-fail edits'
 
-# What rt says of something that took time: the part that it counts to, the form of the line, and the item's name.
-FORMS = [
-    (PROOFS, re.compile(r'rt: (\w+) (?:proved|NOT PROVED) \((?:exit \d+, )?(\d+) s\)$'), '%s'),
-    (PROOFS, re.compile(r'rt: (\w+) (?:ran\b|proved, and its run FAILED).*\((\d+) s\)$'), '%s, its run'),
-    (EDITS, re.compile(r'rt: must-fail (\S+): .*?(\d+) s\)$'), '%s'),
-]
+# What rt says of a crate, its tests, an edit, and what it ran.
+PROVED = re.compile(r'rt: (\w+(?:: its tests are)?) (?:proved|NOT PROVED)\b')
+KEPT = re.compile(r'rt: \w+ is kept: ')
+EDIT = re.compile(r'rt: must-fail (\S+): ')
+RAN = re.compile(r'rt: (\w+)(?: ran\b|: its tests (?:passed|FAILED)|.*: the program )')
 
 
 def watch(path):
@@ -43,26 +42,20 @@ def timed(lines):
     return [(int(seconds), text) for seconds, _, text in (line.partition(' ') for line in lines)]
 
 
-def item(text):
-    """The part, the seconds and the name of what a line of rt tells of; None if it tells of nothing that took time."""
-    for part, form, name in FORMS:
-        found = form.match(text)
-        if found:
-            return part, int(found.group(2)), name % found.group(1)
-    return None
-
-
-def parts(seen):
-    """The items of the proofs and of the edits, and the seconds of each on the clock: those that passed before its lines came."""
-    items, clock, last = {PROOFS: [], EDITS: []}, {PROOFS: 0, EDITS: 0}, 0
+def of_rt(seen):
+    """The lines of the table for what rt ci printed."""
+    proved, kept, edits, runs, end = [], 0, 0, 0, 0
     for at, text in seen:
-        told = item(text)
-        if told:
-            part, seconds, name = told
-            items[part].append((seconds, name))
-            clock[part] += at - last
-            last = at
-    return items, clock
+        proved += [(at, found.group(1).replace(' are', '')) for found in [PROVED.match(text)] if found]
+        kept += bool(KEPT.match(text))
+        edits += bool(EDIT.match(text))
+        runs += bool(RAN.match(text))
+        if PROVED.match(text) or KEPT.match(text) or EDIT.match(text):
+            end = at
+    yield 'proofs and must-fail edits: %d s on the clock (%d proved now, %d kept; %d edits)' % (end, len(proved), kept, edits)
+    for at, name in proved[-DEAREST:]:
+        yield '%7d s  on the clock: %s' % (at, name)
+    yield 'programs and tests that rt ci ran: %d s on the clock (%d)' % (max([at for at, _ in seen], default=0) - end, runs)
 
 
 def shown(title, unit, clock, items):
@@ -74,34 +67,33 @@ def shown(title, unit, clock, items):
 
 def table(seen, tests, clock_of_tests, whole):
     """The lines of the table."""
-    items, clock = parts(seen)
-    yield from shown(PROOFS, 'crates and runs', clock[PROOFS], items[PROOFS])
-    yield from shown(EDITS, 'files', clock[EDITS], items[EDITS])
+    yield from of_rt(seen)
     yield from shown('host tests', 'tests', clock_of_tests, tests)
     yield 'the whole gate: %d min %d s' % divmod(whole, 60)
 
 
 SEEN = '''3 fn model::f: proved
-7 rt: model proved (7 s)
-11 rt: area NOT PROVED (exit 1, 4 s)
-11 rt: bytes NOT PROVED: its dependency area is not proved
-11 rt: names proved (unchanged since it was last proved)
-20 rt: must-fail model/sum_unlimited: refused, as it must be (first at specs/Laws/Runs.antt:67:35; 8 s)
-26 rt: must-fail area/programs_1: NOT REFUSED: the crate is still proved with this edit (6 s)
-27 rt: must-fail area/programs_2: BAD EDIT: an 'old:' text is not in src/lib.rt
-28 rt: admit ran as nobody, and wrote what its file 'stdout' has (1 s)
-29 rt: vectors proved, and its run FAILED (2 s)
+6 == model
+7 rt: model proved
+9 rt: area NOT PROVED
+10 rt: octets NOT PROVED: its library area failed
+11 rt: names is kept: an earlier run on this machine proved the same files over the same libraries
+12 rt: vectors: its tests are proved
+13 rt: names: trying its must-fail edits (1)
+20 rt: must-fail model/sum_unlimited.edit: refused, as it must be: ./proofs/Laws/Runs.antt:67:35: error: `law`: no
+26 rt: must-fail area/programs_1.edit: NOT REFUSED: the crate is still proved with this edit
+27 rt: must-fail area/programs_2.edit: BAD EDIT: an 'old:' text is in src/lib.rt 0 times, and not once
+28 rt: admit ran, and wrote what its file stdout has
+29 rt: vectors: its tests passed
 29 rt: FAILED: area area/programs_1
 30 2 passed, 2 failed'''
 TESTS = ['%d test %d' % (n, n) for n in range(1, 13)]
-SHOWN = '''proofs: 14 s on the clock, 14 s added up (4 crates and runs)
-      7 s  model
-      4 s  area
-      2 s  vectors, its run
-      1 s  admit, its run
-must-fail edits: 15 s on the clock, 14 s added up (2 files)
-      8 s  model/sum_unlimited
-      6 s  area/programs_1
+SHOWN = '''proofs and must-fail edits: 27 s on the clock (4 proved now, 1 kept; 3 edits)
+      7 s  on the clock: model
+      9 s  on the clock: area
+     10 s  on the clock: octets
+     12 s  on the clock: vectors: its tests
+programs and tests that rt ci ran: 3 s on the clock (2)
 host tests: 60 s on the clock, 78 s added up (12 tests)
      12 s  test 12
      11 s  test 11'''
@@ -111,7 +103,7 @@ def results():
     shown_lines = list(table(timed(SEEN.splitlines()), timed(TESTS), 60, 100))
     for at, line in enumerate(SHOWN.splitlines()):
         yield 'sample', None if shown_lines[at] == line else '%r, not %r' % (shown_lines[at], line)
-    yield 'sample', None if len(shown_lines) == 4 + 4 + 2 + DEAREST else '%d lines' % len(shown_lines)
+    yield 'sample', None if len(shown_lines) == 5 + 1 + 2 + DEAREST else '%d lines' % len(shown_lines)
     yield 'sample', None if shown_lines[-1] == 'the whole gate: 1 min 40 s' else shown_lines[-1]
     yield 'sample', None if len(list(table([], [], 0, 0))) == 4 else 'nothing seen is not shown as nothing'
 

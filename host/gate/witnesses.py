@@ -7,7 +7,7 @@ null where these are left out. They say what the edited definitions give: antt a
 the definitions with the edit. At least one of an edit's cases is one where the reference gives something else; and
 over the definitions as they are, exactly the cases where it does are refused. (The reference does not read texts: a
 case of the entry `read` is always to be refused there.) A wrong program that no answer shows has a line `argued: ..`
-instead, which must_fail_reasons.py checks. Scratch repositories are in target/witnesses. The last line is 'N passed, M failed'.
+instead, which must_fail_reasons.py checks. The scratch repositories are outside the checkout (scratch.py). The last line is 'N passed, M failed'.
 """
 import json
 import multiprocessing
@@ -17,13 +17,13 @@ import sys
 
 sys.dont_write_bytecode = True
 from edits import edits
+from scratch import scratch
 from tally import ROOT, report
 
 sys.path[:0] = [str(ROOT / 'host' / 'definitions'), str(ROOT / 'host' / 'reference')]
 import test_reference
 import try_definitions
 
-SCRATCH = ROOT / 'target' / 'witnesses'
 CRATE = 'witnessed'
 JOBS = 2  # edits that are tried at once
 DEFAULTS = {'record': None, 'limit': try_definitions.PROGRAM_LIMIT, 'out': try_definitions.PROGRAM_ROOM}
@@ -59,13 +59,12 @@ def check_of(name, line):
 
 def checks_of(program):
     """The checks of a wrong program's witnesses; none if it is argued."""
-    # In antt a `_` in a name is the place of an operand.
-    return [check_of('%s-%d' % (program.label.replace('_', '·'), number), line) for number, line in enumerate(program.stated('witness'), 1)]
+    return [check_of('%s-%d' % (program.label, number), line) for number, line in enumerate(program.stated('witness'), 1)]
 
 
 def changes_of(program):
     """The replacements of a wrong program outside the laws."""
-    return [change for change in program.changes() if not change[0].startswith('specs/Laws')]
+    return [change for change in program.changes() if not change[0].startswith(('specs/Laws', 'proofs/'))]
 
 
 # ---- the runs
@@ -73,7 +72,8 @@ def changes_of(program):
 def apply(crate, changes):
     """Makes the changes in the copied definitions of a crate."""
     for file, old, new in changes:
-        path = try_definitions.SCRATCH / 'crates' / crate / file
+        path = try_definitions.SCRATCH / 'crates' / CRATE / try_definitions.place_of(crate, file)
+        old, new = try_definitions.moved(CRATE, old), try_definitions.moved(CRATE, new)
         if not path.is_file():
             raise Fault('%s is not among the definitions that the cases need' % file)
         text = path.read_text(encoding='utf-8')
@@ -85,20 +85,22 @@ def apply(crate, changes):
 def refused(task):
     """The names of the checks that are refused over the definitions with these changes, with what is said; or the Fault."""
     crate, label, changes, checks = task
-    try_definitions.SCRATCH = SCRATCH / crate / label
+    try_definitions.in_scratch('witnesses/%s/%s' % (crate, label))
     try_definitions.JOBS = 1
-    modules = try_definitions.copy_definitions()
+    try_definitions.clear()
+    modules = try_definitions.needed_modules()
+    try_definitions.copy_definitions(CRATE, modules)
     try:
         apply(crate, changes)
     except Fault as fault:
         return fault
     groups = {check.case['id']: [check] for check in checks}
-    try_definitions.write_crate(CRATE, groups, modules)
+    try_definitions.write_cases(CRATE, groups, modules)
     output = try_definitions.rt_check([CRATE])
     found = try_definitions.refusals(output, CRATE, groups)
     if found is None:
-        errors = [line for line in output.splitlines() if ': error: ' in line or 'NOT PROVED' in line]
-        return Fault('no verdict (target/witnesses/%s/%s/output.txt): %s' % (crate, label, ' '.join(errors[:1])[:300]))
+        errors = [line for line in output.splitlines() if ': error' in line or line.startswith(('rt: ', 'error'))]
+        return Fault('no verdict (%s/output.txt): %s' % (try_definitions.SCRATCH, ' '.join(errors[:1])[:300]))
     return found
 
 
@@ -128,7 +130,7 @@ def differs(check):
 
 
 def results():
-    shutil.rmtree(SCRATCH, ignore_errors=True)
+    shutil.rmtree(scratch('witnesses'), ignore_errors=True)
     names, tasks = [], []
     for crate, program in [(crate, program) for crate in (try_definitions.MODEL, try_definitions.SYNTAX)
                            for _, programs in edits(crate) for program in programs]:

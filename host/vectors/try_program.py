@@ -1,7 +1,7 @@
 #!/usr/bin/env python3
 """Runs the program `admit` on the cases of vectors/program.jsonl, each in a folder of its own, and compares what it prints.
 
-It runs target/bin/admit, which `rt check admit` builds, or the program that its argument names. The last line is
+It runs target/bin/admit, which `host/admit` builds, or the program that its argument names. The last line is
 'N passed, M failed'.
 """
 import json

@@ -14,6 +14,10 @@ use crate::evaluate::{cannot_run, judge};
 use crate::evaluate_checked::judge as judge_checked;
 use crate::settle::{settle_text, settle_work};
 use crate::told::yes_or_no;
+pub use crate::view::{
+    jehvrukam_view, jehvrukam_view_integer, jehvrukam_view_name, jehvrukam_view_part,
+    jehvrukam_view_string,
+};
 use json_reader::read;
 use pipeline::check::check_texts;
 use pipeline::fit::fit_texts;

@@ -1,5 +1,5 @@
 -- Operands: an operation with operands in an array is seen as it is shaped.
-use Rattle.std.specs.Prelude.{◌≡◌, Bool, true, false, ◌&&◌, cond, T as IsTrue, eqb, leb, ltb, ℤ, length}
+use Rattle.std.specs.Prelude.{◌≡◌, Bool, true, false, ◌&&◌, cond, T as IsSo, eqb, leb, ltb, ℤ, length}
 use Rattle.std.proofs.Math.Path.{refl, ap, subst}
 use Rattle.std.proofs.Common.{sym, ap₂, ◌∙◌, arith, lt-ltb, le-ltb, le-leb, eqb-true}
 use Rattle.std.proofs.Math.Option.{Option, none, some}
@@ -186,7 +186,7 @@ module _ {T B : Bytes} {vs : Values} {q : Rows} (name : Bytes) (m : Denotes T B 
 -- ---- bare integers and units
 -- What an integer stands for, and what no integer does.
 data IntegerAt (v : Value) (h : Node) : Type 0 where
-  integer_at : {z : ℤ} {n : ℕ} → h ≡ Integer n → as_integer v ≡ some z → IsTrue (within_limits z) → n ≡ biased z → IntegerAt v h
+  integer_at : {z : ℤ} {n : ℕ} → h ≡ Integer n → as_integer v ≡ some z → IsSo (within_limits z) → n ≡ biased z → IntegerAt v h
   other_at : as_integer v ≡ none → ((u : Option TimeUnit) (q : Rows) → plus_time_by h u q ≡ Seen.NotRule) → ((q : Rows) → extract_by h q ≡ Seen.NotRule) → IntegerAt v h
 
 -- ---- one rule and bare operands
@@ -311,7 +311,7 @@ module _ {T B : Bytes} where
       rw (y q) (shaped_none (e ∙ ap (extracted (shape a)) g ∙ bind_none (shape a)))
 
   plus_time_of_lem : {v a b c : Value} → Lists v (item a (item b (item c no_items))) → is_some (shape b) ≡ true → (q : Rows) (z : ℤ) {k : ℕ} → Denotes T B (array (item a no_items)) (Array (first_of q)) → suc (items_nesting (item a no_items)) ≤ nesting v
-      → IsTrue (within_limits z) → k ≡ biased z → (o : Option TimeUnit) → as_string c >>= unit_named ≡ o → shape v ≡ (shape a >>= λ r. o >>= λ u. some (apply (Operation.plus_time z u) (rule r no_rules))) → Shaped T B v (plus_time_of k o q)
+      → IsSo (within_limits z) → k ≡ biased z → (o : Option TimeUnit) → as_string c >>= unit_named ≡ o → shape v ≡ (shape a >>= λ r. o >>= λ u. some (apply (Operation.plus_time z u) (rule r no_rules))) → Shaped T B v (plus_time_of k o q)
   plus_time_of_lem {a = a} ls b q z m n w f none u e = shaped_none (e ∙ bind_none (shape a))
   plus_time_of_lem {c = c} ls b q z {k} m n w f (some u) x e = on_first ls (a_passing b (a_passing (unit_passes c x) all_passing)) q (Ops.PlusTime k u) (Operation.plus_time z u) m n (stands_plus_time refl w f) e
 
