@@ -32,6 +32,7 @@ fn first(q: Rows, context: Handle, s: State) -> Task
 }
 
 // The first operand of an operation on all its operands. Only an array may have none: its list is empty.
+#[tactic(auto, using(crate::proofs::Begun::no_operand))]
 fn first_argument(op: Op, q: Rows, context: Handle, s: State) -> Next
     requires { 1 ≤ s.deep }
     ensures { result ≡ first_argument op q context s }

@@ -68,6 +68,7 @@ fn after_guard(rule_table: &[u8], t: Task, value: Handle) -> Next
 }
 
 // 01: "operands one by one; the first falsy value, or the last value. An instant is 7 when met."
+#[tactic(auto, using(crate::proofs::Taken::conjunct_last, crate::proofs::Taken::conjunct_next))]
 fn after_conjunct(rule_table: &[u8], t: Task, count: usize, value: Handle) -> Next
     ensures { TakesByRule rule_table.now t (Frame.Conjunct count) value result }
 {

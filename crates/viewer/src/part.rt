@@ -27,6 +27,7 @@ fn end_of(place: usize, r: Row) -> usize
 }
 
 // The place after the value at a place, if its row is there and has the form, and it ends within a container's end; else 0. Also 0 where the place is 0.
+#[tactic(auto, using(crate::proofs::Walk::after_past, crate::proofs::Walk::after_end))]
 fn next(table: &[u8], end: usize, place: usize) -> usize
     ensures { result ≡ after table.now end place }
 {

@@ -19,6 +19,7 @@ pub enum Progress {
 }
 
 // A text that goes so far, unless that is too far.
+#[tactic(auto, using(crate::proofs::Pieces::within_stays), unfolding(model::specs::Limits::max_text_bytes))]
 fn up_to(at: usize, left: usize) -> Progress
     ensures { result ≡ within at left }
 {

@@ -14,4 +14,4 @@ pub overflow_add-top-2 : goal.overflow_add-top-2
 overflow_add-top-2 c = omega (arith, cells_below, c.requires.fits, c.requires.within)
 
 pub returns : goal.returns
-returns c = item_next c.in-Of.p (sym c.elements_of.ensures ∙ c.in-Of.is) c.head.result c.compound-over.result _ c.state.result c.operand-next.result c.tail.result c.requires (omega (arith, c.if-p-eq0.false)) c.head.ensures (two_puts _ _ c.head.result c.args.value c.put.ensures c.put-2.ensures) c.compound-over.ensures c.state.ensures c.operand-next.ensures c.tail.ensures
+returns c = item_next c.in-Of.p (sym c.elements_of.ensures ∙ c.in-Of.is) c.head.result c.compound-over.result _ c.state.result c.operand-next.result c.tail.result c.requires (omega arith) c.head.ensures (two_puts _ _ c.head.result c.args.value c.put.ensures c.put-2.ensures) c.compound-over.ensures c.state.ensures c.operand-next.ensures c.tail.ensures

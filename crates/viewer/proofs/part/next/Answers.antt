@@ -3,7 +3,7 @@ use native.Mathlib.Omega.{arith}
 use borrow.Author.Tests.{eq-eqb}
 use Rattle.model.proofs.Laws.Widths.{values_below}
 use Rattle.viewer.proofs.Seen.{told_behind}
-use Rattle.viewer.proofs.Walk.{after_none, after_past, after_end}
+use Rattle.viewer.proofs.Walk.{after_none}
 use Rattle.viewer.proofs.part.next.Goals as goal
 
 pub returns-then-place-eq0 : goal.returns-then-place-eq0
@@ -14,17 +14,7 @@ end_of-ends-requires c =
     let a = c.args in
     omega (arith, values_below, (told_behind a.table.now a.place _ (sym c.find_row.ensures ∙ c.in-Is.is)).few)
 
-pub returns-then-end-ends : goal.returns-then-end-ends
-returns-then-end-ends c =
-    let a = c.args in
-    after_past a.table.now a.end a.place _ c.if-place-eq0.false (sym c.find_row.ensures ∙ c.in-Is.is) (omega (arith, c.end_of-ends.ensures))
-
 pub returns-in-NotThere : goal.returns-in-NotThere
 returns-in-NotThere c =
     let a = c.args in
     after_none a.table.now a.end a.place c.if-place-eq0.false (sym c.find_row.ensures ∙ c.in-NotThere.is)
-
-pub returns-else-end-ends : goal.returns-else-end-ends
-returns-else-end-ends c =
-    let a = c.args in
-    c.end_of-ends.ensures ∙ after_end a.table.now a.end a.place _ c.if-place-eq0.false (sym c.find_row.ensures ∙ c.in-Is.is) (omega (arith, c.end_of-ends.ensures))

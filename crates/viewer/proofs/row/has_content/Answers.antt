@@ -1,5 +1,4 @@
 use mathlib.Core.Path.{ap, ◌∙◌}
-use native.Mathlib.Omega.{arith}
 use borrow.Author.Tests.{lt-ltb, le-ltb, eq-eqb, ne_eqb}
 use Rattle.viewer.specs.Form.{is_integer}
 use Rattle.viewer.proofs.Tests.{sum_zero}
@@ -23,12 +22,3 @@ returns-then-kind-eq-STRING_ROW c =
     rw (ne_eqb _ _ c.if-kind-eq0.false, le-ltb _ _ c.if-kind-lt-INTEGER_ROW.false, ne_eqb _ _ c.if-kind-eq-INTEGER_ROW.false, eq-eqb _ _ c.if-kind-eq-STRING_ROW.true)
     c.is_within.ensures
 
-pub returns-then-kind-le-OBJECT_ROW : goal.returns-then-kind-le-OBJECT_ROW
-returns-then-kind-le-OBJECT_ROW c =
-    rw
-    (ne_eqb _ _ c.if-kind-eq0.false, le-ltb _ _ c.if-kind-lt-INTEGER_ROW.false, ne_eqb _ _ c.if-kind-eq-INTEGER_ROW.false, ne_eqb _ _ c.if-kind-eq-STRING_ROW.false, lt-ltb c.args.r.kind 8 (omega (arith, c.if-kind-le-OBJECT_ROW.true)))
-    c.is_span.ensures
-
-pub returns : goal.returns
-returns c =
-    rw (ne_eqb _ _ c.if-kind-eq0.false, le-ltb _ _ c.if-kind-lt-INTEGER_ROW.false, ne_eqb _ _ c.if-kind-eq-INTEGER_ROW.false, ne_eqb _ _ c.if-kind-eq-STRING_ROW.false, le-ltb c.args.r.kind 8 (omega (arith, c.if-kind-le-OBJECT_ROW.false)))
