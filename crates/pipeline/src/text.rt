@@ -19,6 +19,7 @@ pub struct Stop {
 }
 
 // Whether a text's areas are below their stated sizes.
+#[tactic(auto, unfolding(model::specs::Limits::max_values, model::specs::Limits::max_text_bytes, syntax::specs::Layout::row_bytes, syntax::specs::Layout::entry_bytes))]
 pub fn is_short(table: &[u8], strings: &[u8]) -> bool
     ensures { result ≡ too_short table.now strings.now }
 {

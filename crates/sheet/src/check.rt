@@ -13,6 +13,7 @@ use table::node::{Node, Rows, name_at, node_at, tail};
 use table::string::bytes_of;
 
 // "Each name is a non-empty `var` path"
+#[tactic(auto, using(crate::proofs::Paths::no_name))]
 fn is_listed_path(text: &[u8]) -> bool
     ensures { result ≡ is_some (entry_path text.now) }
 {

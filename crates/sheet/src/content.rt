@@ -71,6 +71,7 @@ fn words(sheet_table: &[u8], sheet_strings: &[u8], q: Rows) -> Content
 }
 
 // The types of a content.
+#[tactic(auto, using(crate::proofs::Contents::words_content, crate::proofs::Contents::no_content))]
 pub fn types_in(sheet_table: &[u8], sheet_strings: &[u8], n: Node) -> Content
     ensures { Contains sheet_table.now sheet_strings.now n result }
 {
