@@ -24,6 +24,7 @@ pub struct Outcome {
 }
 
 // Whether the limit is above the largest, or there are not cells enough.
+#[tactic(auto, unfolding(model::specs::Limits::max_steps, model::specs::Limits::heap_cells, heap::specs::Cells::cell_bytes))]
 pub fn cannot_run(limit: u64, cells: &[u8]) -> bool
     ensures { result ≡ cannot_run limit cells.now }
 {

@@ -31,6 +31,7 @@ mod view;
 
 // Reads a text into a table of rows and a strings area.
 #[unsafe(no_mangle)]
+#[tactic(auto, using(crate::proofs::Reading::place_written, crate::proofs::Reading::place_left))]
 pub extern "C" fn jehvrukam_read(
     text: &[u8],
     table: &mut [u8],

@@ -1,5 +1,5 @@
 use Rattle.std.proofs.Common.{w64}
-use borrow.Author.Rules.{sfits_of}
+use borrow.Author.Rules.{rules, sfits_of}
 use mathlib.Core.Path.{refl, sym, ap, ◌∙◌}
 use mathlib.Core.Option.{some}
 use mir.Facts.{to_z-of_z}
@@ -17,5 +17,5 @@ returns-then-r-ne4 c =
 pub returns : goal.returns
 returns c =
     let a = c.args in
-    let e = to_z-of_z {w = w64} (sfits_of c.integer_of.type_inv) ∙ c.integer_of.ensures ∙ tells_integer a.table.now a.place _ (sym c.row_at.ensures ∙ c.in-Is.is) c.if-r-ne4.false in
-    tells_some integer_of c.row_at.ensures c.in-Is.is _ (an_integer c.in-Is.r c.if-r-ne4.false ∙ ap some (sym e))
+    let e = to_z-of_z {w = w64} (sfits_of c.integer_of.type_inv) ∙ c.integer_of.ensures ∙ tells_integer a.table.now a.place _ (sym c.row_at.ensures ∙ c.in-Is.is) (search rules) in
+    tells_some integer_of c.row_at.ensures c.in-Is.is _ (an_integer c.in-Is.r (search rules) ∙ ap some (sym e))

@@ -1,3 +1,4 @@
+use borrow.Author.Rules.{rules}
 use mathlib.Core.Path.{refl}
 use Rattle.viewer.specs.Answer.{string_of}
 use Rattle.jehvrukam.proofs.Viewing.{tells_none, tells_some, no_string, a_string}
@@ -12,4 +13,4 @@ returns-then-r-ne5 c =
 
 pub returns : goal.returns
 returns c =
-    tells_some string_of c.row_at.ensures c.in-Is.is _ (a_string c.in-Is.r c.if-r-ne5.false)
+    tells_some string_of c.row_at.ensures c.in-Is.is _ (a_string c.in-Is.r (search rules))
