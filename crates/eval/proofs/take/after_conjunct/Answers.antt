@@ -6,4 +6,3 @@ returns-in-Falsy c = conjunct_falsy c.truth_of.result c.truth_of.ensures c.in-Fa
 
 pub returns-in-Neither : goal.returns-in-Neither
 returns-in-Neither c = conjunct_neither c.truth_of.result c.truth_of.ensures c.in-Neither.is
-

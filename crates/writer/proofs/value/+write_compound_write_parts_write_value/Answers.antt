@@ -26,6 +26,9 @@ write_compound-overflow_add-end t c = record { fits = omega (arith, text_below, 
 pub write_compound-returns : goal.write_compound-returns
 write_compound-returns t c = compound_closes (areas c.args.rule_strings.now c.args.record_strings.now c.args.record_table.now c.args.cells.now) c.args.p c.args.deep c.args.left c.args.at (omega (arith, c.if-deep-eq0.false)) c.requires.1 c.args.output.now c.put_byte.new.output c.opening-open.result c.opening-open.ensures c.put_byte.ensures c.write_parts.result c.write_parts.ensures c.in-At.end c.in-At.l c.up_to.result c.in-At.is c.put_byte-2.ensures c.up_to.ensures
 
+pub write_parts-loop-rest-init : goal.write_parts-loop-rest-init
+write_parts-loop-rest-init t c = search rules
+
 pub write_parts-returns-in_default : goal.write_parts-returns-in_default
 write_parts-returns-in_default t c = parts_stop c.loop-rest.invariant (omega (arith, c.loop-rest-test.true)) c.put_front-start.ensures c.head.result c.head.ensures c.write_value.result c.write_value.ensures c.in_default.is
 
