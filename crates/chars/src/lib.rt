@@ -31,6 +31,7 @@ fn fault(number: usize, at: usize) -> Decoded
     Decoded::NoChars(Fault { number, at })
 }
 
+#[tactic(auto, using(crate::proofs::Tables::lead_tail))]
 fn lead_of(b: u8) -> Lead
     ensures { result ≡ lead_of b }
 {
