@@ -1,7 +1,8 @@
 -- Viewing: what an entry tells, from what the viewer answered; and a row of an integer that is told holds one.
-use mathlib.Core.Path.{◌≡◌, sym, ap, ◌∙◌}
+use mathlib.Core.Path.{◌≡◌, refl, sym, ap, ◌∙◌}
 use mathlib.Core.Option.{Option, none, some}
 use Prim.Native.Nat.{ℕ}
+use Rattle.std.specs.Prelude.{ℤ}
 use borrow.Author.Tests.{eq-eqb, ne_eqb}
 use Rattle.model.specs.Bytes.{Bytes}
 use Rattle.model.proofs.Laws.Logic.{T→true}
@@ -13,6 +14,8 @@ use Rattle.viewer.specs.Row.{row_count}
 use Rattle.viewer.specs.View.{row_seen}
 use Rattle.viewer.specs.Laws.Told.{told as seen-told, form_integer}
 use Rattle.table.specs.declared.row.Row.{Row}
+use Rattle.table.specs.declared.row.Span.{Span}
+use Rattle.viewer.specs.declared.row.RowAnswer.{RowAnswer}
 use Rattle.viewer.specs.declared.row.RowAnswer.TheVariants as rows
 use Rattle.jehvrukam.specs.Contract.{told, span}
 use Rattle.jehvrukam.specs.View.{told_or}
@@ -38,6 +41,14 @@ module _ (r : Row) where
 
   pub a_string : r.kind ≡ 5 → string_of (rows.Is r) ≡ some (span r.first r.second)
   a_string h = rw (eq-eqb r.kind 5 h)
+
+-- ---- what the entries tell of a row of another kind
+module _ {said : RowAnswer} (r : Row) (p : rows.Is r ≡ said) where
+  pub no_integer_told : (r.kind ≡ 4 → ⊥) → {n : ℤ} → told 1 n ≡ told_or n (integer_of said)
+  no_integer_told h = tells_none integer_of p refl (no_integer r h)
+
+  pub no_string_told : (r.kind ≡ 5 → ⊥) → {n : Span} → told 1 n ≡ told_or n (string_of said)
+  no_string_told h = tells_none string_of p refl (no_string r h)
 
 -- ---- a row of kind 4 that is told holds an integer
 pub tells_integer : (table : Bytes) (place : ℕ) (r : Row) → row_seen table place ≡ rows.Is r → r.kind ≡ 4 → integer_in r ≡ unbiased (joined r)

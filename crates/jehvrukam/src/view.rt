@@ -33,6 +33,7 @@ pub extern "C" fn jehvrukam_view_part(table: &[u8], place: u64, nth: u64, part: 
 }
 
 // The integer at a place.
+#[tactic(auto, using(crate::proofs::Viewing::no_integer_told))]
 #[unsafe(no_mangle)]
 pub extern "C" fn jehvrukam_view_integer(table: &[u8], place: u64, value: &mut i64) -> u32
     ensures { told result value.new ≡ view_integer_entry table.now place value.old }
@@ -48,6 +49,7 @@ pub extern "C" fn jehvrukam_view_integer(table: &[u8], place: u64, value: &mut i
 }
 
 // Where the string at a place lies in the strings area.
+#[tactic(auto, using(crate::proofs::Viewing::no_string_told))]
 #[unsafe(no_mangle)]
 pub extern "C" fn jehvrukam_view_string(
     table: &[u8],

@@ -4,15 +4,11 @@ use mathlib.Core.Path.{refl, sym, ap, ◌∙◌}
 use mathlib.Core.Option.{some}
 use mir.Facts.{to_z-of_z}
 use Rattle.viewer.specs.Answer.{integer_of}
-use Rattle.jehvrukam.proofs.Viewing.{tells_none, tells_some, no_integer, an_integer, tells_integer}
+use Rattle.jehvrukam.proofs.Viewing.{tells_none, tells_some, an_integer, tells_integer}
 use Rattle.jehvrukam.proofs.view.jehvrukam_view_integer.Goals as goal
 
 pub returns-in_default : goal.returns-in_default
 returns-in_default c = tells_none integer_of c.row_at.ensures c.in_default.is refl
-
-pub returns-then-r-ne4 : goal.returns-then-r-ne4
-returns-then-r-ne4 c =
-    tells_none integer_of c.row_at.ensures c.in-Is.is (no_integer c.in-Is.r c.if-r-ne4.true)
 
 pub returns : goal.returns
 returns c =

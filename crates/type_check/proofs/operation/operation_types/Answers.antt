@@ -3,17 +3,11 @@ use Rattle.type_check.proofs.operation.operation_types.Goals as goal
 pub returns-in-Array : goal.returns-in-Array
 returns-in-Array c = rw (c.in-Types.is, c.in-Array.is, c.array_types.ensures, c.all_types-all.ensures)
 
-pub returns-in-Equal : goal.returns-in-Equal
-returns-in-Equal c = rw (c.in-Types.is, c.in-Equal.is, c.passing.ensures, c.only.ensures, c.scalars.ensures, c.all_types-all.ensures)
-
 pub returns-in-MemberOf : goal.returns-in-MemberOf
 returns-in-MemberOf c = rw (c.in-Types.is, c.in-MemberOf.is, c.member_types.ensures)
 
 pub returns-in-Plus : goal.returns-in-Plus
 returns-in-Plus c = rw (c.in-Types.is, c.in-Plus.is, c.passing-in-Plus.ensures, c.only-in-Plus-2.ensures, c.only-in-Plus.ensures, c.all_types-all.ensures)
-
-pub returns-in-Not : goal.returns-in-Not
-returns-in-Not c = rw (c.in-Types.is, c.in-Not.is, c.passing-in-Not.ensures, c.only-in-Not.ensures, c.any_of_record.ensures, c.all_types-all.ensures)
 
 pub returns-in-DateOfBirth : goal.returns-in-DateOfBirth
 returns-in-DateOfBirth c = rw (c.in-Types.is, c.in-DateOfBirth.is, c.passing-in-DateOfBirth.ensures, c.only-in-DateOfBirth-2.ensures, c.only-in-DateOfBirth.ensures, c.all_types-all.ensures)

@@ -21,4 +21,3 @@ pub returns-then-kind-eq-STRING_ROW : goal.returns-then-kind-eq-STRING_ROW
 returns-then-kind-eq-STRING_ROW c =
     rw (ne_eqb _ _ c.if-kind-eq0.false, le-ltb _ _ c.if-kind-lt-INTEGER_ROW.false, ne_eqb _ _ c.if-kind-eq-INTEGER_ROW.false, eq-eqb _ _ c.if-kind-eq-STRING_ROW.true)
     c.is_within.ensures
-
