@@ -46,6 +46,8 @@ OF_EDIT = re.compile(r'^(?:rt: )?must-fail (\w+/\S+\.edit): (.*)$', re.M)
 REFUSED = 'refused, as it must be'
 ONLY_NAMES = 'only because a proof file names what the edit took away'
 PARTS = ('src', 'specs', 'proofs')
+# A law whose proof no longer holds, where rt says no more than that.
+REJECTED = re.compile(r'error: `([^`]+)` is not admitted: rejected$')
 AFTER_ANOTHER = 'was not admitted'
 REMARK = 'not in scope here, so what is shown'  # of a type that is printed, and no error
 CONSTANT = re.compile(r'^[ \t]*(?:pub\s+)?const\s+(\w+)\b.*?;$', re.M | re.S)
@@ -78,7 +80,7 @@ def refused_in(printed, listed):
     """What a log refuses for a fact, as `refuser_of`, and None; or what is wrong with one of its errors."""
     refused = set(open_goals(printed, listed))
     for error in ANY_ERROR.findall(printed):
-        own = OWN_ERROR.match(error)
+        own = OWN_ERROR.match(REJECTED.sub(r'error: `\1`: rejected', error))
         if not own:
             return refused, 'an error that names no declaration: %s' % error[:200]
         place, name, message = own.groups()
