@@ -411,8 +411,12 @@ def copy_definitions(name, modules):
         put(name, place_of(crate, f"specs/{module}.antt"), moved(name, source(crate, module)))
     for crate, above in DEFINING.items():
         put(name, f"specs/{above}.antt", "".join(f"pub mod {module}\n" for owner, module in modules if owner == crate))
-    declared = [(ROOT / "crates" / crate / "src" / "lib.rt").read_text(encoding="utf-8") for crate in DECLARING]
-    put(name, "src/lib.rt", "#![tactic(auto)]\n\n" + "".join(OF_ALL.sub("", text) for text in declared))
+    sources = [file for crate in DECLARING for file in sorted((ROOT / "crates" / crate / "src").glob("*.rt"))]
+    texts = {file: file.read_text(encoding="utf-8") for file in sources}
+    put(name, "src/lib.rt", "#![tactic(auto)]\n\n" + "".join(OF_ALL.sub("", text) for file, text in texts.items() if file.name == "lib.rt"))
+    for file, text in texts.items():
+        if file.name != "lib.rt":
+            put(name, f"src/{file.name}", moved(name, text))
     put(name, "specs/Lib.antt", "".join(f"pub mod {above}\n" for above in [*DEFINING.values(), "Seen"]))
 
 

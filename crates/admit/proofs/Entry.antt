@@ -11,7 +11,8 @@ use Rattle.model.specs.Bytes.{Bytes}
 use Rattle.model.specs.Judgement.{Judged, done, refuses, judged_number, Answer}
 use Rattle.model.specs.Limits.{max_steps}
 use Rattle.model.proofs.Main.{steps_within_limit}
-use Rattle.model.specs.Refusal.{Refusal, number}
+use Rattle.model.specs.Refusal.{number}
+use Rattle.model.specs.declared.refusal.Refusal.{Refusal}
 use Rattle.syntax.specs.Layout.{padded, table_bytes, strings_bytes}
 use Rattle.pipeline.specs.Stage.{Stage, passed, refused}
 use Rattle.pipeline.specs.Texts.{TextsRead, evaluate_stage}

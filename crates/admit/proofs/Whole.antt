@@ -10,7 +10,12 @@ use lib.ListN.{length, take, length-append}
 use lib.Seq.{length-take-le}
 use Rattle.model.specs.Bytes.{Bytes, ascii}
 use Rattle.model.specs.Judgement.{Judged, done, refuses, judged_number, Answer}
-use Rattle.model.specs.Refusal.{Refusal, invalid_argument, reading, not_rule, evaluating, answer_too_large, output_too_short, not_accepted, not_sheet, number, not_json, repeated_name, lone_surrogate, bad_number, too_large, wrong_kind, bad_date, out_of_range, fault, out_of_steps}
+use Rattle.model.specs.Refusal.{number}
+use Rattle.model.specs.declared.refusal.ReadFault.TheVariants.{NotJson, RepeatedName, LoneSurrogate, BadNumber, TooLarge}
+use Rattle.model.specs.declared.refusal.Fault.TheVariants.{WrongKind, BadDate, OutOfRange}
+use Rattle.model.specs.declared.refusal.EvalFault.TheVariants.{Operation, OutOfSteps}
+use Rattle.model.specs.declared.refusal.Refusal.{Refusal}
+use Rattle.model.specs.declared.refusal.Refusal.TheVariants.{InvalidArgument, Reading, NotRule, Evaluating, AnswerTooLarge, OutputTooShort, NotAccepted, NotSheet}
 use Rattle.model.specs.Writing.{decimal}
 use Rattle.print.specs.Contract.{Put}
 use Rattle.print.specs.Laws.{put_then, decimal_20}
@@ -24,21 +29,21 @@ use Rattle.admit.proofs.Lines.{put_begins}
 -- ---- numbers
 -- A refusal's number is one of 1 to 14.
 number_from_1 : (e : Refusal) → (1 ≤ number e) × (number e ≤ 14)
-number_from_1 invalid_argument = (omega arith, omega arith)
-number_from_1 (reading not_json) = (omega arith, omega arith)
-number_from_1 (reading repeated_name) = (omega arith, omega arith)
-number_from_1 (reading lone_surrogate) = (omega arith, omega arith)
-number_from_1 (reading bad_number) = (omega arith, omega arith)
-number_from_1 (reading too_large) = (omega arith, omega arith)
-number_from_1 not_rule = (omega arith, omega arith)
-number_from_1 (evaluating (fault wrong_kind)) = (omega arith, omega arith)
-number_from_1 (evaluating (fault bad_date)) = (omega arith, omega arith)
-number_from_1 (evaluating (fault out_of_range)) = (omega arith, omega arith)
-number_from_1 (evaluating out_of_steps) = (omega arith, omega arith)
-number_from_1 answer_too_large = (omega arith, omega arith)
-number_from_1 output_too_short = (omega arith, omega arith)
-number_from_1 not_accepted = (omega arith, omega arith)
-number_from_1 not_sheet = (omega arith, omega arith)
+number_from_1 InvalidArgument = (omega arith, omega arith)
+number_from_1 (Reading NotJson) = (omega arith, omega arith)
+number_from_1 (Reading RepeatedName) = (omega arith, omega arith)
+number_from_1 (Reading LoneSurrogate) = (omega arith, omega arith)
+number_from_1 (Reading BadNumber) = (omega arith, omega arith)
+number_from_1 (Reading TooLarge) = (omega arith, omega arith)
+number_from_1 NotRule = (omega arith, omega arith)
+number_from_1 (Evaluating (Operation WrongKind)) = (omega arith, omega arith)
+number_from_1 (Evaluating (Operation BadDate)) = (omega arith, omega arith)
+number_from_1 (Evaluating (Operation OutOfRange)) = (omega arith, omega arith)
+number_from_1 (Evaluating OutOfSteps) = (omega arith, omega arith)
+number_from_1 AnswerTooLarge = (omega arith, omega arith)
+number_from_1 OutputTooShort = (omega arith, omega arith)
+number_from_1 NotAccepted = (omega arith, omega arith)
+number_from_1 NotSheet = (omega arith, omega arith)
 
 number_to_14 : (j : Judged Bytes) → judged_number j ≤ 14
 number_to_14 (done text) = omega arith

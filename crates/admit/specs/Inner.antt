@@ -34,7 +34,3 @@ pub record Near (at : ℕ) (word text : Bytes) : Type 0 where
 pub record Begins (text : Bytes) (size : ℕ) (bytes : Bytes) : Type 0 where
   pub within : size ≤ length bytes
   pub part : take size bytes ≡ text
-
--- So many bytes stand at the start of the buffer. The second part follows from the first, and spares a caller's `&buffer[..n]` a proof file.
-abbrev pub Counts : ℕ → Bytes → Type 0
-Counts n bytes = (n ≤ length bytes) × (n ≡ length (take n bytes))

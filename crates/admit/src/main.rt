@@ -8,16 +8,16 @@ ghost use Rattle.model.specs.Writing.{decimal};
 ghost use Rattle.print.specs.Contract.{Put};
 ghost use Rattle.admit.specs.Limits.{step_limit, output_bytes};
 ghost use Rattle.admit.specs.Printed.{answer_to, line, printed_for};
-ghost use Rattle.admit.specs.Inner.{Answers, result_by, Near, Begins, Counts};
+ghost use Rattle.admit.specs.Inner.{Answers, result_by, Near, Begins};
 
+use files::read_file;
 use heap::cell::CELL_BYTES;
 use jehvrukam::jehvrukam_evaluate;
 use model::{HEAP_CELLS, MAX_TEXT_BYTES};
 use print::decimal::put_decimal;
 use print::put::{put_byte, put_bytes};
-use std::io::Read;
+use std::io;
 use std::rt::Files;
-use std::{fs, io};
 use syntax::{STRINGS_BYTES, TABLE_BYTES};
 
 // The program's own limits, as specs/Limits.antt has them: they stay where the model's are raised.
@@ -33,7 +33,7 @@ const CELLS_BYTES: usize = HEAP_CELLS * CELL_BYTES;
 // Room for the largest answer and, in 64 bytes, for what else the two lines have.
 const REPORT_BYTES: usize = OUTPUT_BYTES + 64;
 
-// A refusal's number, or 0; the steps; the length of the answer's text.
+// As the entry for C tells it: a refusal's number, or 0; the steps; the length of the answer's text.
 #[derive(Drop)]
 struct Outcome {
     refusal: u32,
@@ -138,7 +138,7 @@ fn put_result(out: &mut [u8], refusal: u32, text: &[u8]) -> usize
     if refusal == 0 {
         return put_line(out, 0, b"answer ", text);
     }
-    put_number_line(out, 0, b"refused ", refusal as u64)
+    put_number_line(out, 0, b"refused ", u64::from(refusal))
 }
 
 // What is printed, at the start of `out`; its length.
@@ -148,37 +148,11 @@ fn report(rule: &[u8], record: &[u8], out: &mut [u8]) -> usize
 {
     let mut output = [0u8; OUTPUT_BYTES];
     let o = evaluate(rule, record, &mut output);
-    let size = o.size;
-    let end = put_result(out, o.refusal, &output[..size]);
+    let end = put_result(out, o.refusal, &output[..o.size]);
     put_number_line(out, end, b"steps ", o.steps)
 }
 
 // ---- files
-
-// Reads until the buffer is full, the input ends or a read fails; how many bytes were put at the start of the buffer.
-fn read_full(reader: &mut impl Read, buffer: &mut [u8]) -> usize
-    ensures { Counts result buffer.new }
-{
-    let mut done: usize = 0;
-    while done < buffer.len() {
-        match reader.read(&mut buffer[done..]) {
-            Ok(0) => return done,
-            Ok(n) => done += n,
-            Err(_) => return done,
-        }
-    }
-    done
-}
-
-// The first bytes of a file, as many as the buffer takes; a missing file counts as empty.
-fn read_file(rt: &impl Files, path: &str, buffer: &mut [u8]) -> usize
-    ensures { Counts result buffer.new }
-{
-    match fs::open(rt, path) {
-        Ok(mut file) => read_full(&mut file, buffer),
-        Err(_) => 0,
-    }
-}
 
 // Reads into two buffers, and prints what a third takes.
 fn run(

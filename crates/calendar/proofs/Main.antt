@@ -1,13 +1,13 @@
 -- Main: the theorems of the calendar, restated with nothing else; the proofs are in Laws, here and in the crate model. (Shifts by months and years: the crate instants.)
 -- `dayAfter w` is the next day of w's month by the month table, or the first of the next month, or the first of the next year; `daysAfter n` takes it n times.
 -- `earlier` compares two dates by year, then by month, then by day. (These stand in model's Laws.Calendar and Laws.DayCount.)
-use Rattle.std.specs.Prelude.{◌≡◌, refl, ◌++◌, ◌⊎◌, ◌↔◌, ℕ, ◌+◌, ◌*◌, ◌-◌, ◌≤◌, T, ltb, ℤ, pos, ◌+ℤ◌, ◌-ℤ◌, ◌*ℤ◌}
+use Rattle.std.specs.Prelude.{Result as Answer, Ok, Err, ◌≡◌, refl, ◌++◌, ◌⊎◌, ◌↔◌, ℕ, ◌+◌, ◌*◌, ◌-◌, ◌≤◌, T, ltb, ℤ, pos, ◌+ℤ◌, ◌-ℤ◌, ◌*ℤ◌}
 use Rattle.model.specs.Bytes.{Bytes, ascii}
 use Rattle.model.specs.Calendar.{date, date_of_day, day_number, is_valid, month_days, year_start}
 use Rattle.model.specs.DateText.{date_text, day_text, like, month_in, year_in}
 use Rattle.model.specs.Instant.{earliest, from_year0, in_range, latest, ms_before1970, ms_per_day}
 use Rattle.model.specs.InstantText.{digits2, instant_text}
-use Rattle.model.specs.Refusal.{out_of_range}
+use Rattle.model.specs.declared.refusal.Fault.TheVariants.{OutOfRange}
 use Rattle.model.specs.Result.{ok, refuse}
 use Rattle.model.specs.Shift.{shift}
 use Rattle.model.specs.declared.Date.{Date}
@@ -19,9 +19,10 @@ use Rattle.model.proofs.Laws.DayCount.{days_after, earlier}
 use Rattle.model.proofs.Laws.InstantText as InstantTextLaws
 use Rattle.calendar.specs.Contract.{date_number, date_result, instant_number, instant_result, shifted}
 use Rattle.calendar.proofs.Laws.Answer as AnswerLaws
-use Rattle.calendar.specs.declared.instant.DateAnswer.{DateAnswer}
+use Rattle.calendar.specs.declared.instant.DateFault.{DateFault}
+use Rattle.calendar.specs.declared.instant.DateFault.TheVariants as Dated
 use Rattle.calendar.specs.declared.instant.Instant.{Instant}
-use Rattle.calendar.specs.declared.instant.InstantAnswer.{InstantAnswer}
+use Rattle.calendar.specs.declared.instant.OutOfRange.{OutOfRange as Out}
 
 -- ---- days
 -- A date's day number is the count of the days from 0000-01-01 to it, by the table.
@@ -61,22 +62,22 @@ range_length = DayCountLaws.range_length
 
 -- ---- answers
 -- What an answer says fixes the answer.
-pub instant_answer_once : (a b : InstantAnswer) → instant_result a ≡ instant_result b → a ≡ b
+pub instant_answer_once : (a b : Answer Instant Out) → instant_result a ≡ instant_result b → a ≡ b
 instant_answer_once = AnswerLaws.instant_answer_once
 
-pub date_answer_once : (a b : DateAnswer) → date_result a ≡ date_result b → a ≡ b
+pub date_answer_once : (a b : Answer Instant DateFault) → date_result a ≡ date_result b → a ≡ b
 date_answer_once = AnswerLaws.date_answer_once
 
 -- Done is 0, a bad date 8, and out of range 9.
-pub instant_numbers : (t : Instant) → (instant_number (InstantAnswer.At t) ≡ 0) × (instant_number InstantAnswer.OutOfRange ≡ 9)
-instant_numbers t = (refl, refl)
+pub instant_numbers : (t : Instant) (e : Out) → (instant_number (Ok t) ≡ 0) × (instant_number (Err e) ≡ 9)
+instant_numbers t e = (refl, refl)
 
-pub date_numbers : (t : Instant) → (date_number (DateAnswer.At t) ≡ 0) × (date_number DateAnswer.BadDate ≡ 8) × (date_number DateAnswer.OutOfRange ≡ 9)
+pub date_numbers : (t : Instant) → (date_number (Ok t) ≡ 0) × (date_number (Err Dated.BadDate) ≡ 8) × (date_number (Err Dated.OutOfRange) ≡ 9)
 date_numbers t = (refl, refl, refl)
 
 -- ---- texts
 -- An instant's text reads back as the instant.
-pub text_again : (t : Instant) (r : DateAnswer) → T (in_range t.ms) → date_result r ≡ date_text (instant_text t.ms) → r ≡ DateAnswer.At t
+pub text_again : (t : Instant) (r : Answer Instant DateFault) → T (in_range t.ms) → date_result r ≡ date_text (instant_text t.ms) → r ≡ Ok t
 text_again = AnswerLaws.text_again
 
 -- "YYYY is its 31 December; YYYY-MM its month's last day."
@@ -88,13 +89,13 @@ month_text = InstantTextLaws.month_text
 
 -- ---- shifts
 -- "The text's own instant and the shifted one must both lie between, else 9":
-pub own_out : (t a : ℤ) (u : TimeUnit) → ¬ T (in_range t) → shifted t a u ≡ refuse out_of_range
+pub own_out : (t a : ℤ) (u : TimeUnit) → ¬ T (in_range t) → shifted t a u ≡ refuse OutOfRange
 own_out = AnswerLaws.own_out
 
 pub shift_answer_lem :
-    (t a : ℤ) (u : TimeUnit) (r : InstantAnswer)
+    (t a : ℤ) (u : TimeUnit) (r : Answer Instant Out)
     → instant_result r ≡ shifted t a u
-    → (r ≡ InstantAnswer.OutOfRange) ⊎ ((s : Instant) × (r ≡ InstantAnswer.At s) × T (in_range s.ms))
+    → ((e : Out) × (r ≡ Err e)) ⊎ ((s : Instant) × (r ≡ Ok s) × T (in_range s.ms))
 shift_answer_lem = AnswerLaws.shift_answer_lem
 
 -- Of an instant in range, it is the model's shift.

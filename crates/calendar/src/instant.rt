@@ -2,10 +2,13 @@
 ghost use Rattle.std.specs.Prelude.{◌≡◌};
 ghost use Rattle.model.specs.Instant.{earliest, latest, ranged, from_year0, since_year0};
 ghost use Rattle.model.specs.DateText as reading;
-ghost use Rattle.calendar.specs.Contract.{instant_result, date_result};
+ghost use Rattle.calendar.specs.Contract.{instant_result, date_result, day_fault, fault_of};
+ghost use Rattle.calendar.specs.declared.instant.DateFault.TheVariants as Dated;
+ghost use Rattle.model.specs.declared.refusal.Fault.TheVariants as Faults;
 
-use days::day::{DayAnswer, MS_PER_DAY, day_of};
+use days::day::{DayFault, MS_PER_DAY, day_of};
 use model::Date;
+use model::refusal::Fault;
 
 // The milliseconds from 0000-01-01 to 1970-01-01, and to the latest instant.
 const BEFORE_1970: u64 = (0 - Instant::EARLIEST) as u64;
@@ -18,19 +21,53 @@ pub struct Instant {
     ms: i64,
 }
 
-// An instant, or 9.
+// An instant outside the range.
 #[derive(Clone, Copy)]
-pub enum InstantAnswer {
-    At(Instant),
+pub struct OutOfRange;
+
+// Why a date or a date text has no instant: 8 or 9.
+#[derive(Clone, Copy)]
+pub enum DateFault {
+    BadDate,
     OutOfRange,
 }
 
-// The instant of a date or of a date text, or 8 or 9.
-#[derive(Clone, Copy)]
-pub enum DateAnswer {
-    At(Instant),
-    BadDate,
-    OutOfRange,
+impl From<OutOfRange> for DateFault {
+    ghost from_gives = { λ e f. f ≡ Dated.OutOfRange };
+
+    fn from(_: OutOfRange) -> DateFault {
+        Self::OutOfRange
+    }
+}
+
+impl From<DayFault> for DateFault {
+    ghost from_gives = { λ d f. f ≡ day_fault d };
+
+    fn from(d: DayFault) -> DateFault {
+        match d {
+            DayFault::NoDate => DateFault::BadDate,
+            DayFault::Late => DateFault::OutOfRange,
+        }
+    }
+}
+
+impl From<OutOfRange> for Fault {
+    ghost from_gives = { λ e f. f ≡ Faults.OutOfRange };
+
+    fn from(_: OutOfRange) -> Fault {
+        Fault::OutOfRange
+    }
+}
+
+impl From<DateFault> for Fault {
+    ghost from_gives = { λ d f. f ≡ fault_of d };
+
+    fn from(d: DateFault) -> Fault {
+        match d {
+            DateFault::BadDate => Fault::BadDate,
+            DateFault::OutOfRange => Fault::OutOfRange,
+        }
+    }
 }
 
 impl Instant {
@@ -56,29 +93,26 @@ impl Instant {
     }
 
     // The instant so many milliseconds from 1970-01-01.
-    #[tactic(auto, using(crate::proofs::Instants::late, crate::proofs::Instants::within))]
-    pub fn new(ms: i64) -> InstantAnswer
+    #[tactic(auto, using(crate::proofs::Instants::early, crate::proofs::Instants::late, crate::proofs::Instants::within))]
+    pub fn new(ms: i64) -> Result<Instant, OutOfRange>
         ensures { instant_result result ≡ ranged ms }
     {
-        if ms < Instant::EARLIEST {
-            return InstantAnswer::OutOfRange;
+        if ms < Instant::EARLIEST || ms > Instant::LATEST {
+            return Err(OutOfRange);
         }
-        if ms > Instant::LATEST {
-            return InstantAnswer::OutOfRange;
-        }
-        InstantAnswer::At(Instant { ms })
+        Ok(Instant { ms })
     }
 
     // The instant so many milliseconds from 0000-01-01.
     #[tactic(auto, using(model::proofs::Laws::DateText::from_in_range, model::proofs::Laws::DateText::ranged_ok, crate::proofs::Laws::Instant::from_late, crate::proofs::Instants::from_fits))]
-    pub fn from_year_0(since: u64) -> InstantAnswer
+    pub fn from_year_0(since: u64) -> Result<Instant, OutOfRange>
         ensures { instant_result result ≡ ranged (from_year0 since) }
     {
         if since > LATEST_SINCE_YEAR_0 {
-            return InstantAnswer::OutOfRange;
+            return Err(OutOfRange);
         }
         let ms = since as i64 + Instant::EARLIEST;
-        InstantAnswer::At(Instant { ms })
+        Ok(Instant { ms })
     }
 
     // The milliseconds from 1970-01-01.
@@ -89,37 +123,19 @@ impl Instant {
     }
 
     // The milliseconds from 0000-01-01; 0 for what is before it.
+    #[tactic(auto, using(crate::proofs::Instants::since_is))]
     pub fn since_year_0(self) -> u64
         ensures { result ≡ since_year0 self.ms }
     {
-        let ms = self.ms;
-        if ms >= 0 {
-            return ms as u64 + BEFORE_1970;
-        }
-        if ms < Instant::EARLIEST {
-            return 0;
-        }
-        (ms - Instant::EARLIEST) as u64
-    }
-}
-
-// The same answer, about a date.
-pub fn dated(answer: InstantAnswer) -> DateAnswer
-    ensures { date_result result ≡ instant_result answer }
-{
-    match answer {
-        InstantAnswer::At(t) => DateAnswer::At(t),
-        InstantAnswer::OutOfRange => DateAnswer::OutOfRange,
+        BEFORE_1970.saturating_add_signed(self.ms)
     }
 }
 
 // The start of a date: 8 where there is no such date.
-pub fn midnight(date: Date) -> DateAnswer
+#[tactic(auto, using(crate::proofs::Instants::midnight_none, days::specs::Laws::told_day))]
+pub fn midnight(date: Date) -> Result<Instant, DateFault>
     ensures { date_result result ≡ reading.midnight date }
 {
-    match day_of(date) {
-        DayAnswer::NoDate => DateAnswer::BadDate,
-        DayAnswer::Late => DateAnswer::OutOfRange,
-        DayAnswer::Is(n) => dated(Instant::from_year_0(n * MS_PER_DAY)),
-    }
+    let day = day_of(date)?;
+    Ok(Instant::from_year_0(day * MS_PER_DAY)?)
 }

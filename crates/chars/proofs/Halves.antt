@@ -7,7 +7,8 @@ use borrow.Author.Tests.{eqb-true, eqb-false, ltb-true, ltb-false, lt-ltb}
 use lib.Dec.{ltb}
 use lib.ListN.{length, get_or, drop}
 use Rattle.model.specs.Bytes.{Bytes}
-use Rattle.model.specs.Refusal.{ReadFault, lone_surrogate}
+use Rattle.model.specs.declared.refusal.ReadFault.{ReadFault}
+use Rattle.model.specs.declared.refusal.ReadFault.TheVariants.{LoneSurrogate}
 use Rattle.syntax.specs.declared.Lead.{Lead}
 use Rattle.syntax.specs.declared.Lead.TheVariants.{Closing, Backslash, Never, Char}
 use Rattle.syntax.specs.declared.Escape.{Escape}
@@ -61,7 +62,7 @@ no_unit (bad k p) b = tt
 
 -- A first half with the unit h at p is left alone.
 abbrev Alone : Bytes → ℕ → Type 0
-Alone t at = (h p f : ℕ) → chars (suc f) (high h p) t at ≡ bad lone_surrogate p
+Alone t at = (h p f : ℕ) → chars (suc f) (high h p) t at ≡ bad LoneSurrogate p
 
 alone : (t : Bytes) (at : ℕ) → NoUnit (char t at) → Alone t at
 unfolding chars or_lone on_piece lone
@@ -69,7 +70,7 @@ alone t at n h p f = go (char t at) n
   where
     go : (r : Parsed Piece) → NoUnit r
         → or_lone r p (λ x. on_piece x (lone p) (λ bs. lone p)
-        (λ u. on_unit (unit_of u) (lone p) (lone p) (λ t' q. grow (utf8 (pair_of h u)) (chars f clear t' q)))) ≡ bad lone_surrogate p
+        (λ u. on_unit (unit_of u) (lone p) (lone p) (λ t' q. grow (utf8 (pair_of h u)) (chars f clear t' q)))) ≡ bad LoneSurrogate p
     go (ok closing t q) n = refl
     go (ok (bytes bs) t q) n = refl
     go (ok (unit u) t q) n = absurd n

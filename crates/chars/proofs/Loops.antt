@@ -1,4 +1,11 @@
 -- What the loops of src/lib.rt keep. Assumes nothing.
+use Rattle.std.specs.Prelude.{Option, None, Some, slice_get}
+use Rattle.std.specs.Option.{option_and_then}
+use Rattle.std.proofs.lemmas.Option.{slice_get-get_or, slice_get_past}
+use Rattle.model.proofs.Laws.Logic.{clash}
+use mathlib.Core.Bool.{Bool, true, false}
+use borrow.Author.Tests.{ltb-true, ltb-false}
+use lib.Dec.{ltb}
 use mathlib.Core.Path.{◌≡◌, refl, sym, ap, ◌∙◌}
 use mathlib.Core.List.{[], ◌∷◌, ◌++◌, append-nil}
 use Prim.Native.Nat.{ℕ, suc, ◌+◌, ◌*◌, ◌-◌, ◌^◌, ◌≤◌, ◌<◌}
@@ -6,19 +13,17 @@ use native.Mathlib.Omega.{arith}
 use native.Mathlib.Nat.{zero-add, add-zero, add_assoc, pow-le-pow_right}
 use native.Mathlib.Numerals.{add-one}
 use lib.ListN.{length, get_or, drop, take, set, length-drop}
-use lib.Seq.{sets, take-suc, length-take-le, get_or-drop, length-sets}
+use lib.Seq.{take-suc, get_or-drop, length-sets}
 use Rattle.model.specs.Bytes.{Bytes}
-use Rattle.model.specs.Refusal.{not_json}
-use Rattle.area.specs.Laws.{sets_append}
+use Rattle.model.specs.declared.refusal.ReadFault.TheVariants.{NotJson}
 use Rattle.syntax.specs.declared.Lead.TheVariants.{Char}
-use Rattle.syntax.specs.declared.Hex.TheVariants.{HexDigit}
 use Rattle.syntax.specs.Read.{ok, bad, then, give, bytes, tails, hexes, char, grow}
 use Rattle.syntax.specs.Tokens.{hex_of}
 use Rattle.syntax.specs.Utf8.{lead_of}
-use Rattle.chars.specs.Inner.{Taken, Tailed, UnitRead}
+use Rattle.chars.specs.Inner.{Taken, Tailed, UnitRead, hex_at}
 use Rattle.chars.proofs.Tables.{inside, hex_as}
 use Rattle.chars.proofs.Steps.{grow_none, grow_grow, chars_bytes, reads_one, taken_none, taken_then}
-use Rattle.chars.proofs.Read.{char_lead, tails_in, hexes_in}
+use Rattle.chars.proofs.Read.{char_lead, tails_in, hexes_in, hexes_end, hexes_not}
 
 -- ---- a run of plain bytes
 char_plain : (s : Bytes) (at : ℕ) → at < length s → lead_of (get_or s at 0) ≡ Char 0 128 191
@@ -36,59 +41,16 @@ taken_plain s at used A h e =
       area = refl;
     }
 
--- As many bytes are decoded as were read.
-pub record Runs (s : Bytes) (at used : ℕ) (A A' : Bytes) (i to : ℕ) : Type 0 where
-  pub taken : Taken s at used A i to A'
-  pub even : to + at ≡ used + i
-
 pub taken_length : {s A B : Bytes} {at used i to : ℕ} → Taken s at used A i to B → length B ≡ length A
 taken_length {A = A} {used = used} t = ap length t.area ∙ length-sets A used t.bs
 
-pub runs_none : (s : Bytes) (at used : ℕ) (A : Bytes) → at ≤ length s → Runs s at used A A at used
-runs_none s at used A h = record { taken = taken_none s at used A h; even = omega arith }
-
-module _ {s A B : Bytes} {at used i to : ℕ} (r : Runs s at used A B i to) where
-  pub runs_more : i < length s → lead_of (get_or s i 0) ≡ Char 0 128 191 → Runs s at used A (set B to (get_or s i 0)) (i + 1) (to + 1)
-  runs_more h e = record { taken = taken_then r.taken (taken_plain s i to B h e); even = omega arith }
-
-  pub runs_end : Taken s at used A i (used + (i - at)) B
-  runs_end = record { bs = r.taken.bs; reads = r.taken.reads; next = omega arith; area = r.taken.area }
-
 -- The same, k bytes from the start.
-pub runs_start : (s : Bytes) (at used : ℕ) (A : Bytes) → at ≤ length s → Runs s at used A A (at + 0) (used + 0)
-runs_start s at used A h = record { taken = rw (add-zero at, add-zero used) (taken_none s at used A h); even = omega arith }
+pub taken_start : (s : Bytes) (at used : ℕ) (A : Bytes) → at ≤ length s → Taken s at used A (at + 0) (used + 0) A
+taken_start s at used A h = rw (add-zero at, add-zero used) (taken_none s at used A h)
 
-pub runs_next : {s A B : Bytes} (at used k : ℕ) → Runs s at used A B (at + k) (used + k) → at + k < length s → lead_of (get_or s (at + k) 0) ≡ Char 0 128 191
-    → Runs s at used A (set B (used + k) (get_or s (at + k) 0)) (at + (k + 1)) (used + (k + 1))
-runs_next at used k r h e = rw (← add_assoc at k 1, ← add_assoc used k 1) (runs_more r h e)
-
--- ---- a copy of bytes
-pub record Copies (s : Bytes) (at n : ℕ) (A : Bytes) (used : ℕ) (B : Bytes) (i : ℕ) : Type 0 where
-  pub few : i ≤ n
-  pub area : B ≡ sets A used (take i (drop at s))
-
-pub copies_none : (s : Bytes) (at n : ℕ) (A : Bytes) (used : ℕ) → Copies s at n A used A 0
-copies_none s at n A used = record { few = omega arith; area = refl }
-
-module _ {s : Bytes} {at n : ℕ} {A : Bytes} {used : ℕ} {B : Bytes} {i : ℕ} (c : Copies s at n A used B i) where
-  pub copies_length : length B ≡ length A
-  copies_length = ap length c.area ∙ length-sets A used (take i (drop at s))
-
-  pub copies_more : i < n → at + n ≤ length s → Copies s at n A used (set B (used + i) (get_or s (at + i) 0)) (i + 1)
-  copies_more h g =
-      let d = drop at s in
-      let b : ℕ = get_or s (at + i) 0 in
-      let l : i < length d = rw length-drop (omega arith) in
-      let k : i ≡ length (take i d) = sym (length-take-le i d (omega arith)) in
-      record {
-        few = omega arith;
-        area = (λ z. set (c.area z) (used + k z) b) ∙ sets_append (take i d) (b ∷ []) A used
-            ∙ ap (λ z. sets A used (take i d ++ (z ∷ []))) (sym (get_or-drop at s i 0))
-            ∙ ap (sets A used) (sym (take-suc d i 0 l)) ∙ ap (λ z. sets A used (take z d)) (sym (add-one i));
-      }
-
-  pub copies_all : n ≤ i → B ≡ sets A used (take n (drop at s))
-  copies_all h = let e : i ≡ n = omega arith in c.area ∙ ap (λ z. sets A used (take z (drop at s))) e
+pub taken_next : {s A B : Bytes} (at used k : ℕ) → Taken s at used A (at + k) (used + k) B → at + k < length s → lead_of (get_or s (at + k) 0) ≡ Char 0 128 191
+    → Taken s at used A (at + (k + 1)) (used + (k + 1)) (set B (used + k) (get_or s (at + k) 0))
+taken_next {s} {B = B} at used k t h e = rw (← add_assoc at k 1, ← add_assoc used k 1) (taken_then t (taken_plain s (at + k) (used + k) B h e))
 
 -- ---- the bytes that follow a character's first one
 pub record Tails (s : Bytes) (at n lo hi low high i : ℕ) : Type 0 where
@@ -121,17 +83,18 @@ module _ {s : Bytes} {at n lo hi low high i : ℕ} (t : Tails s at n lo hi low h
             ∙ (λ z. grow (take (sym (add-one i) z) d) (tails m 128 191 (drop (add_assoc at i 1 z) s) (add_assoc at i 1 z)));
       }
 
-  pub tails_all : n ≤ i → Tailed s at n lo hi i
+  pub tails_all : n ≤ i → Tailed s at n lo hi n
   unfolding tails grow then give
   tails_all h =
+      let e : i ≡ n = omega (arith, t.few) in
       record {
-        few = t.few;
-        inside = t.inside;
-        all = λ e. t.rest 0 (omega arith) ∙ (λ k. ok (append-nil (take (e k) (drop at s)) k) (drop (at + e k) s) (at + e k));
+        few = omega arith;
+        inside = omega (arith, t.inside);
+        all = λ _. t.rest 0 (omega arith) ∙ (λ k. ok (append-nil (take (e k) (drop at s)) k) (drop (at + e k) s) (at + e k));
         some = λ l. absurd (omega arith);
       }
 
-  pub tails_some : i < n → ((m : ℕ) → tails (suc m) low high (drop (at + i) s) (at + i) ≡ bad not_json (at + i)) → Tailed s at n lo hi i
+  pub tails_some : i < n → ((m : ℕ) → tails (suc m) low high (drop (at + i) s) (at + i) ≡ bad NotJson (at + i)) → Tailed s at n lo hi i
   unfolding grow then
   tails_some h e =
       record {
@@ -142,6 +105,35 @@ module _ {s : Bytes} {at n lo hi low high i : ℕ} (t : Tails s at n lo hi low h
       }
 
 -- ---- four hexadecimal digits
+-- A hexadecimal digit stands at an offset.
+pub record HexIn (s : Bytes) (at d : ℕ) : Type 0 where
+  pub inside : at < length s
+  pub is : hex_of (get_or s at 0) ≡ Some d
+  pub small : d < 16
+
+pub hex_in : {s : Bytes} {at d : ℕ} {r : Option ℕ} → r ≡ hex_at s at → r ≡ Some d → HexIn s at d
+unfolding hex_at
+hex_in {s} {at} {d} e g = go (ltb at (length s)) refl
+  where
+    go : (c : Bool) → ltb at (length s) ≡ c → HexIn s at d
+    go true h =
+        let l : at < length s = ltb-true at (length s) h in
+        let x : hex_of (get_or s at 0) ≡ Some d = rw (slice_get-get_or s at 0 l) at (sym e ∙ g) in
+        record { inside = l; is = x; small = hex_as (get_or s at 0) (Some d) x }
+    go false h =
+        let x : option_and_then hex_of (slice_get s at) ≡ None = rw (slice_get_past s at (ltb-false at (length s) h)) in
+        clash cc
+
+pub hex_not : (s : Bytes) (at : ℕ) {r : Option ℕ} → r ≡ hex_at s at → r ≡ None → (m u : ℕ) → hexes (suc m) u (drop at s) at ≡ bad NotJson at
+unfolding hex_at
+hex_not s at e g m u = go (ltb at (length s)) refl
+  where
+    go : (c : Bool) → ltb at (length s) ≡ c → hexes (suc m) u (drop at s) at ≡ bad NotJson at
+    go true h =
+        let l : at < length s = ltb-true at (length s) h in
+        hexes_not s at l m u (rw (slice_get-get_or s at 0 l) at (sym e ∙ g))
+    go false h = hexes_end s at (ltb-false at (length s) h) m u
+
 pub record Hexes (s : Bytes) (at i u : ℕ) : Type 0 where
   pub few : i ≤ 4
   pub inside : at + i ≤ length s
@@ -161,15 +153,15 @@ module _ {s : Bytes} {at i u : ℕ} (t : Hexes s at i u) where
   pub hexes_small : i < 4 → u < 4096
   hexes_small h = let l : 16 ^ i ≤ 16 ^ 3 = pow-le-pow_right {n = 16} (omega arith) {i = i} {j = 3} (omega arith) in omega arith
 
-  pub hexes_more : i < 4 → at + i < length s → (d : ℕ) → hex_of (get_or s (at + i) 0) ≡ HexDigit d → Hexes s at (i + 1) (u * 16 + d)
-  hexes_more h l d e =
+  pub hexes_more : i < 4 → {d n : ℕ} → HexIn s (at + i) d → n ≡ d → Hexes s at (i + 1) (u * 16 + n)
+  hexes_more h {d} {n} x q =
       record {
         few = omega arith;
-        inside = omega arith;
-        small = rw (add-one i) (omega (arith, hex_as (get_or s (at + i) 0) (HexDigit d) e));
-        rest = λ m q.
-            t.rest (suc m) (omega arith) ∙ hexes_in s (at + i) l m u d e
-            ∙ (λ z. hexes m (u * 16 + d) (drop (add_assoc at i 1 z) s) (add_assoc at i 1 z));
+        inside = omega (arith, x.inside);
+        small = rw (add-one i) (omega (arith, x.small));
+        rest = λ m g.
+            t.rest (suc m) (omega arith) ∙ hexes_in s (at + i) x.inside m u d x.is
+            ∙ (λ z. hexes m (u * 16 + sym q z) (drop (add_assoc at i 1 z) s) (add_assoc at i 1 z));
       }
 
   pub hexes_all : 4 ≤ i → UnitRead s at u
@@ -182,5 +174,5 @@ module _ {s : Bytes} {at i u : ℕ} (t : Hexes s at i u) where
         small = let l : 16 ^ i ≤ 16 ^ 4 = pow-le-pow_right {n = 16} (omega arith) t.few in omega arith;
       }
 
-  pub hexes_some : i < 4 → ((m : ℕ) → hexes (suc m) u (drop (at + i) s) (at + i) ≡ bad not_json (at + i)) → hexes 4 0 (drop at s) at ≡ bad not_json (at + i)
-  hexes_some h e = t.rest (suc (3 - i)) (omega arith) ∙ e (3 - i)
+  pub hexes_some : {r : Option ℕ} → i < 4 → r ≡ hex_at s (at + i) → r ≡ None → hexes 4 0 (drop at s) at ≡ bad NotJson (at + i)
+  hexes_some h e g = t.rest (suc (3 - i)) (omega arith) ∙ hex_not s (at + i) e g (3 - i) u

@@ -1,5 +1,5 @@
 -- A character or an escape as a whole: what was decoded, or the fault. Assumes nothing.
-use mathlib.Core.Path.{◌≡◌, refl, ap, ◌∙◌, subst⁻¹}
+use mathlib.Core.Path.{◌≡◌, refl, ap, ◌∙◌}
 use mathlib.Core.List.{[], ◌∷◌}
 use Prim.Native.Nat.{ℕ, suc, ◌+◌, ◌-◌, ◌≤◌, ◌<◌}
 use native.Mathlib.Omega.{arith}
@@ -7,7 +7,8 @@ use native.Mathlib.Numerals.{add-one}
 use lib.ListN.{length, get_or, drop, take, length-drop}
 use lib.Seq.{sets, drop-cons, length-take-le}
 use Rattle.model.specs.Bytes.{Bytes}
-use Rattle.model.specs.Refusal.{ReadFault, not_json, lone_surrogate}
+use Rattle.model.specs.declared.refusal.ReadFault.{ReadFault}
+use Rattle.model.specs.declared.refusal.ReadFault.TheVariants.{NotJson, LoneSurrogate}
 use Rattle.syntax.specs.declared.Lead.TheVariants.{Backslash, Char}
 use Rattle.syntax.specs.declared.Escape.TheVariants.{Letter, Unicode, NoEscape}
 use Rattle.syntax.specs.declared.Unit as units
@@ -19,63 +20,54 @@ use Rattle.syntax.specs.Utf8.{unit_of, utf8, pair_of}
 use Rattle.scan.specs.declared.Fault.{Fault}
 use Rattle.scan.specs.Contract.{fault_of}
 use Rattle.chars.specs.declared.Decoded.{Decoded}
-use Rattle.chars.specs.declared.Decoded.TheVariants.{Chars, NoChars}
-use Rattle.chars.specs.Inner.{Taken, Stopped, PieceMeets, Pieced, Leads, Tailed, UnitRead, Unicodes, Escaped, Put}
+use Rattle.std.specs.Prelude.{Ok, Err}
+use Rattle.chars.specs.Inner.{Taken, Pieced, Leads, Tailed, UnitRead, Unicodes, Escaped, Put}
 use Rattle.chars.proofs.Steps.{chars_bytes, chars_bad, chars_plain, chars_high, chars_low, chars_pair, reads_one}
 use Rattle.chars.proofs.Read.{char_escape, char_lead, escape_end, escape_letter, escape_not, escape_unicode}
 
 -- ---- a piece that was read, and one that was not
-pub gives : {s : Bytes} {at used : ℕ} {A : Bytes} {q to : ℕ} {B : Bytes} → Taken s at used A q to B → at < q → Pieced s at used A (Chars q to) B
+pub gives : {s : Bytes} {at used : ℕ} {A : Bytes} {d : Decoded} {B : Bytes} → Taken s at used A d.at d.used B → at < d.at → Pieced s at used A (Ok d) B
 gives t h = record { meets = record { taken = t; on = h } }
 
-module _ {s : Bytes} {at used : ℕ} {A : Bytes} {r : Decoded} where
-  stops : {x : Fault} → r ≡ NoChars x → Stopped s at A x A → Pieced s at used A r A
-  stops e t = record { meets = subst⁻¹ (λ (y : Decoded). PieceMeets s at used A y A) e t }
-
-  pub stops_at : (k : ReadFault) {p : ℕ} → at ≤ length s → char (drop at s) at ≡ bad k p → r ≡ NoChars (fault_of k p) → Pieced s at used A r A
-  stops_at k {p} l e n =
-      stops n
-      (record {
-        kind = k;
-        place = p;
-        fault = refl;
-        run = λ f h.
-            let z : f ≡ suc (f - 1) = omega arith in
-            ap (λ g. chars g clear (drop at s) at) z ∙ chars_bad (f - 1) (drop at s) at k p e;
-        same = refl;
-      })
+module _ {s : Bytes} {at used : ℕ} {A : Bytes} where
+  pub stops_at : {x : Fault} → at ≤ length s → char (drop at s) at ≡ bad x.reason x.at → Pieced s at used A (Err x) A
+  stops_at {x} l e =
+      record {
+        meets = record {
+          run = λ f h.
+              let z : f ≡ suc (f - 1) = omega arith in
+              ap (λ g. chars g clear (drop at s) at) z ∙ chars_bad (f - 1) (drop at s) at x.reason x.at e;
+          same = refl;
+        };
+      }
 
   -- A surrogate without a partner: a second half, or a first one that no second half follows.
-  pub stops_low : {u : ℕ} → Escaped s at u Low → r ≡ NoChars (fault_of lone_surrogate at) → Pieced s at used A r A
-  stops_low {u} x n =
-      stops n
-      (record {
-        kind = lone_surrogate;
-        place = at;
-        fault = refl;
-        run = λ f h.
-            let z : f ≡ suc (f - 1) = omega arith in
-            ap (λ g. chars g clear (drop at s) at) z ∙ chars_low (f - 1) (drop at s) at u _ _ x.is x.of;
-        same = refl;
-      })
+  pub stops_low : {u : ℕ} → Escaped s at u Low → Pieced s at used A (Err (fault_of LoneSurrogate at)) A
+  stops_low {u} x =
+      record {
+        meets = record {
+          run = λ f h.
+              let z : f ≡ suc (f - 1) = omega arith in
+              ap (λ g. chars g clear (drop at s) at) z ∙ chars_low (f - 1) (drop at s) at u _ _ x.is x.of;
+          same = refl;
+        };
+      }
 
-  pub stops_high : {u : ℕ} → Escaped s at u High → ((h p f : ℕ) → chars (suc f) (high h p) (drop (at + 6) s) (at + 6) ≡ bad lone_surrogate p)
-      → r ≡ NoChars (fault_of lone_surrogate at) → Pieced s at used A r A
-  stops_high {u} x a n =
-      stops n
-      (record {
-        kind = lone_surrogate;
-        place = at;
-        fault = refl;
-        run = λ f h.
-            let z : f ≡ suc (suc (f - 2)) = omega arith in
-            ap (λ g. chars g clear (drop at s) at) z ∙ chars_high (suc (f - 2)) (drop at s) at u _ _ x.is x.of ∙ a u at (f - 2);
-        same = refl;
-      })
+  pub stops_high : {u : ℕ} → Escaped s at u High → ((h p f : ℕ) → chars (suc f) (high h p) (drop (at + 6) s) (at + 6) ≡ bad LoneSurrogate p)
+      → Pieced s at used A (Err (fault_of LoneSurrogate at)) A
+  stops_high {u} x a =
+      record {
+        meets = record {
+          run = λ f h.
+              let z : f ≡ suc (suc (f - 2)) = omega arith in
+              ap (λ g. chars g clear (drop at s) at) z ∙ chars_high (suc (f - 2)) (drop at s) at u _ _ x.is x.of ∙ a u at (f - 2);
+          same = refl;
+        };
+      }
 
 -- ---- a character of several bytes
 module _ (s : Bytes) (at n lo hi : ℕ) (d : Leads s at (Char n lo hi)) {found : ℕ} (t : Tailed s (at + 1) n lo hi found) where
-  pub char_short : found < n → char (drop at s) at ≡ bad not_json (at + 1 + found)
+  pub char_short : found < n → char (drop at s) at ≡ bad NotJson (at + 1 + found)
   unfolding then
   char_short h = char_lead s at d.here n lo hi d.is ∙ ap (λ r. then r (λ bs. give (bytes (get_or s at 0 ∷ bs)))) (t.some h)
 
@@ -101,10 +93,10 @@ module _ (s : Bytes) (at n lo hi : ℕ) (d : Leads s at (Char n lo hi)) {found :
 
 -- ---- escapes of one letter
 module _ (s : Bytes) (at : ℕ) (d : Leads s at Backslash) where
-  pub letter_end : length s ≤ at + 1 → char (drop at s) at ≡ bad not_json (at + 1)
+  pub letter_end : length s ≤ at + 1 → char (drop at s) at ≡ bad NotJson (at + 1)
   letter_end h = char_escape s at d.here d.is ∙ escape_end s (at + 1) h
 
-  pub letter_not : at + 1 < length s → escape_of (get_or s (at + 1) 0) ≡ NoEscape → char (drop at s) at ≡ bad not_json (at + 1)
+  pub letter_not : at + 1 < length s → escape_of (get_or s (at + 1) 0) ≡ NoEscape → char (drop at s) at ≡ bad NotJson (at + 1)
   letter_not h e = char_escape s at d.here d.is ∙ escape_not s (at + 1) h e
 
   pub taken_letter : (used : ℕ) (A : Bytes) (x : ℕ) → at + 1 < length s → escape_of (get_or s (at + 1) 0) ≡ Letter x
@@ -130,7 +122,7 @@ module _ (s : Bytes) (at : ℕ) (d : Leads s at Backslash) where
 
 -- ---- escapes of a code unit
 module _ {s : Bytes} {at : ℕ} (x : Unicodes s at) where
-  pub unit_not : {p : ℕ} → hexes 4 0 (drop (at + 2) s) (at + 2) ≡ bad not_json p → char (drop at s) at ≡ bad not_json p
+  pub unit_not : {k : ReadFault} {p : ℕ} → hexes 4 0 (drop (at + 2) s) (at + 2) ≡ bad k p → char (drop at s) at ≡ bad k p
   unfolding then
   unit_not e = x.is ∙ ap (λ r. then r (λ u. give (unit u))) e
 

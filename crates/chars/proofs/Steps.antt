@@ -7,7 +7,8 @@ use native.Mathlib.Nat.{zero-add, add_assoc}
 use lib.ListN.{length, drop, length-append}
 use lib.Seq.{sets}
 use Rattle.model.specs.Bytes.{Bytes}
-use Rattle.model.specs.Refusal.{ReadFault, lone_surrogate}
+use Rattle.model.specs.declared.refusal.ReadFault.{ReadFault}
+use Rattle.model.specs.declared.refusal.ReadFault.TheVariants.{LoneSurrogate}
 use Rattle.area.specs.Laws.{sets_append}
 use Rattle.syntax.specs.declared.Unit.TheVariants.{Plain, High, Low}
 use Rattle.syntax.specs.Read.{Parsed, ok, bad, then, give, closing, bytes, unit, on_piece, on_unit, or_lone, lone, char, chars, clear, high, grow}
@@ -36,7 +37,7 @@ module _ (f : ℕ) (t : Bytes) (at : ℕ) where
   unfolding chars then on_piece on_unit
   chars_high c u q e k = rw (e, k)
 
-  pub chars_low : (c : ℕ) (u : Bytes) (q : ℕ) → char t at ≡ ok (unit c) u q → unit_of c ≡ Low → chars (suc f) clear t at ≡ bad lone_surrogate at
+  pub chars_low : (c : ℕ) (u : Bytes) (q : ℕ) → char t at ≡ ok (unit c) u q → unit_of c ≡ Low → chars (suc f) clear t at ≡ bad LoneSurrogate at
   unfolding chars then on_piece on_unit lone
   chars_low c u q e k = rw (e, k)
 

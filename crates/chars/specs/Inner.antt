@@ -1,21 +1,17 @@
 -- What the private functions of src/lib.rt promise, by the definition `chars` of the crate syntax.
-use Rattle.std.specs.Prelude.{◌≡◌, ℕ, suc, ◌+◌, ◌≤◌, ◌<◌, length, get_or, drop, take}
+use Rattle.std.specs.Prelude.{◌≡◌, ℕ, suc, ◌+◌, ◌≤◌, ◌<◌, length, get_or, drop, take, slice_get, Option, None, Some, Result, Ok, Err}
+use Rattle.std.specs.Option.{option_and_then}
 use Rattle.std.proofs.lemmas.List.Edits.{sets}
 use Rattle.model.specs.Bytes.{Bytes}
-use Rattle.model.specs.Refusal.{ReadFault, not_json, lone_surrogate}
+use Rattle.model.specs.declared.refusal.ReadFault.TheVariants.{NotJson, LoneSurrogate}
 use Rattle.syntax.specs.declared.Lead.{Lead}
 use Rattle.syntax.specs.declared.Unit as units
 use Rattle.syntax.specs.declared.Unit.TheVariants.{Low}
 use Rattle.syntax.specs.Read.{ok, bad, then, give, unit, hexes, tails, char, chars, clear, high, grow}
+use Rattle.syntax.specs.Tokens.{hex_of}
 use Rattle.syntax.specs.Utf8.{lead_of, unit_of, utf8}
 use Rattle.scan.specs.declared.Fault.{Fault}
-use Rattle.scan.specs.Contract.{fault_of}
 use Rattle.chars.specs.declared.Decoded.{Decoded}
-use Rattle.chars.specs.declared.Decoded.TheVariants.{Chars, NoChars}
-use Rattle.chars.specs.declared.CodeUnit.{CodeUnit}
-use Rattle.chars.specs.declared.CodeUnit.TheVariants.{Code, NoCode}
-use Rattle.chars.specs.declared.LowHalf.{LowHalf}
-use Rattle.chars.specs.declared.LowHalf.TheVariants.{Half, NoHalf}
 
 -- ---- places
 -- The text s is read from `at` on into the area A from `used` on, which is never ahead of the text.
@@ -41,22 +37,19 @@ pub record Taken (s : Bytes) (at used : ℕ) (A : Bytes) (i to : ℕ) (A' : Byte
 
 -- What stands at `at` ends the reading in the fault x, and leaves the area as it was.
 pub record Stopped (s : Bytes) (at : ℕ) (A : Bytes) (x : Fault) (A' : Bytes) : Type 0 where
-  pub kind : ReadFault
-  pub place : ℕ
-  pub fault : x ≡ fault_of kind place
-  pub run : (f : ℕ) → length s < at + f → chars f clear (drop at s) at ≡ bad kind place
+  pub run : (f : ℕ) → length s < at + f → chars f clear (drop at s) at ≡ bad x.reason x.at
   pub same : A' ≡ A
 
--- One character or escape at `at`, which ends at q.
-pub record Advanced (s : Bytes) (at used : ℕ) (A : Bytes) (q to : ℕ) (A' : Bytes) : Type 0 where
-  pub taken : Taken s at used A q to A'
-  pub on : at < q
+-- One character or escape at `at`, up to d.
+pub record Advanced (s : Bytes) (at used : ℕ) (A : Bytes) (d : Decoded) (A' : Bytes) : Type 0 where
+  pub taken : Taken s at used A d.at d.used A'
+  pub on : at < d.at
 
-abbrev pub PieceMeets : Bytes → ℕ → ℕ → Bytes → Decoded → Bytes → Type 0
-PieceMeets s at used A (Chars q to) A' = Advanced s at used A q to A'
-PieceMeets s at used A (NoChars x) A' = Stopped s at A x A'
+abbrev pub PieceMeets : Bytes → ℕ → ℕ → Bytes → Result Decoded Fault → Bytes → Type 0
+PieceMeets s at used A (Ok d) A' = Advanced s at used A d A'
+PieceMeets s at used A (Err x) A' = Stopped s at A x A'
 
-pub record Pieced (s : Bytes) (at used : ℕ) (A : Bytes) (r : Decoded) (A' : Bytes) : Type 0 where
+pub record Pieced (s : Bytes) (at used : ℕ) (A : Bytes) (r : Result Decoded Fault) (A' : Bytes) : Type 0 where
   pub meets : PieceMeets s at used A r A'
 
 -- ---- characters
@@ -70,18 +63,22 @@ pub record Tailed (s : Bytes) (at n lo hi r : ℕ) : Type 0 where
   pub few : r ≤ n
   pub inside : at + r ≤ length s
   pub all : r ≡ n → tails n lo hi (drop at s) at ≡ ok (take n (drop at s)) (drop (at + n) s) (at + n)
-  pub some : r < n → tails n lo hi (drop at s) at ≡ bad not_json (at + r)
+  pub some : r < n → tails n lo hi (drop at s) at ≡ bad NotJson (at + r)
 
 -- ---- escapes
+-- The number of the hexadecimal digit at an offset, if one stands there.
+unfoldable pub hex_at : Bytes → ℕ → Option ℕ
+hex_at s at = option_and_then hex_of (slice_get s at)
+
 -- Four hexadecimal digits at `at`.
 pub record UnitRead (s : Bytes) (at u : ℕ) : Type 0 where
   pub is : hexes 4 0 (drop at s) at ≡ ok u (drop (at + 4) s) (at + 4)
   pub inside : at + 4 ≤ length s
   pub small : u < 65536
 
-abbrev pub Coded : Bytes → ℕ → CodeUnit → Type 0
-Coded s at (Code u) = UnitRead s at u
-Coded s at (NoCode p) = hexes 4 0 (drop at s) at ≡ bad not_json p
+abbrev pub Coded : Bytes → ℕ → Result ℕ Fault → Type 0
+Coded s at (Ok u) = UnitRead s at u
+Coded s at (Err x) = hexes 4 0 (drop at s) at ≡ bad x.reason x.at
 
 -- The letters \u stand at `at`.
 pub record Unicodes (s : Bytes) (at : ℕ) : Type 0 where
@@ -95,9 +92,9 @@ pub record Escaped (s : Bytes) (at u : ℕ) (kind : units.Unit) : Type 0 where
   pub of : unit_of u ≡ kind
 
 -- The second half of a pair at `at`, after a first half at p.
-abbrev pub Halved : Bytes → ℕ → LowHalf → Type 0
-Halved s at (Half l) = Escaped s at l Low
-Halved s at NoHalf = (h p f : ℕ) → chars (suc f) (high h p) (drop at s) at ≡ bad lone_surrogate p
+abbrev pub Halved : Bytes → ℕ → Option ℕ → Type 0
+Halved s at (Some l) = Escaped s at l Low
+Halved s at None = (h p f : ℕ) → chars (suc f) (high h p) (drop at s) at ≡ bad LoneSurrogate p
 
 -- The UTF-8 of u is put into the area A at `used`.
 pub record Put (A : Bytes) (used u r : ℕ) (A' : Bytes) : Type 0 where

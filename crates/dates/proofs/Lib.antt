@@ -1,5 +1,3 @@
 -- Laws over plain values that the proofs cite.
 pub mod Shapes
-pub mod Offsets
-pub mod Zones
 pub mod Times

@@ -10,16 +10,17 @@ use Rattle.model.specs.Bytes.{Bytes, ascii}
 use Rattle.model.specs.Calendar.{day_number, is_valid}
 use Rattle.model.specs.DateText.{starts_like, digit_run, milliseconds, zoned, after_seconds, two_digits, date_in, is_time, time_text, midnight}
 use Rattle.model.specs.Instant.{from_year0, since_year0, ms_per_day, in_range}
-use Rattle.model.proofs.Laws.DateText.{midnight_ok, since_bound}
+use Rattle.model.proofs.Laws.DateText.{midnight_ok, since_bound, year_bound}
 use Rattle.model.proofs.Laws.Logic.{true→t, clash}
-use Rattle.model.specs.Refusal.{bad_date, out_of_range, Fault}
+use Rattle.model.specs.declared.refusal.Fault.{Fault}
+use Rattle.model.specs.declared.refusal.Fault.TheVariants.{BadDate as bad_date, OutOfRange as out_of_range}
 use Rattle.model.specs.Result.{Result, ok, refuse, provided}
 use Rattle.model.specs.declared.Date.{Date}
-use Rattle.calendar.specs.Contract.{date_result}
+use Rattle.calendar.specs.Contract.{date_result, fault_of}
 use Rattle.calendar.proofs.Laws.Instant.{since_from}
-use Rattle.calendar.specs.declared.instant.DateAnswer.{DateAnswer}
+use Rattle.std.specs.Prelude.{Result as Answer, Ok}
+use Rattle.calendar.specs.declared.instant.DateFault.{DateFault}
 use Rattle.calendar.specs.declared.instant.Instant.{Instant}
-use Rattle.calendar.specs.declared.instant.DateAnswer.TheVariants.{At, BadDate, OutOfRange}
 use Rattle.dates.proofs.Shapes.{lent, lent_is}
 
 -- ---- what follows the seconds
@@ -40,12 +41,23 @@ module _ (u : ℕ) (t : Bytes) (k : ℕ) (dot : starts_like (ascii ".") t ≡ tr
   unfolding after_seconds
   many_digits h g = rw (dot, digits, le-leb 1 k h, lt-leb k 9 g)
 
-  pub some_digits : 1 ≤ k → k ≤ 9 → {m : ℕ} → m ≡ milliseconds (take k (lent 1 t)) → {r : Result ℤ} → r ≡ zoned (u + m) (lent k (lent 1 t)) → r ≡ after_seconds u t
+  -- f is the digits, and z what follows them.
+  pub some_digits :
+      1 ≤ k
+      → k ≤ 9
+      → {f z : Bytes}
+      → f ≡ take k (lent 1 t)
+      → z ≡ drop k (lent 1 t)
+      → {m : ℕ}
+      → m ≡ milliseconds f
+      → {r : Result ℤ}
+      → r ≡ zoned (u + m) z
+      → r ≡ after_seconds u t
   unfolding after_seconds
-  some_digits h g e z =
-      let f = lent_is 1 t in
-      let rest : lent k (lent 1 t) ≡ drop (1 + k) t = lent_is k (lent 1 t) ∙ ap (drop k) f ∙ drop-drop k 1 t in
-      rw (dot, digits, le-leb 1 k h, le-leb k 9 g) (z ∙ (λ i. zoned (u + (e ∙ ap (λ s. milliseconds (take k s)) f) i) (rest i)))
+  some_digits h g {f} {z} front back e is =
+      let fraction : f ≡ take k (drop 1 t) = front ∙ ap (take k) (lent_is 1 t) in
+      let rest : z ≡ drop (1 + k) t = back ∙ ap (drop k) (lent_is 1 t) ∙ drop-drop k 1 t in
+      rw (dot, digits, le-leb 1 k h, le-leb k 9 g) (is ∙ (λ i. zoned (u + (e ∙ ap milliseconds fraction) i) (rest i)))
 
 -- ---- the start of a day
 -- A date that starts at an instant, and the milliseconds since 0000-01-01 until then.
@@ -67,8 +79,8 @@ starts_at w t e = go (is_valid w) refl (in_range (from_year0 n)) refl e
     go true v false i e = clash cc
     go false v b i e = clash cc
 
-pub starts : {w : Date} {a : DateAnswer} {t : Instant} {u : ℕ} → date_result a ≡ midnight w → a ≡ At t → u ≡ since_year0 t.ms → Starts w u
-starts {w} {t = t} e f g = subst (Starts w) (sym g) (starts_at w t.ms (ap date_result (sym f) ∙ e))
+pub starts : {w v : Date} {a : Answer Instant DateFault} {t : Instant} {u : ℕ} → date_result a ≡ midnight v → v ≡ w → a ≡ Ok t → u ≡ since_year0 t.ms → Starts w u
+starts {w} {t = t} e d f g = subst (Starts w) (sym g) (starts_at w t.ms (ap date_result (sym f) ∙ (e ∙ ap midnight d)))
 
 -- A date up to year 9999 that starts at none is not valid.
 no_start : (w : Date) (f : Fault) → refuse f ≡ midnight w → w.year ≤ 9999 → is_valid w ≡ false
@@ -78,20 +90,18 @@ no_start w f e h = go (is_valid w) refl
     go true v = let g = midnight_ok w (true→t _ v) h in clash cc
     go false v = v
 
--- The answer is another one than `At`, the first.
-pub no_answer : (w : Date) (a : DateAnswer) → ((t : Instant) → a ≡ At t → ⊥) → date_result a ≡ midnight w → w.year ≤ 9999 → is_valid w ≡ false
-no_answer w (At t) k e h = absurd (k t refl)
-no_answer w BadDate k e h = no_start w bad_date e h
-no_answer w OutOfRange k e h = no_start w out_of_range e h
-
 -- ---- a date with its time
 fails_second : (b : Bool) (r : Result ℤ) → refuse bad_date ≡ provided (b && false) bad_date r
 fails_second true r = refl
 fails_second false r = refl
 
 module _ (s : Bytes) where
-  pub no_date : is_valid (date_in s) ≡ false → refuse bad_date ≡ time_text s
-  no_date e = rw e
+  -- A year of four digits is in range, so that a date that starts at none is a bad one.
+  pub no_day : {w : Date} (f : DateFault) → refuse (fault_of f) ≡ midnight w → w ≡ date_in s → starts_like (ascii "0000-00-00T00:00:00") s ≡ true → refuse (fault_of f) ≡ time_text s
+  no_day f e d h =
+      let g = e ∙ ap midnight d in
+      let v = no_start (date_in s) (fault_of f) g (year_bound (ascii "-00-00T00:00:00") s (true→t _ h)) in
+      g ∙ rw v refl
 
   module _ {h m c : ℕ} (p : h ≡ two_digits s 11) (q : m ≡ two_digits s 14) (r : c ≡ two_digits s 17) where
     same_time : is_time (two_digits s 11) (two_digits s 14) (two_digits s 17) ≡ is_time h m c

@@ -5,7 +5,7 @@ ghost use Rattle.model.specs.DateText as reading;
 ghost use Rattle.calendar.specs.Contract.{date_result};
 
 use crate::pattern::two_digits;
-use calendar::instant::{DateAnswer, midnight};
+use calendar::instant::{DateFault, Instant, midnight};
 use days::month::month_days;
 use model::Date;
 
@@ -19,14 +19,15 @@ pub fn year_in(text: &[u8]) -> u64
 pub fn date_in(text: &[u8]) -> Date
     ensures { result ≡ date_in text.now }
 {
-    let year = year_in(text);
-    let month = two_digits(text, 5);
-    let day = two_digits(text, 8);
-    Date { year, month, day }
+    Date {
+        year: year_in(text),
+        month: two_digits(text, 5),
+        day: two_digits(text, 8),
+    }
 }
 
 // The start of a month's last day.
-pub fn month_end(year: u64, month: u64) -> DateAnswer
+pub fn month_end(year: u64, month: u64) -> Result<Instant, DateFault>
     ensures { date_result result ≡ reading.midnight (last_of_month year month) }
 {
     let day = month_days(year, month);

@@ -13,17 +13,17 @@ ghost use Rattle.calendar.specs.Contract.{date_result};
 use crate::day::{date_in, month_end, year_in};
 use crate::pattern::{like, starts_like, two_digits};
 use crate::time::read_time;
-use calendar::instant::{DateAnswer, midnight};
+use calendar::instant::{DateFault, Instant, midnight};
 use model::Date;
 
 // A text of one of the first three forms: YYYY, YYYY-MM, YYYY-MM-DD.
-pub fn read_day(text: &[u8]) -> DateAnswer
+#[tactic(auto, unfolding(model::specs::DateText::day_text))]
+pub fn read_day(text: &[u8]) -> Result<Instant, DateFault>
     ensures { date_result result ≡ day_text text.now }
 {
     if like(b"0000", text) {
-        let year = year_in(text);
         return midnight(Date {
-            year,
+            year: year_in(text),
             month: 12,
             day: 31,
         });
@@ -34,11 +34,12 @@ pub fn read_day(text: &[u8]) -> DateAnswer
     if like(b"0000-00-00", text) {
         return midnight(date_in(text));
     }
-    DateAnswer::BadDate
+    Err(DateFault::BadDate)
 }
 
 // A text of any of the nineteen.
-pub fn read_date(text: &[u8]) -> DateAnswer
+#[tactic(auto, unfolding(model::specs::DateText::date_text))]
+pub fn read_date(text: &[u8]) -> Result<Instant, DateFault>
     ensures { date_result result ≡ date_text text.now }
 {
     if starts_like(b"0000-00-00T00:00:00", text) {

@@ -7,24 +7,24 @@ fn fits(p: u8, x: u8) -> bool
     ensures { result ≡ fits_byte p x }
 {
     if p == b'0' {
-        return x >= b'0' && x <= b'9';
+        x.is_ascii_digit()
+    } else {
+        p == x
     }
-    p == x
 }
 
 // Whether a text begins with a shape.
+#[tactic(auto, using(crate::proofs::Shapes::starts_past), unfolding(model::specs::DateText::starts_like))]
 pub fn starts_like(shape: &[u8], text: &[u8]) -> bool
     ensures { result ≡ starts_like shape.now text.now }
 {
-    if text.len() < shape.len() {
-        return false;
-    }
-    let mut i: usize = 0;
-    while i < shape.len() {
-        if !fits(shape[i], text[i]) {
+    for (i, p) in shape.iter().enumerate() {
+        if text.len() <= i {
             return false;
         }
-        i += 1;
+        if !fits(*p, text[i]) {
+            return false;
+        }
     }
     true
 }
@@ -33,24 +33,15 @@ pub fn starts_like(shape: &[u8], text: &[u8]) -> bool
 pub fn like(shape: &[u8], text: &[u8]) -> bool
     ensures { result ≡ reading.like shape.now text.now }
 {
-    if text.len() != shape.len() {
-        return false;
-    }
-    starts_like(shape, text)
+    text.len() == shape.len() && starts_like(shape, text)
 }
 
 // The digit at a place; 0 past the end.
 pub fn digit_at(text: &[u8], i: usize) -> u64
     ensures { (result ≡ digit_at text.now i) × (result ≤ 207) }
 {
-    if i >= text.len() {
-        return 0;
-    }
-    let x = text[i];
-    if x < b'0' {
-        return 0;
-    }
-    (x - b'0') as u64
+    let x = text.get(i).copied().unwrap_or(0);
+    u64::from(x.saturating_sub(b'0'))
 }
 
 // The number that two digits make.
@@ -62,15 +53,14 @@ pub fn two_digits(text: &[u8], i: usize) -> u64
 }
 
 // How many digits a text begins with.
+#[tactic(auto, unfolding(model::specs::DateText::digit_run))]
 pub fn digit_run(text: &[u8]) -> usize
     ensures { (result ≡ digit_run text.now) × (result ≤ length text.now) }
 {
-    let mut i: usize = 0;
-    while i < text.len() {
-        if !fits(b'0', text[i]) {
+    for (i, b) in text.iter().enumerate() {
+        if !b.is_ascii_digit() {
             return i;
         }
-        i += 1;
     }
-    i
+    text.len()
 }

@@ -12,18 +12,10 @@ pub const MS_PER_DAY: u64 = 86400000;
 // The months of the years 0000 to 9999.
 const RANGE_MONTHS: u64 = 12 * 10000;
 
-// The day of a date; or that there is no such date, or that its year is past 9999.
+// Why a date has no day: there is no such date, or its year is past 9999.
 #[derive(Clone, Copy)]
-pub enum DayAnswer {
-    Is(u64),
+pub enum DayFault {
     NoDate,
-    Late,
-}
-
-// The day on which a month begins; or that its year is past 9999.
-#[derive(Clone, Copy)]
-pub enum MonthAnswer {
-    Begins(u64),
     Late,
 }
 
@@ -31,43 +23,34 @@ pub enum MonthAnswer {
 pub fn is_valid(date: Date) -> bool
     ensures { result ≡ is_valid date }
 {
-    let month = date.month;
-    let day = date.day;
-    if month < 1 {
-        return false;
-    }
-    if month > 12 {
-        return false;
-    }
-    if day < 1 {
-        return false;
-    }
-    day <= month_days(date.year, month)
+    let Date { year, month, day } = date;
+    1 <= month && month <= 12 && 1 <= day && day <= month_days(year, month)
 }
 
 // The days of all years before a year: 365 each, and one more for each leap year.
+#[tactic(auto, using(model::proofs::Laws::Calendar::closed_form))]
 fn year_start(year: u64) -> u64
     requires { year ≤ 10000000000 }
     ensures { result ≡ year_start year }
 {
-    365 * year + (year + 3) / 4 + (year + 399) / 400 - (year + 99) / 100
+    365 * year + year.div_ceil(4) + year.div_ceil(400) - year.div_ceil(100)
 }
 
 // The days of a year's months before a month.
+#[tactic(auto, using(model::proofs::Laws::Calendar::month_bound, model::proofs::Laws::Calendar::sum_next), unfolding(model::specs::Calendar::sum_first))]
 fn months_before(year: u64, month: u64) -> u64
     requires { (1 ≤ month) × (month ≤ 12) }
     ensures { (result ≡ sum_first (month - 1) (months year)) × (result ≤ 372) }
 {
-    let mut sum: u64 = 0;
-    let mut m: u64 = 1;
-    while m < month {
+    let mut sum = 0;
+    for m in 1..month {
         sum += month_days(year, m);
-        m += 1;
     }
     sum
 }
 
 // The day of a valid date.
+#[tactic(auto, using(model::proofs::Laws::Calendar::day_bound, model::proofs::Laws::Calendar::valid_parts))]
 fn day_number(date: Date) -> u64
     requires { WithinYears date }
     ensures { result ≡ day_number date }
@@ -76,26 +59,26 @@ fn day_number(date: Date) -> u64
 }
 
 // The day of any date.
-pub fn day_of(date: Date) -> DayAnswer
+pub fn day_of(date: Date) -> Result<u64, DayFault>
     ensures { result ≡ day_answer date }
 {
     if !is_valid(date) {
-        return DayAnswer::NoDate;
+        return Err(DayFault::NoDate);
     }
     if date.year > 9999 {
-        return DayAnswer::Late;
+        return Err(DayFault::Late);
     }
-    DayAnswer::Is(day_number(date))
+    Ok(day_number(date))
 }
 
-// The first day of any month, counted from 0000-01.
-pub fn month_start(month: u64) -> MonthAnswer
+// The first day of any month, counted from 0000-01; none for a month of a year past 9999.
+pub fn month_start(month: u64) -> Option<u64>
     ensures { result ≡ month_answer month }
 {
     if month >= RANGE_MONTHS {
-        return MonthAnswer::Late;
+        return None;
     }
-    MonthAnswer::Begins(day_number(Date {
+    Some(day_number(Date {
         year: month / 12,
         month: month % 12 + 1,
         day: 1,
@@ -103,32 +86,29 @@ pub fn month_start(month: u64) -> MonthAnswer
 }
 
 // The date of day n of a year, from 0: months are taken off.
+#[tactic(auto, unfolding(model::specs::Calendar::sum_first))]
 fn date_in_year(year: u64, n: u64) -> Date
     requires { n < year_days year }
     ensures { result ≡ date_of_day (year_start year + n) }
 {
-    let mut month: u64 = 1;
+    let mut month = 1;
     let mut left = n;
-    loop {
-        let days = month_days(year, month);
-        if left < days {
-            return Date {
-                year,
-                month,
-                day: left + 1,
-            };
-        }
-        left -= days;
+    while let Some(rest) = left.checked_sub(month_days(year, month)) {
+        left = rest;
         month += 1;
     }
+    let day = left + 1;
+    Date { year, month, day }
 }
 
 // The date of a day. No year has more than 366 days, so that the year is n / 366 or a later one.
+#[tactic(auto, using(crate::proofs::Dates::year_next, crate::proofs::Dates::year_low, crate::proofs::Dates::year_high))]
 fn date_of_day(n: u64) -> Date
     requires { n ≤ 1000000000000 }
     ensures { result ≡ date_of_day n }
 {
     let mut year = n / 366;
+    // A range would need a bound, and an answer past it, which is never reached.
     while year_start(year + 1) <= n {
         year += 1;
     }

@@ -1,5 +1,5 @@
 // The lengths of the months.
-ghost use Rattle.std.specs.Prelude.{◌≡◌, cond, ◌-◌, ◌<◌};
+ghost use Rattle.std.specs.Prelude.{◌≡◌};
 ghost use Rattle.model.specs.Calendar.{is_leap, month_days};
 
 // The days of each month: of a common year, and of a leap year.
@@ -8,41 +8,18 @@ const MONTH_DAYS: [[u8; 12]; 2] = [
     [31, 29, 31, 30, 31, 30, 31, 31, 30, 31, 30, 31],
 ];
 
-// The table's row of a year.
-fn row(year: u64) -> usize
-    ensures { (result ≡ cond (is_leap year) 1 0) × (result < 2) }
+fn is_leap(year: u64) -> bool
+    ensures { result ≡ is_leap year }
 {
-    if year % 4 != 0 {
-        return 0;
-    }
-    if year % 100 != 0 {
-        return 1;
-    }
-    if year % 400 != 0 {
-        return 0;
-    }
-    1
-}
-
-// A month's place in its row.
-fn place(month: u64) -> usize
-    ensures { result ≡ month - 1 }
-{
-    if month < 1 {
-        return 0;
-    }
-    (month - 1) as usize
+    year % 4 == 0 && (year % 100 != 0 || year % 400 == 0)
 }
 
 // The days of a month from 1 to 12. (Month 0 is taken as January, one after the twelfth as a month without days.)
-#[tactic(auto, using(crate::proofs::Dates::no_month))]
+#[tactic(auto, unfolding(model::specs::Calendar::months))]
 pub fn month_days(year: u64, month: u64) -> u64
     ensures { result ≡ month_days year month }
 {
-    if month > 12 {
-        return 0;
-    }
-    let k = row(year);
-    let i = place(month);
-    MONTH_DAYS[k][i] as u64
+    let row = usize::from(is_leap(year));
+    let place = month.saturating_sub(1) as usize;
+    MONTH_DAYS[row].get(place).copied().map_or(0, u64::from)
 }

@@ -17,11 +17,10 @@ use Rattle.heap.proofs.Laws.Cells.{length_stored}
 use Rattle.heap.proofs.Main as heap
 use Rattle.heap.specs.Means.{Means}
 use Rattle.heap.specs.Unfold.{Areas, areas}
-use Rattle.operations.specs.declared.ended.Ended.{Ended}
 use Rattle.operations.specs.declared.ended.State.{State}
 use Rattle.operations.specs.Cells.{Same}
 use Rattle.operations.specs.Contract.{StackRoom, Applies}
-use Rattle.operations.specs.Ended.{state, EndsAs}
+use Rattle.operations.specs.Ended.{Ending, state, EndsAs}
 use Rattle.operations.specs.Laws.Cells.{same_all, same_then, same_put, means_kept, each_kept}
 use Rattle.operations.specs.Laws.Stack.{stack_cell_lem, stacked_same, stacked_more}
 use Rattle.operations.specs.Stack.{stack_cell, stacked}
@@ -120,7 +119,7 @@ module _ {A R B C : Bytes} {t : Task} {p : Pending} where
         run = g ∙ applied_one a.operation a.values r rs a.given t.state.left;
       }
 
-  pub applies : (s : State) {e : Ended} {C' : Bytes} → p.rest ≡ 0 → s ≡ all_done t p → Applies A B R C p.op p.done s e C' → Argued A R B C t p (Ends e) C'
+  pub applies : (s : State) {e : Ending} {C' : Bytes} → p.rest ≡ 0 → s ≡ all_done t p → Applies A B R C p.op p.done s e C' → Argued A R B C t p (Ends e) C'
   applies s {e} {C'} none is_state d = go (rw is_state at d)
     where
       go : Applies A B R C p.op p.done (all_done t p) e C' → Argued A R B C t p (Ends e) C'
@@ -129,9 +128,9 @@ module _ {A R B C : Bytes} {t : Task} {p : Pending} where
           same = x.same;
           steps = omega arith;
           within = λ s c. record {
-            grows = λ h u f. omega (arith, c.grows, x.within.grows h u f);
-            spends = λ h u f. omega (arith, c.spends, x.within.spends h u f, x.within.steps h u f);
-            stops = λ g l f. omega (arith, c.grows, c.spends, x.within.stops g l f);
+            grows = λ g f. omega (arith, c.grows, x.within.grows g f);
+            spends = λ g f. omega (arith, c.spends, x.within.spends g f, x.within.steps g f);
+            stops = λ d f. omega (arith, c.grows, c.spends, x.within.stops d f);
           };
           follows = λ m a. ends T m a a.others a.counted a.run;
         };

@@ -1,4 +1,5 @@
 -- Begun: how a rule begins: its own step, literals and paths, and the first operand of an operation.
+use Rattle.std.specs.Prelude.{Ok, Err}
 use mathlib.Core.Path.{◌≡◌, refl, subst, ap, sym, ◌∙◌}
 use Prim.Native.Nat.{ℕ, zero, suc, ◌+◌, ◌-◌, ◌≤◌}
 use native.Mathlib.Omega.{arith}
@@ -18,10 +19,9 @@ use Rattle.heap.specs.Unfold.{areas}
 use Rattle.keywords.specs.declared.Op.{Op}
 use Rattle.keywords.specs.Contract.{Stands, stands_array, stands_equal, stands_member_of, stands_plus, stands_not, stands_date_of_birth, stands_compare, stands_plus_time, stands_extract}
 use Rattle.op_lookup.specs.Contract.{Leads}
-use Rattle.operations.specs.declared.ended.Ended.TheVariants.{Gives, Denies}
-use Rattle.operations.specs.declared.ended.Fault.TheVariants.{OutOfSteps}
+use Rattle.model.specs.declared.refusal.EvalFault.TheVariants.{OutOfSteps}
 use Rattle.operations.specs.declared.ended.State.{State}
-use Rattle.operations.specs.Ended.{state, EndsAs, ends_value, ends_fault}
+use Rattle.operations.specs.Ended.{given, denied, state, EndsAs, ends_value, ends_fault}
 use Rattle.operations.specs.Stack.{stacked_from}
 use Rattle.rule.specs.declared.view.Literal.{Literal}
 use Rattle.rule.specs.declared.view.View.{View}
@@ -82,7 +82,7 @@ only_array z (stands_extract e x y) = absurd (omega (arith, e, z))
 
 -- The first operand of an operation, by whether there is one.
 module _ (op : Op) (q : Rows) (c : Handle) (s : State) where
-  pub no_operand : (h : Handle) → q.count ≡ 0 → h ≡ Compound (parts List s.top 0) → Ends (Gives h s) ≡ first_argument op q c s
+  pub no_operand : (h : Handle) → q.count ≡ 0 → h ≡ Compound (parts List s.top 0) → Ends (Ok (given h s)) ≡ first_argument op q c s
   no_operand h z e = rw (z, e)
 
   pub some_operand : (u : Task) (p : Pending) → (q.count ≡ 0 → ⊥) → u ≡ first_task q c s → p ≡ pending op 0 (q.count - 1) → Asks u (Argument p) ≡ first_argument op q c s
@@ -94,33 +94,33 @@ module _ (op : Op) (q : Rows) (c : Handle) (s : State) where
 
 module _ (T A R B C : Bytes) (t : Task) where
   -- No step is left.
-  pub none_left : t.state.left ≡ 0 → Starts T A R B C t (Ends (Denies OutOfSteps 0))
+  pub none_left : t.state.left ≡ 0 → Starts T A R B C t (Ends (Err (denied OutOfSteps 0)))
   none_left e = record {
-    within = stops_at t.state OutOfSteps 0 (omega arith);
-    follows = λ ρ κ k m. ends_fault {e = OutOfSteps} {left = 0} (rw e) refl;
+    within = stops_at t.state (denied OutOfSteps 0) (omega arith);
+    follows = λ ρ κ k m. ends_fault {d = denied OutOfSteps 0} (rw e) refl;
   }
 
   module _ (some : 1 ≤ t.state.left) (s : State) (is_state : s ≡ after t) {w : View} (seen : ViewsAs T A t.row t.state.deep w) where
-    pub of_literal : (g : Literal) (h : Handle) → w ≡ Views.Literal g → h ≡ literal_handle g → Starts T A R B C t (Ends (Gives h s))
+    pub of_literal : (g : Literal) (h : Handle) → w ≡ Views.Literal g → h ≡ literal_handle g → Starts T A R B C t (Ends (Ok (given h s)))
     unfolding plain_body
     of_literal g h e f = rw (is_state, f) (record {
-      within = gives_at t.state (literal_handle g) (after t) (omega arith) (omega arith);
+      within = gives_at t.state (given (literal_handle g) (after t)) (omega arith) (omega arith);
       follows = λ ρ κ k m. go ρ κ (subst (λ (y : View). Viewed T A t.state.deep y ρ) e (seen.viewed ρ k));
     })
       where
-        go : (ρ : Rule) (κ : Value) → Viewed T A t.state.deep (Views.Literal g) ρ → EndsAs (areas A B R C) (eval_plain ρ κ t.state.left) (Gives (literal_handle g) (after t))
-        go ρ κ (viewed_literal n) = ends_value {s = after t} (begun ρ κ t.state.left some) refl (literal_means n)
+        go : (ρ : Rule) (κ : Value) → Viewed T A t.state.deep (Views.Literal g) ρ → EndsAs (areas A B R C) (eval_plain ρ κ t.state.left) (Ok (given (literal_handle g) (after t)))
+        go ρ κ (viewed_literal n) = ends_value {g = given (literal_handle g) (after t)} (begun ρ κ t.state.left some) refl (literal_means n)
 
-    pub of_path : (p : Span) (path : Bytes) (r : Handle) → w ≡ Views.Var p → path ≡ bytes_of A p → t.state.top ≤ heap_cells → Leads path B R C t.context r → Starts T A R B C t (Ends (Gives r s))
+    pub of_path : (p : Span) (path : Bytes) (r : Handle) → w ≡ Views.Var p → path ≡ bytes_of A p → t.state.top ≤ heap_cells → Leads path B R C t.context r → Starts T A R B C t (Ends (Ok (given r s)))
     unfolding plain_body
     of_path p path r e is_path_lem room leads = rw is_state (record {
-      within = gives_at t.state r (after t) (omega arith) (omega arith);
+      within = gives_at t.state (given r (after t)) (omega arith) (omega arith);
       follows = λ ρ κ k m. go ρ κ (subst (λ (y : View). Viewed T A t.state.deep y ρ) e (seen.viewed ρ k)) m;
     })
       where
-        go : (ρ : Rule) (κ : Value) → Viewed T A t.state.deep (Views.Var p) ρ → Means (areas A B R C) t.state.top κ t.context → EndsAs (areas A B R C) (eval_plain ρ κ t.state.left) (Gives r (after t))
+        go : (ρ : Rule) (κ : Value) → Viewed T A t.state.deep (Views.Var p) ρ → Means (areas A B R C) t.state.top κ t.context → EndsAs (areas A B R C) (eval_plain ρ κ t.state.left) (Ok (given r (after t)))
         go ρ κ (viewed_var {q = q} n) m =
-            ends_value {s = after t} (begun ρ κ t.state.left some) refl (leads.leads A t.state.top q κ (rw is_path_lem n) room m)
+            ends_value {g = given r (after t)} (begun ρ κ t.state.left some) refl (leads.leads A t.state.top q κ (rw is_path_lem n) room m)
 
     -- ---- operations
     module _ (q : Rows) (u : Task) (is-task : u ≡ first_task q t.context s) where
@@ -192,12 +192,12 @@ module _ (T A R B C : Bytes) (t : Task) where
 
     -- ---- operations on all operands
     -- Of no rules: the empty list.
-    no_arguments : (op : Op) (q : Rows) (ρ : Rule) (κ : Value) → q.count ≡ 0 → Viewed T A t.state.deep (Views.Apply op q) ρ → EndsAs (areas A B R C) (eval_plain ρ κ t.state.left) (Gives (Compound (parts List t.state.top 0)) (after t))
+    no_arguments : (op : Op) (q : Rows) (ρ : Rule) (κ : Value) → q.count ≡ 0 → Viewed T A t.state.deep (Views.Apply op q) ρ → EndsAs (areas A B R C) (eval_plain ρ κ t.state.left) (Ok (given (Compound (parts List t.state.top 0)) (after t)))
     unfolding plain_body item_count
     no_arguments op q ρ κ z (viewed_apply {o = o} {rs = rs} d k) = go o rs (only_array z d) (sym (holds_count k) ∙ z)
       where
-        go : (o : Operation) (rs : Rules) → o ≡ Operation.array → rule_count rs ≡ 0 → EndsAs (areas A B R C) (eval_plain (apply o rs) κ t.state.left) (Gives (Compound (parts List t.state.top 0)) (after t))
-        go o no_rules e n = ends_value {v = array no_items} {s = after t} (begun (apply o no_rules) κ t.state.left some ∙ rw e) refl (means_list {top = t.state.top} {vs = no_items} {cell = t.state.top} {count = 0} refl (omega arith) no_cell_items)
+        go : (o : Operation) (rs : Rules) → o ≡ Operation.array → rule_count rs ≡ 0 → EndsAs (areas A B R C) (eval_plain (apply o rs) κ t.state.left) (Ok (given (Compound (parts List t.state.top 0)) (after t)))
+        go o no_rules e n = ends_value {v = array no_items} {g = given (Compound (parts List t.state.top 0)) (after t)} (begun (apply o no_rules) κ t.state.left some ∙ rw e) refl (means_list {top = t.state.top} {vs = no_items} {cell = t.state.top} {count = 0} refl (omega arith) no_cell_items)
         go o (rule r rs) e n = absurd (omega (arith, n))
 
     pub of_apply : (op : Op) (q : Rows) (n : Next) → w ≡ Views.Apply op q → n ≡ first_argument op q t.context s → Starts T A R B C t n
@@ -215,7 +215,7 @@ module _ (T A R B C : Bytes) (t : Task) where
 
         go : (k : ℕ) → q.count ≡ k → Starts T A R B C t (first_argument op q t.context (after t))
         go zero z = rw z (record {
-          within = gives_at t.state (Compound (parts List t.state.top 0)) (after t) (omega arith) (omega arith);
+          within = gives_at t.state (given (Compound (parts List t.state.top 0)) (after t)) (omega arith) (omega arith);
           follows = λ ρ κ k m. no_arguments op q ρ κ z (viewed ρ k);
         })
         go (suc rest) z = let x = some_arguments rest z in rw z (record {

@@ -1,6 +1,6 @@
 -- Literals: an operand that is a literal has its value by its row, and takes one step.
 use mathlib.Core.Bool.{Bool, true, false, cond}
-use mathlib.Core.Option.{some}
+use Rattle.std.specs.Prelude.{Option, None, Some}
 use mathlib.Core.Path.{◌≡◌, refl, sym, ap, ◌∙◌}
 use Prim.Native.Nat.{ℕ, zero, suc, ◌+◌, ◌-◌, ◌≤◌, ◌<◌}
 use native.Mathlib.Omega.{arith}
@@ -24,8 +24,6 @@ use Rattle.rule.specs.Holds.{Holds}
 use Rattle.table.specs.declared.node.Node.{Node}
 use Rattle.table.specs.Denotes.{Denotes, denotes_null, denotes_false, denotes_true, denotes_integer, denotes_string, denotes_array, denotes_object}
 use Rattle.table.specs.Node.{node_at, next_row}
-use Rattle.eval.specs.declared.literal.LiteralValue.{LiteralValue}
-use Rattle.eval.specs.declared.literal.LiteralValue.TheVariants.{NotLiteral, Of}
 use Rattle.eval.specs.declared.task.Frame.TheVariants.{Argument}
 use Rattle.eval.specs.declared.task.Next.{Next}
 use Rattle.eval.specs.declared.task.Pending.{Pending}
@@ -41,7 +39,7 @@ record IsLiteral (A : Bytes) (ρ : Rule) (h : Handle) : Type 0 where
   is : ρ ≡ literal spelled
   means : (R B C : Bytes) (top : ℕ) → Means (areas A B R C) top (literal_value spelled) h
 
-literal_denoted : {T A : Bytes} {v : Value} {n : Node} (ρ : Rule) (h : Handle) → Denotes T A v n → shape v ≡ some ρ → literal_of n ≡ Of h → IsLiteral A ρ h
+literal_denoted : {T A : Bytes} {v : Value} {n : Node} (ρ : Rule) (h : Handle) → Denotes T A v n → shape v ≡ Some ρ → literal_of n ≡ Some h → IsLiteral A ρ h
 unfolding shape
 literal_denoted ρ h denotes_null s e = clash cc
 literal_denoted ρ h denotes_false s e = let f : ρ ≡ literal (ModelLiteral.boolean false) = cc in record { spelled = ModelLiteral.boolean false; is = f; means = λ R B C top. let g : h ≡ Handles.False = cc in rw g means_false }
@@ -51,7 +49,7 @@ literal_denoted ρ h (denotes_string {s = x} {p = p} l) s e = let f : ρ ≡ lit
 literal_denoted ρ h (denotes_array a b c) s e = clash cc
 literal_denoted ρ h (denotes_object a b c) s e = clash cc
 
-literal_held : {T A : Bytes} {deep row : ℕ} {ρ : Rule} (h : Handle) → Holds T A deep row ρ → literal_of (node_at T row) ≡ Of h → IsLiteral A ρ h
+literal_held : {T A : Bytes} {deep row : ℕ} {ρ : Rule} (h : Handle) → Holds T A deep row ρ → literal_of (node_at T row) ≡ Some h → IsLiteral A ρ h
 literal_held h k e = literal_denoted _ h k.denotes k.shaped e
 
 -- One step, where one is left.
@@ -64,12 +62,12 @@ literal_run l κ (suc n) k = let e : n ≡ suc n - 1 = omega arith in ap (gives 
 pub record FoundLiteral (T : Bytes) (t : Task) (p : Pending) (h : Handle) : Type 0 where
   pub some_left : 1 ≤ t.state.left
   pub some_rest : 1 ≤ p.rest
-  pub is : literal_of (node_at T t.row) ≡ Of h
+  pub is : literal_of (node_at T t.row) ≡ Some h
 
-pub literal_found : (T : Bytes) (t : Task) (p : Pending) (h : Handle) {r : LiteralValue} → r ≡ literal_next T t p → r ≡ Of h → FoundLiteral T t p h
+pub literal_found : (T : Bytes) (t : Task) (p : Pending) (h : Handle) {r : Option Handle} → r ≡ literal_next T t p → r ≡ Some h → FoundLiteral T t p h
 literal_found T t p h e f = go (eqb p.rest 0) (eqb t.state.left 0) refl refl (sym e ∙ f)
   where
-    go : (a b : Bool) → eqb p.rest 0 ≡ a → eqb t.state.left 0 ≡ b → cond a NotLiteral (cond b NotLiteral (literal_of (node_at T t.row))) ≡ Of h → FoundLiteral T t p h
+    go : (a b : Bool) → eqb p.rest 0 ≡ a → eqb t.state.left 0 ≡ b → cond a None (cond b None (literal_of (node_at T t.row))) ≡ Some h → FoundLiteral T t p h
     go true b x y q = clash cc
     go false true x y q = clash cc
     go false false x y q = let k = eqb-false p.rest 0 x in let l = eqb-false t.state.left 0 y in record { some_left = omega arith; some_rest = omega arith; is = q }

@@ -1,4 +1,5 @@
 -- Steps: an operand's evaluation ended, and what the operation does with that.
+use Rattle.std.specs.Prelude.{Ok, Err}
 use mathlib.Core.Path.{◌≡◌, refl, ap, ◌∙◌}
 use Prim.Native.Nat.{ℕ, ◌+◌, ◌*◌, ◌≤◌, ◌<◌}
 use native.Mathlib.Omega.{arith}
@@ -8,12 +9,11 @@ use Rattle.model.specs.Limits.{heap_cells}
 use Rattle.model.specs.Value.{Value}
 use Rattle.heap.specs.declared.handle.Handle.{Handle}
 use Rattle.heap.specs.Unfold.{areas}
-use Rattle.operations.specs.declared.ended.Ended.{Ended}
-use Rattle.operations.specs.declared.ended.Ended.TheVariants.{Gives, Denies}
-use Rattle.operations.specs.declared.ended.Fault.{Fault}
+use Rattle.operations.specs.declared.ended.Denied.{Denied}
+use Rattle.operations.specs.declared.ended.Given.{Given}
 use Rattle.operations.specs.declared.ended.State.{State}
 use Rattle.operations.specs.Cells.{Same}
-use Rattle.operations.specs.Ended.{EndsAs, ends_value, ends_fault}
+use Rattle.operations.specs.Ended.{Ending, EndsAs, ends_value, ends_fault}
 use Rattle.operations.specs.Laws.Cells.{same_all, same_then}
 use Rattle.operations.specs.Laws.Ends.{got, failed}
 use Rattle.eval.specs.declared.task.Frame.{Frame}
@@ -27,79 +27,79 @@ use Rattle.eval.proofs.Bounds.{gives_at, stops_at, within_deep, same_wider, resu
 use Rattle.eval.proofs.Frames.{Moved, frame_kept}
 
 -- ---- the operand gave a value
-module _ {C : Bytes} {t : Task} {f : Frame} {e : Ended} (h : Handle) (u : State) (is-value : e ≡ Gives h u) (r : Taking C t f e) where
-  spends_on : u.top + 2 * u.left + 2 ≤ t.state.top + 2 * t.state.left
-  spends_on = r.bound.spends h u is-value
+module _ {C : Bytes} {t : Task} {f : Frame} {e : Ending} (g : Given) (is-value : e ≡ Ok g) (r : Taking C t f e) where
+  spends_on : g.state.top + 2 * g.state.left + 2 ≤ t.state.top + 2 * t.state.left
+  spends_on = r.bound.spends g is-value
 
-  grows_on : t.state.top ≤ u.top
-  grows_on = r.bound.grows h u is-value
+  grows_on : t.state.top ≤ g.state.top
+  grows_on = r.bound.grows g is-value
 
-  fits : u.top + 2 * u.left + (2 + unused f) ≤ u.bottom + on_stack f
-  fits = omega (arith, spends_on, r.charged.spends, r.charged.stack, r.restored.bottom h u is-value, r.room.fits)
+  fits : g.state.top + 2 * g.state.left + (2 + unused f) ≤ g.state.bottom + on_stack f
+  fits = omega (arith, spends_on, r.charged.spends, r.charged.stack, r.restored.bottom g is-value, r.room.fits)
 
-  within : u.bottom + on_stack f ≤ heap_cells
-  within = omega (arith, r.charged.stack, r.restored.bottom h u is-value, r.room.within)
+  within : g.state.bottom + on_stack f ≤ heap_cells
+  within = omega (arith, r.charged.stack, r.restored.bottom g is-value, r.room.within)
 
-  moved : (t' : Task) → t' ≡ task t.row t.context u → Moved C C t t'
+  moved : (t' : Task) → t' ≡ task t.row t.context g.state → Moved C C t t'
   moved t' q = rw q (record {
     row = refl;
     context = refl;
     same = same_all C _ _;
     grows = grows_on;
-    bottom = r.restored.bottom h u is-value;
-    deep = r.restored.deep h u is-value;
+    bottom = r.restored.bottom g is-value;
+    deep = r.restored.deep g is-value;
   })
 
-  charged_on : (s : State) → Charged s 0 t.state f → Charged s 2 u f
+  charged_on : (s : State) → Charged s 0 t.state f → Charged s 2 g.state f
   charged_on s c = record {
     grows = omega (arith, c.grows, grows_on);
     spends = omega (arith, c.spends, spends_on);
-    stack = rw (r.restored.bottom h u is-value) c.stack;
-    deep = rw (r.restored.deep h u is-value) c.deep;
+    stack = rw (r.restored.bottom g is-value) c.stack;
+    deep = rw (r.restored.deep g is-value) c.deep;
   }
 
-  pub taken : {T A R B C' : Bytes} {n : Next} (t' : Task) → t' ≡ task t.row t.context u → Takes T A R B C t' f h n C' → TakesEnd T A R B C t f e n C'
+  pub taken : {T A R B C' : Bytes} {n : Next} (t' : Task) → t' ≡ task t.row t.context g.state → Takes T A R B C t' f g.value n C' → TakesEnd T A R B C t f e n C'
   taken {T} {A} {R} {B} {C'} {n} t' is-task d = go (rw is-task at d)
     where
-      go : Takes T A R B C (task t.row t.context u) f h n C' → TakesEnd T A R B C t f e n C'
+      go : Takes T A R B C (task t.row t.context g.state) f g.value n C' → TakesEnd T A R B C t f e n C'
       go x = record {
-        same = same_wider t.state.top (t.state.bottom + on_stack f) x.same grows_on (omega (arith, r.restored.bottom h u is-value));
+        same = same_wider t.state.top (t.state.bottom + on_stack f) x.same grows_on (omega (arith, r.restored.bottom g is-value));
         steps = omega (arith, x.steps, spends_on, grows_on);
         within = λ s c. x.within s (charged_on s c);
-        follows = λ K m k q. let g = got q is-value in rw g.is (x.follows K g.value (frame_kept (moved (task t.row t.context u) refl) T A R B f K k) g.means);
+        follows = λ K m k q. let y = got q is-value in rw y.is (x.follows K y.value (frame_kept (moved (task t.row t.context g.state) refl) T A R B f K k) y.means);
       }
 
   -- Its value is the rule's.
-  pub branch_ends : {T A R B : Bytes} → f ≡ Branch → TakesEnd T A R B C t f e (Ends (Gives h u)) C
+  pub branch_ends : {T A R B : Bytes} → f ≡ Branch → TakesEnd T A R B C t f e (Ends (Ok g)) C
   branch_ends {T} {A} {R} {B} q = record {
     same = same_all C _ _;
     steps = omega arith;
-    within = λ s c. gives_at s h u (omega (arith, c.grows, grows_on)) (omega (arith, c.spends, spends_on));
+    within = λ s c. gives_at s g (omega (arith, c.grows, grows_on)) (omega (arith, c.spends, spends_on));
     follows = λ K m k x. go K m (rw q at k) x;
   }
     where
-      go : (K : Then) (m : Plain Value) → FrameMeans T A R B C t Branch K → EndsAs (areas A B R C) m e → EndsAs (areas A B R C) (continue m K) (Gives h u)
-      go K m k x = let g = got x is-value in ends_value {v = g.value} {h = h} {s = u} (ap (λ (p : Plain Value). continue p K) g.is ∙ k.run g.value u.left) refl g.means
+      go : (K : Then) (m : Plain Value) → FrameMeans T A R B C t Branch K → EndsAs (areas A B R C) m e → EndsAs (areas A B R C) (continue m K) (Ok g)
+      go K m k x = let y = got x is-value in ends_value {v = y.value} {g = g} (ap (λ (p : Plain Value). continue p K) y.is ∙ k.run y.value g.state.left) refl y.means
 
-  pub item_room : (l : ℕ) (i : Handle) (t' : Task) → f ≡ Item l i → t' ≡ task t.row t.context u → Room C 2 0 t'.state
+  pub item_room : (l : ℕ) (i : Handle) (t' : Task) → f ≡ Item l i → t' ≡ task t.row t.context g.state → Room C 2 0 t'.state
   item_room l i t' q is-task = rw is-task (record { fits = omega (arith, rw q at fits); within = omega (arith, rw q at within); enough = r.room.enough })
 
-  pub argument_room : (p : Pending) (t' : Task) → f ≡ Argument p → t' ≡ task t.row t.context u → Room C (4 + p.done) p.done t'.state
+  pub argument_room : (p : Pending) (t' : Task) → f ≡ Argument p → t' ≡ task t.row t.context g.state → Room C (4 + p.done) p.done t'.state
   argument_room p t' q is-task = rw is-task (record { fits = omega (arith, rw q at fits); within = omega (arith, rw q at within); enough = r.room.enough })
 
 -- ---- it was refused
-pub take_stops : {T A R B C : Bytes} {t : Task} {f : Frame} (e : Ended) (g : Fault) (l : ℕ) → e ≡ Denies g l → Taking C t f e → TakesEnd T A R B C t f e (Ends e) C
-take_stops {T} {A} {R} {B} {C} {t} {f} e g l q r = record {
+pub take_stops : {T A R B C : Bytes} {t : Task} {f : Frame} (e : Ending) (d : Denied) → e ≡ Err d → Taking C t f e → TakesEnd T A R B C t f e (Ends e) C
+take_stops {T} {A} {R} {B} {C} {t} {f} e d q r = record {
   same = same_all C _ _;
   steps = omega arith;
-  within = λ s c. rw q (stops_at s g l (omega (arith, c.grows, c.spends, r.bound.stops g l q)));
-  follows = λ K m k x. ends_fault {e = g} {left = l} (rw (failed x q)) q;
+  within = λ s c. rw q (stops_at s d (omega (arith, c.grows, c.spends, r.bound.stops d q)));
+  follows = λ K m k x. ends_fault {d = d} (rw (failed x q)) q;
 }
 
 -- ---- the whole rule
 module _ {T A R B C : Bytes} {t : Task} {n : Next} (d : Starts T A R B C t n) where
   -- It ends at once,
-  pub ended : {r : Ended} (e : Ended) → n ≡ Ends e → r ≡ resumed_end t.state e → Evals T A R B C t r C
+  pub ended : {r : Ending} (e : Ending) → n ≡ Ends e → r ≡ resumed_end t.state e → Evals T A R B C t r C
   ended e is-end q = rw q (record {
     same = same_all C _ _;
     bound = resumed_bound t.state e (rw is-end at d.within);
@@ -118,7 +118,7 @@ module _ {T A R B C : Bytes} {t : Task} {n : Next} (d : Starts T A R B C t n) wh
     pub first_falls : next_deep (Asks u f) < 2 * t.state.deep + 1
     first_falls = within_deep t.state (Asks u f) charged_first
 
-    pub evaluated : {C₁ : Bytes} {e r : Ended} → Operates T A R B C (Asks u f) e C₁ → r ≡ resumed_end t.state e → Evals T A R B C t r C₁
+    pub evaluated : {C₁ : Bytes} {e r : Ending} → Operates T A R B C (Asks u f) e C₁ → r ≡ resumed_end t.state e → Evals T A R B C t r C₁
     evaluated {C₁} {e} o q = rw q (record {
       same = o.same t.state charged_first;
       bound = resumed_bound t.state e (o.bound t.state charged_first);
@@ -142,7 +142,7 @@ pub inv_begins : {T A R B C : Bytes} {n : Next} → Operating C n → OperandsIn
 inv_begins {C = C} o = record { operating = o; same = λ s w. same_all C _ _; within = λ s w. w; deep = omega arith; follows = λ m x. x }
 
 module _ {T A R B C₀ : Bytes} {n₀ : Next} {C : Bytes} {n : Next} (i : OperandsInv T A R B C₀ n₀ C n) where
-  pub inv_ends : (e : Ended) → n ≡ Ends e → Operates T A R B C₀ n₀ e C
+  pub inv_ends : (e : Ending) → n ≡ Ends e → Operates T A R B C₀ n₀ e C
   inv_ends e q = record { same = i.same; bound = λ s w. rw q at (i.within s w); ends = λ m x. rw q at (i.follows m x) }
 
   module _ (t : Task) (f : Frame) (q : n ≡ Asks t f) where
@@ -170,7 +170,7 @@ module _ {T A R B C₀ : Bytes} {n₀ : Next} {C : Bytes} {n : Next} (i : Operan
     pub asked_falls : 2 * t.state.deep + 1 < next_deep n₀
     asked_falls = omega (arith, asked_deep)
 
-    module _ {e : Ended} {C₁ : Bytes} (d : Evals T A R B C t e C₁) where
+    module _ {e : Ending} {C₁ : Bytes} (d : Evals T A R B C t e C₁) where
       room_after : Room C₁ 0 0 i.operating.base
       room_after = record { fits = i.operating.room.fits; within = i.operating.room.within; enough = rw d.same.size i.operating.room.enough }
 

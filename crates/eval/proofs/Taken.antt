@@ -1,17 +1,17 @@
 -- Taken: what `if`, `and` and `reduce` do with the value of an operand.
-use mathlib.Core.Option.{none, some}
-use mathlib.Core.Path.{◌≡◌, refl, sym, ap, subst, ◌∙◌}
+use Rattle.std.specs.Prelude.{None, Some, Ok, Err}
+use mathlib.Core.Path.{◌≡◌, refl, sym, ap, ◌∙◌}
 use Prim.Native.Nat.{ℕ, suc, ◌+◌, ◌-◌, ◌≤◌, ◌<◌}
 use native.Mathlib.Numerals.{add-one}
 use native.Mathlib.Omega.{arith}
 use Rattle.model.specs.Bytes.{Bytes}
 use Rattle.model.specs.Eval.{context}
 use Rattle.model.specs.EvalPlain.{Plain, gives, denies, continue, branch, fold, plain_and, eval_plain}
-use Rattle.model.proofs.Laws.Logic.{clash}
-use Rattle.model.specs.Refusal.{fault, wrong_kind}
+use Rattle.model.specs.declared.refusal.Fault.TheVariants.{WrongKind as wrong_kind}
+use Rattle.model.specs.declared.refusal.EvalFault.TheVariants.{Operation}
 use Rattle.model.specs.Rule.{Rule, Rules, no_rules, rule}
 use Rattle.model.specs.Truth.{Truth, truthy, falsy, neither, truth}
-use Rattle.model.specs.Value.{Value, array, Values, no_items, item, as_array}
+use Rattle.model.specs.Value.{Value, array, Values, no_items, item}
 use Rattle.syntax.specs.Layout.{item_count}
 use Rattle.heap.specs.declared.handle.Form.TheVariants as forms
 use Rattle.heap.specs.declared.handle.Handle.{Handle}
@@ -21,24 +21,22 @@ use Rattle.heap.specs.Cells.{stored}
 use Rattle.heap.specs.Handles.{parts}
 use Rattle.table.specs.Node.{next_row}
 use Rattle.heap.proofs.Main as heap
-use Rattle.heap.specs.Means.{Means, means_null, means_false, means_true, means_integer, means_instant, means_string, means_items, means_members, means_list, means_context}
+use Rattle.heap.specs.Means.{Means}
 use Rattle.heap.specs.Parts.{head_of, tail_of}
-use Rattle.heap.specs.Unfold.{Areas, areas}
-use Rattle.operations.specs.declared.ended.Ended.TheVariants.{Gives, Denies}
-use Rattle.operations.specs.declared.ended.Fault.TheVariants.{WrongKind}
+use Rattle.heap.specs.Unfold.{areas}
 use Rattle.operations.specs.declared.ended.State.{State}
 use Rattle.operations.specs.Cells.{Same}
-use Rattle.operations.specs.Ended.{state, ends_value, ends_fault}
+use Rattle.operations.specs.Ended.{given, denied, state, ends_value, ends_fault}
 use Rattle.operations.specs.Laws.Cells.{same_all, same_then, same_put, means_kept}
 use Rattle.rule.specs.Holds.{rule_count}
 use Rattle.op_scalars.specs.declared.truth.Truth as declared
 use Rattle.op_scalars.specs.declared.truth.Truth.TheVariants.{Truthy, Falsy, Neither}
-use Rattle.op_scalars.specs.Contract.{truth_of, TruthIs}
-use Rattle.eval.specs.declared.take.Elements.TheVariants.{NotArray, Of}
+use Rattle.op_scalars.specs.Contract.{elements_of, truth_of, TruthIs}
+use Rattle.op_scalars.proofs.Operands.{no_array, an_array}
 use Rattle.eval.specs.declared.task.Frame.TheVariants.{Guard, Branch, Conjunct, Source, Item}
 use Rattle.eval.specs.declared.task.Next.TheVariants.{Ends, Asks}
 use Rattle.eval.specs.declared.task.Task.{Task}
-use Rattle.eval.specs.Inner.{Room, RowsHold, row_rule, After, Then, GuardMeans, SourceMeans, ItemMeans, lambda_run, reduced, Asked, TakesByRule, TakesByRecord, elements_of, branch_row, Branches, task}
+use Rattle.eval.specs.Inner.{Room, RowsHold, row_rule, After, Then, GuardMeans, SourceMeans, ItemMeans, lambda_run, reduced, Asked, TakesByRule, TakesByRecord, branch_row, Branches, task}
 use Rattle.eval.proofs.Bounds.{gives_at, stops_at, same_wider}
 
 -- A value that ends the rule.
@@ -101,7 +99,7 @@ unfolding plain_and
 and_falsy no_rules c v n e = rw e
 and_falsy (rule r rs) c v n e = rw e
 
-and_neither : (rs : Rules) (c v : Value) (n : ℕ) → truth v ≡ neither → plain_and rs c v n ≡ denies (fault wrong_kind) n
+and_neither : (rs : Rules) (c v : Value) (n : ℕ) → truth v ≡ neither → plain_and rs c v n ≡ denies (Operation wrong_kind) n
 unfolding plain_and
 and_neither no_rules c v n e = rw e
 and_neither (rule r rs) c v n e = rw e
@@ -115,33 +113,33 @@ unfolding plain_and
 and_more r rs c v n e = rw e
 
 module _ {T : Bytes} {t : Task} {count : ℕ} {h : Handle} (x : declared.Truth) (is-truth : TruthIs h x) where
-  pub conjunct_falsy : x ≡ Falsy → TakesByRule T t (Conjunct count) h (Ends (Gives h t.state))
+  pub conjunct_falsy : x ≡ Falsy → TakesByRule T t (Conjunct count) h (Ends (Ok (given h t.state)))
   conjunct_falsy e = record {
     takes = λ A R B C. record {
       same = same_all C _ _;
       steps = omega arith;
-      within = λ s c. gives_at s h t.state c.grows (omega (arith, c.spends));
-      follows = λ K v m w. ends_value {v = v} {h = h} {s = t.state} (m.run v t.state.left ∙ and_falsy m.others m.given v t.state.left (sym (is-truth.is (areas A B R C) t.state.top v w) ∙ ap truth_of e)) refl w;
+      within = λ s c. gives_at s (given h t.state) c.grows (omega (arith, c.spends));
+      follows = λ K v m w. ends_value {v = v} {g = given h t.state} (m.run v t.state.left ∙ and_falsy m.others m.given v t.state.left (sym (is-truth.is (areas A B R C) t.state.top v w) ∙ ap truth_of e)) refl w;
     };
   }
 
-  pub conjunct_neither : x ≡ Neither → TakesByRule T t (Conjunct count) h (Ends (Denies WrongKind t.state.left))
+  pub conjunct_neither : x ≡ Neither → TakesByRule T t (Conjunct count) h (Ends (Err (denied (Operation wrong_kind) t.state.left)))
   conjunct_neither e = record {
     takes = λ A R B C. record {
       same = same_all C _ _;
       steps = omega arith;
-      within = λ s c. stops_at s WrongKind t.state.left (omega (arith, c.grows, c.spends));
-      follows = λ K v m w. ends_fault {e = WrongKind} {left = t.state.left} (m.run v t.state.left ∙ and_neither m.others m.given v t.state.left (sym (is-truth.is (areas A B R C) t.state.top v w) ∙ ap truth_of e)) refl;
+      within = λ s c. stops_at s (denied (Operation wrong_kind) t.state.left) (omega (arith, c.grows, c.spends));
+      follows = λ K v m w. ends_fault {d = denied (Operation wrong_kind) t.state.left} (m.run v t.state.left ∙ and_neither m.others m.given v t.state.left (sym (is-truth.is (areas A B R C) t.state.top v w) ∙ ap truth_of e)) refl;
     };
   }
 
-  pub conjunct_last : x ≡ Truthy → count < 2 → TakesByRule T t (Conjunct count) h (Ends (Gives h t.state))
+  pub conjunct_last : x ≡ Truthy → count < 2 → TakesByRule T t (Conjunct count) h (Ends (Ok (given h t.state)))
   conjunct_last e l = record {
     takes = λ A R B C. record {
       same = same_all C _ _;
       steps = omega arith;
-      within = λ s c. gives_at s h t.state c.grows (omega (arith, c.spends));
-      follows = λ K v m w. ends_value {v = v} {h = h} {s = t.state} (go m.others m.given v t.state.left m.counted (sym (is-truth.is (areas A B R C) t.state.top v w) ∙ ap truth_of e) (m.run v t.state.left)) refl w;
+      within = λ s c. gives_at s (given h t.state) c.grows (omega (arith, c.spends));
+      follows = λ K v m w. ends_value {v = v} {g = given h t.state} (go m.others m.given v t.state.left m.counted (sym (is-truth.is (areas A B R C) t.state.top v w) ∙ ap truth_of e) (m.run v t.state.left)) refl w;
     };
   }
     where
@@ -198,39 +196,6 @@ takes_source {T} {t} {h} lambda row t' is-lambda is_row is-task = rw (is-task, i
       run = m.run v t.state.left;
     }
 
--- ---- arrays among values
-not_array : {a : Areas} {t : ℕ} {v : Value} {h : Handle} → Means a t v h → elements_of h ≡ NotArray → as_array v ≡ none
-not_array means_null e = refl
-not_array means_false e = refl
-not_array means_true e = refl
-not_array (means_integer f g) e = refl
-not_array (means_instant f g) e = refl
-not_array (means_string f) e = refl
-not_array (means_items f g i) e = clash cc
-not_array (means_members f g i) e = refl
-not_array (means_list f g i) e = clash cc
-not_array (means_context f g m n) e = refl
-
-record Items (a : Areas) (t : ℕ) (v : Value) (p : Parts) : Type 0 where
-  pub values : Values
-  pub is : as_array v ≡ some values
-  pub means : Means a t (array values) (Compound p)
-
-of_same : {x y : Parts} → Of x ≡ Of y → x ≡ y
-of_same k = cc
-
-of_array : {a : Areas} {t : ℕ} {v : Value} {h : Handle} (p : Parts) → Means a t v h → elements_of h ≡ Of p → Items a t v p
-of_array p means_null e = clash cc
-of_array p means_false e = clash cc
-of_array p means_true e = clash cc
-of_array p (means_integer f g) e = clash cc
-of_array p (means_instant f g) e = clash cc
-of_array p (means_string f) e = clash cc
-of_array {a} {t} {v} {h} p (means_items {vs = vs} {row = row} {count = count} f g i) e = record { values = vs; is = refl; means = subst (λ (q : Parts). Means a t (array vs) (Compound q)) (of_same e) (means_items {top = t} {vs = vs} {row = row} {count = count} f g i) }
-of_array p (means_members f g i) e = clash cc
-of_array {a} {t} {v} {h} p (means_list {vs = vs} {cell = cell} {count = count} f g i) e = record { values = vs; is = refl; means = rw (of_same e) at (means_list {top = t} {vs = vs} {cell = cell} {count = count} f g i) }
-of_array p (means_context f g m n) e = clash cc
-
 -- ---- the items
 -- The two cells of a context.
 pub two_puts : (C : Bytes) (t : ℕ) (x y : Handle) {C₁ C₂ : Bytes} → C₁ ≡ stored C t x → C₂ ≡ stored C₁ (t + 1) y → C₂ ≡ stored (stored C t x) (suc t) y
@@ -241,25 +206,25 @@ abbrev item_task : ℕ → State → Task
 item_task row s = task row (Compound (parts forms.Context s.top 2)) (state s.left (s.top + 2) s.bottom s.deep)
 
 module _ {R C : Bytes} {t : Task} {lambda : ℕ} {items h : Handle} where
-  pub no_items_there : elements_of items ≡ NotArray → TakesByRecord R C t (Item lambda items) h (Ends (Denies WrongKind t.state.left)) C
+  pub no_items_there : elements_of items ≡ None → TakesByRecord R C t (Item lambda items) h (Ends (Err (denied (Operation wrong_kind) t.state.left))) C
   no_items_there e = record {
     takes = λ T A B. record {
       same = same_all C _ _;
       steps = omega arith;
-      within = λ s c. stops_at s WrongKind t.state.left (omega (arith, c.grows, c.spends));
-      follows = λ K v m w. ends_fault {e = WrongKind} {left = t.state.left} (m.run v t.state.left ∙ rw (not_array m.means e)) refl;
+      within = λ s c. stops_at s (denied (Operation wrong_kind) t.state.left) (omega (arith, c.grows, c.spends));
+      follows = λ K v m w. ends_fault {d = denied (Operation wrong_kind) t.state.left} (m.run v t.state.left ∙ rw (no_array m.means e)) refl;
     };
   }
 
-  module _ (p : Parts) (is-array : elements_of items ≡ Of p) where
-    pub items_done : p.count ≡ 0 → TakesByRecord R C t (Item lambda items) h (Ends (Gives h t.state)) C
+  module _ (p : Parts) (is-array : elements_of items ≡ Some p) where
+    pub items_done : p.count ≡ 0 → TakesByRecord R C t (Item lambda items) h (Ends (Ok (given h t.state))) C
     unfolding item_count
     items_done e = record {
       takes = λ T A B. record {
         same = same_all C _ _;
         steps = omega arith;
-        within = λ s c. gives_at s h t.state c.grows (omega (arith, c.spends));
-        follows = λ K v m w. let i = of_array p m.means is-array in ends_value {v = v} {h = h} {s = t.state} (m.run v t.state.left ∙ rw i.is (go m.lambda i.values v (heap.array_count _ t.state.top i.values p i.means))) refl w;
+        within = λ s c. gives_at s (given h t.state) c.grows (omega (arith, c.spends));
+        follows = λ K v m w. let i = an_array m.means is-array in ends_value {v = v} {g = given h t.state} (m.run v t.state.left ∙ rw i.is (go m.lambda i.values v (heap.array_count _ t.state.top i.values p i.means))) refl w;
       };
     }
       where
@@ -284,7 +249,7 @@ module _ {R C : Bytes} {t : Task} {lambda : ℕ} {items h : Handle} where
         same = same_wider t.state.top (t.state.bottom + 0) same_made (omega arith) (omega arith);
         steps = omega arith;
         within = λ s c. record { grows = omega (arith, c.grows); spends = omega (arith, c.spends); stack = c.stack; deep = c.deep };
-        follows = λ K v m w. let i = of_array p m.means is-array in go T A B K v m w i.values i.means (m.run v t.state.left ∙ rw i.is);
+        follows = λ K v m w. let i = an_array m.means is-array in go T A B K v m w i.values i.means (m.run v t.state.left ∙ rw i.is);
       };
     })
       where

@@ -1,10 +1,10 @@
 -- Contract: what `value` promises: the model's run of the rule on the record that the areas hold, with its value by a handle.
-use Rattle.std.specs.Prelude.{◌≡◌, ℕ, ◌≤◌, length}
+use Rattle.std.specs.Prelude.{◌≡◌, ℕ, ◌≤◌, length, Ok, Err}
 use Rattle.model.specs.Bytes.{Bytes}
 use Rattle.model.specs.Eval as models
 use Rattle.model.specs.Eval.{outcome, run}
 use Rattle.model.specs.Limits.{max_nesting, heap_cells}
-use Rattle.model.specs.Refusal.{EvalFault, eval_number}
+use Rattle.model.specs.declared.refusal.EvalFault.{EvalFault}
 use Rattle.model.specs.Rule.{Rule}
 use Rattle.model.specs.Run.{Ended, steps}
 use Rattle.model.specs.Value.{Value}
@@ -15,12 +15,11 @@ use Rattle.rule.specs.Holds.{Holds}
 use Rattle.table.specs.Denotes.{Denotes}
 use Rattle.table.specs.Node.{node_at}
 use Rattle.eval.specs.declared.Outcome.{Outcome}
-use Rattle.eval.specs.declared.Outcome.TheVariants as Outcomes
 
--- The run's value, or its refusal's number; and its steps.
+-- The run's steps; and its value, or its refusal.
 pub data Reached (a : Areas) (m : Ended Value) (r : Outcome) : Type 0 where
-  reached_value : {v : Value} {h : Handle} {top : ℕ} → outcome m ≡ models.value v → r ≡ Outcomes.Value h (steps m) → Means a top v h → top ≤ heap_cells → Reached a m r
-  reached_refusal : {e : EvalFault} → outcome m ≡ models.refusal e → r ≡ Outcomes.Refused (eval_number e) (steps m) → Reached a m r
+  reached_value : {v : Value} {h : Handle} {top : ℕ} → outcome m ≡ models.value v → r ≡ record { steps = steps m; value = Ok h } → Means a top v h → top ≤ heap_cells → Reached a m r
+  reached_refusal : {e : EvalFault} → outcome m ≡ models.refusal e → r ≡ record { steps = steps m; value = Err e } → Reached a m r
 
 -- C are the cells before, C' after: the value's handle refers to these. By `Ready` (Evaluate.antt) there is such a rule and such a value.
 pub record Reaches (T A R B C : Bytes) (limit : ℕ) (r : Outcome) (C' : Bytes) : Type 0 where

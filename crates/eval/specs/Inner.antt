@@ -1,22 +1,20 @@
 -- Inner: what the private functions do. T and A are the rule's table and strings, R and B the record's, C the cells before and C' after.
 -- The run is the model's (EvalPlain) for whatever rule the table holds and whatever value the context's handle means.
-use Rattle.std.specs.Prelude.{cond, ◌≡◌, ℕ, zero, suc, ◌+◌, ◌*◌, ◌-◌, ◌/◌, ◌≤◌, eqb, length}
+use Rattle.std.specs.Prelude.{cond, ◌≡◌, ℕ, zero, suc, ◌+◌, ◌*◌, ◌-◌, ◌/◌, ◌≤◌, eqb, length, Option, Some, None, Ok, Err}
 use Rattle.model.specs.Bytes.{Bytes}
 use Rattle.model.specs.Eval.{context}
 use Rattle.model.specs.EvalPlain.{Plain, PlainRun, gives, lift, branch, continue, fold, plain_all, plain_and, eval_plain, ◌>>=◌}
 use Rattle.model.specs.Limits.{heap_cells}
 use Rattle.model.specs.Operations.{operate}
-use Rattle.model.specs.Refusal.{wrong_kind}
+use Rattle.model.specs.declared.refusal.Fault.TheVariants.{WrongKind}
 use Rattle.model.specs.Result.{required}
 use Rattle.model.specs.Rule.{Operation, Rule, Rules, no_rules, rule}
 use Rattle.model.specs.Truth.{Truth, truthy, falsy, neither, truth}
 use Rattle.model.specs.Value.{Value, Values, no_items, item, as_array}
 use Rattle.heap.specs.declared.handle.Area.TheVariants as Areas
-use Rattle.heap.specs.declared.handle.Form.{Form}
 use Rattle.heap.specs.declared.handle.Form.TheVariants as Forms
 use Rattle.heap.specs.declared.handle.Handle.{Handle}
 use Rattle.heap.specs.declared.handle.Handle.TheVariants as Handles
-use Rattle.heap.specs.declared.handle.Parts.{Parts}
 use Rattle.heap.specs.Blocks.{MeansEach}
 use Rattle.heap.specs.Cells.{cell_bytes}
 use Rattle.heap.specs.Handles.{span, parts}
@@ -24,38 +22,25 @@ use Rattle.heap.specs.Means.{Means}
 use Rattle.heap.specs.Unfold.{areas}
 use Rattle.keywords.specs.declared.Op.{Op}
 use Rattle.keywords.specs.Contract.{Stands}
-use Rattle.name_index.specs.Table.{IndexedTable}
-use Rattle.operations.specs.declared.ended.Ended.{Ended}
-use Rattle.operations.specs.declared.ended.Ended.TheVariants.{Gives, Denies}
-use Rattle.operations.specs.declared.ended.Fault.{Fault}
+use Rattle.operations.specs.declared.ended.Denied.{Denied}
+use Rattle.operations.specs.declared.ended.Given.{Given}
 use Rattle.operations.specs.declared.ended.State.{State}
 use Rattle.operations.specs.Cells.{Same}
-use Rattle.operations.specs.Ended.{EndsAs, state}
+use Rattle.operations.specs.Ended.{given, Ending, EndsAs, state}
 use Rattle.operations.specs.Stack.{stacked}
 use Rattle.rule.specs.declared.view.Literal.{Literal}
 use Rattle.rule.specs.declared.view.Literal.TheVariants as Literals
 use Rattle.rule.specs.Holds.{Holds, rule_count}
-use Rattle.rule.specs.Mark.{Marked}
 use Rattle.table.specs.declared.node.Node.{Node}
 use Rattle.table.specs.declared.node.Node.TheVariants as Nodes
 use Rattle.table.specs.declared.node.Rows.{Rows}
 use Rattle.table.specs.Node.{node_at, next_row}
-use Rattle.eval.specs.declared.literal.LiteralValue.{LiteralValue}
-use Rattle.eval.specs.declared.literal.LiteralValue.TheVariants.{NotLiteral, Of as LiteralOf}
-use Rattle.eval.specs.declared.take.Elements.{Elements}
-use Rattle.eval.specs.declared.take.Elements.TheVariants.{NotArray, Of}
 use Rattle.eval.specs.declared.task.Frame.{Frame}
 use Rattle.eval.specs.declared.task.Frame.TheVariants.{Guard, Branch, Conjunct, Source, Item, Argument}
 use Rattle.eval.specs.declared.task.Next.{Next}
 use Rattle.eval.specs.declared.task.Next.TheVariants.{Ends, Asks}
 use Rattle.eval.specs.declared.task.Pending.{Pending}
 use Rattle.eval.specs.declared.task.Task.{Task}
-
--- ---- behind the rows
--- What the shape check and reading left there: the marks of the rule's table, the index of the record's.
-pub record Prepared (T A R B : Bytes) : Type 0 where
-  pub marked : Marked T A
-  pub indexed : IndexedTable R B
 
 -- ---- cells
 -- Two cells for each step that is left, and some more: enough for what is evaluated. The rule around has put some operands on the stack.
@@ -90,19 +75,19 @@ pub record Charged (s : State) (k : ℕ) (t : State) (f : Frame) : Type 0 where
   pub deep : t.deep + 1 ≡ s.deep
 
 -- A rule that began in the state s has ended: the heap has grown by no more than two cells for each step begun, less two.
-pub record Bounded (s : State) (e : Ended) : Type 0 where
-  pub grows : (h : Handle) (t : State) → e ≡ Gives h t → s.top ≤ t.top
-  pub spends : (h : Handle) (t : State) → e ≡ Gives h t → t.top + 2 * t.left + 2 ≤ s.top + 2 * s.left
-  pub stops : (f : Fault) (l : ℕ) → e ≡ Denies f l → l ≤ s.left
+pub record Bounded (s : State) (e : Ending) : Type 0 where
+  pub grows : (g : Given) → e ≡ Ok g → s.top ≤ g.state.top
+  pub spends : (g : Given) → e ≡ Ok g → g.state.top + 2 * g.state.left + 2 ≤ s.top + 2 * s.left
+  pub stops : (d : Denied) → e ≡ Err d → d.left ≤ s.left
 
 abbrev pub Within : State → Next → Type 0
 Within s (Ends e) = Bounded s e
 Within s (Asks t f) = Charged s 0 t.state f
 
 -- Bottom and nesting come out as they went in.
-pub record Restored (s : State) (e : Ended) : Type 0 where
-  pub bottom : (h : Handle) (t : State) → e ≡ Gives h t → t.bottom ≡ s.bottom
-  pub deep : (h : Handle) (t : State) → e ≡ Gives h t → t.deep ≡ s.deep
+pub record Restored (s : State) (e : Ending) : Type 0 where
+  pub bottom : (g : Given) → e ≡ Ok g → g.state.bottom ≡ s.bottom
+  pub deep : (g : Given) → e ≡ Ok g → g.state.deep ≡ s.deep
 
 -- By their parts.
 abbrev pub task : ℕ → Handle → State → Task
@@ -116,7 +101,7 @@ first_task q context s = task q.first context (state s.left s.top s.bottom (s.de
 
 -- The first of so many operands of an operation on all of them; with none, an array's empty list.
 abbrev pub first_of : ℕ → Op → Rows → Handle → State → Next
-first_of zero op q context s = Ends (Gives (Handles.Compound (parts Forms.List s.top 0)) s)
+first_of zero op q context s = Ends (Ok (given (Handles.Compound (parts Forms.List s.top 0)) s))
 first_of (suc rest) op q context s = Asks (first_task q context s) (Argument (pending op 0 rest))
 
 abbrev pub first_argument : Op → Rows → Handle → State → Next
@@ -128,19 +113,19 @@ literal_handle Literals.True = Handles.True
 literal_handle (Literals.Integer n) = Handles.Integer n
 literal_handle (Literals.String p) = Handles.String (span Areas.Rule p.start p.size)
 
--- The same by the node of a row, or that it is no literal.
-abbrev pub literal_of : Node → LiteralValue
-literal_of Nodes.Null = NotLiteral
-literal_of Nodes.False = LiteralOf (literal_handle Literals.False)
-literal_of Nodes.True = LiteralOf (literal_handle Literals.True)
-literal_of (Nodes.Integer n) = LiteralOf (literal_handle (Literals.Integer n))
-literal_of (Nodes.String p) = LiteralOf (literal_handle (Literals.String p))
-literal_of (Nodes.Array q) = NotLiteral
-literal_of (Nodes.Object q) = NotLiteral
+-- The same by the node of a row; none of one that is no literal.
+abbrev pub literal_of : Node → Option Handle
+literal_of Nodes.Null = None
+literal_of Nodes.False = Some (literal_handle Literals.False)
+literal_of Nodes.True = Some (literal_handle Literals.True)
+literal_of (Nodes.Integer n) = Some (literal_handle (Literals.Integer n))
+literal_of (Nodes.String p) = Some (literal_handle (Literals.String p))
+literal_of (Nodes.Array q) = None
+literal_of (Nodes.Object q) = None
 
 -- Of the task's operand, if one is left and a step for it.
-abbrev pub literal_next : Bytes → Task → Pending → LiteralValue
-literal_next T t p = cond (eqb p.rest 0) NotLiteral (cond (eqb t.state.left 0) NotLiteral (literal_of (node_at T t.row)))
+abbrev pub literal_next : Bytes → Task → Pending → Option Handle
+literal_next T t p = cond (eqb p.rest 0) None (cond (eqb t.state.left 0) None (literal_of (node_at T t.row)))
 
 -- With one step less, and with one operand begun.
 abbrev pub one_step : Task → Task
@@ -149,9 +134,9 @@ one_step t = task t.row t.context (state (t.state.left - 1) t.state.top t.state.
 abbrev pub one_begun : Pending → Pending
 one_begun p = pending p.op p.done (p.rest - 1)
 
-abbrev pub resumed_end : State → Ended → Ended
-resumed_end s (Gives h t) = Gives h (state t.left t.top s.bottom s.deep)
-resumed_end s (Denies f l) = Denies f l
+abbrev pub resumed_end : State → Ending → Ending
+resumed_end s (Ok g) = Ok (given g.value (state g.state.left g.state.top s.bottom s.deep))
+resumed_end s (Err d) = Err d
 
 -- ---- rules
 -- The rules of operands, from a row on.
@@ -191,7 +176,7 @@ lambda_run ρ cur acc = eval_plain ρ (context cur acc)
 
 -- `reduce` once its operand's value is known, and once the initial's is.
 abbrev pub reduced : Rule → Value → Value → PlainRun Value
-reduced ρ v i = lift (required wrong_kind (as_array v)) >>= λ vs. fold (lambda_run ρ) vs i
+reduced ρ v i = lift (required WrongKind (as_array v)) >>= λ vs. fold (lambda_run ρ) vs i
 
 pub record SourceMeans (T A R B C : Bytes) (t : Task) (K : Then) : Type 0 where
   pub lambda : Rule
@@ -259,7 +244,7 @@ next_deep (Ends e) = 0
 next_deep (Asks t f) = 2 * t.state.deep + 2
 
 -- ---- contracts
-pub record Evals (T A R B C : Bytes) (t : Task) (e : Ended) (C' : Bytes) : Type 0 where
+pub record Evals (T A R B C : Bytes) (t : Task) (e : Ending) (C' : Bytes) : Type 0 where
   pub same : Same C C' t.state.top t.state.bottom
   pub bound : Bounded t.state e
   pub restores : Restored t.state e
@@ -319,14 +304,14 @@ pub record TakesByRecord (R C : Bytes) (t : Task) (f : Frame) (h : Handle) (n : 
   pub takes : (T A B : Bytes) → Takes T A R B C t f h n C'
 
 -- The operand's evaluation ended so, inside a rule that has cells enough.
-pub record Taking (C : Bytes) (t : Task) (f : Frame) (e : Ended) : Type 0 where
+pub record Taking (C : Bytes) (t : Task) (f : Frame) (e : Ending) : Type 0 where
   pub base : State
   pub room : Room C 0 0 base
   pub charged : Charged base 0 t.state f
   pub bound : Bounded t.state e
   pub restored : Restored t.state e
 
-pub record TakesEnd (T A R B C : Bytes) (t : Task) (f : Frame) (e : Ended) (n : Next) (C' : Bytes) : Type 0 where
+pub record TakesEnd (T A R B C : Bytes) (t : Task) (f : Frame) (e : Ending) (n : Next) (C' : Bytes) : Type 0 where
   pub same : Same C C' t.state.top (t.state.bottom + on_stack f)
   pub steps : next_left n ≤ t.state.left
   pub within : (s : State) → Charged s 0 t.state f → Within s n
@@ -342,27 +327,10 @@ pub record Operating (C : Bytes) (n : Next) : Type 0 where
   pub room : Room C 0 0 base
   pub within : Within base n
 
-pub record Operates (T A R B C : Bytes) (n : Next) (e : Ended) (C' : Bytes) : Type 0 where
+pub record Operates (T A R B C : Bytes) (n : Next) (e : Ending) (C' : Bytes) : Type 0 where
   pub same : (s : State) → Within s n → Same C C' s.top s.bottom
   pub bound : (s : State) → Within s n → Bounded s e
   pub ends : (m : Plain Value) → Follows T A R B C m n → EndsAs (areas A B R C') m e
-
--- ---- arrays
--- The parts of an array's handle.
-abbrev pub elements_in : Form → Parts → Elements
-elements_in Forms.Items p = Of p
-elements_in Forms.Members p = NotArray
-elements_in Forms.List p = Of p
-elements_in Forms.Context p = NotArray
-
-abbrev pub elements_of : Handle → Elements
-elements_of Handles.Null = NotArray
-elements_of Handles.False = NotArray
-elements_of Handles.True = NotArray
-elements_of (Handles.Integer n) = NotArray
-elements_of (Handles.Instant n) = NotArray
-elements_of (Handles.String s) = NotArray
-elements_of (Handles.Compound p) = elements_in p.form p
 
 -- ---- branches
 -- The row of the branch that `if` goes on with.

@@ -2,18 +2,20 @@
 #![tactic(auto)]
 
 ghost use Rattle.std.specs.Prelude.{◌≡◌};
-ghost use Rattle.model.specs.Refusal.{eval_number};
-ghost use Rattle.operations.specs.Ended.{fault_of};
 ghost use Rattle.eval.specs.Contract.{Reaches};
-ghost use Rattle.eval.specs.Evaluate.{Ready, Evaluates, written_answer};
+ghost use Rattle.eval.specs.Evaluate.{Ready, Evaluates, written_size};
 
 use crate::run::operands;
-use crate::task::{Frame, operand, state};
+use crate::task::{Frame, Task};
 use area::clear_from;
+use heap::areas::Areas;
 use heap::handle::{Handle, load};
+use model::refusal::{EvalFault, Refusal};
 use model::{HEAP_CELLS, MAX_NESTING};
-use operations::ended::{Ended, Fault};
-use writer::{Answer as Written, write};
+use name_index::text::IndexedText;
+use operations::ended::State;
+use rule::text::RuleText;
+use writer::{WriteFault, write};
 
 mod literal;
 mod run;
@@ -21,115 +23,88 @@ mod start;
 mod take;
 mod task;
 
-// A refusal's number, or 0; the steps begun; the length of the answer's text.
+// The steps begun; the length of the answer's text, or why there is none.
 #[derive(Clone, Copy)]
-pub struct Answer {
-    pub refusal: u32,
+pub struct Evaluated {
     pub steps: usize,
-    pub size: usize,
+    pub size: Result<usize, Refusal>,
 }
 
-// A value, or a refusal's number; and the steps begun.
+// The steps begun; a value, or why there is none.
 #[derive(Clone, Copy)]
-pub enum Outcome {
-    Value(Handle, usize),
-    Refused(u32, usize),
+pub struct Outcome {
+    pub steps: usize,
+    pub value: Result<Handle, EvalFault>,
 }
 
-fn number(fault: Fault) -> u32
-    ensures { result ≡ eval_number (fault_of fault) }
+// The value of a rule on a record, under a limit. Its handle refers to the cells as they are then.
+pub fn value(rule: RuleText, record: IndexedText, cells: &mut [u8], limit: usize) -> Outcome
+    requires { Ready rule.table.now rule.strings.now «record».table.now «record».strings.now cells.old limit }
+    ensures { Reaches rule.entry.table.now rule.entry.strings.now «record».entry.table.now «record».entry.strings.now cells.old limit result cells.new }
 {
-    match fault {
-        Fault::WrongKind => 7,
-        Fault::BadDate => 8,
-        Fault::OutOfRange => 9,
-        Fault::OutOfSteps => 10,
-    }
-}
-
-// The value of a rule, in its table and strings, on a record, in its table and strings, under a limit. The value's handle refers to the cells
-// as they are then.
-pub fn value<'a>(
-    rule_table: &[u8],
-    rule_strings: &'a [u8],
-    record_table: &[u8],
-    record_strings: &'a [u8],
-    cells: &mut [u8],
-    limit: usize,
-) -> Outcome
-    requires { Ready rule_table.now rule_strings.now record_table.now record_strings.now cells.old limit }
-    ensures { Reaches rule_table.now rule_strings.now record_table.now record_strings.now cells.old limit result cells.new }
-{
-    let s = state(limit, 0, HEAP_CELLS, MAX_NESTING);
-    let task = operand(0, load(record_table, 0), s);
-    match operands(
-        rule_table,
-        rule_strings,
-        record_table,
-        record_strings,
-        cells,
-        task,
-        Frame::Branch,
-    ) {
-        Ended::Denies(fault, left) => Outcome::Refused(number(fault), limit - left),
-        Ended::Gives(h, t) => Outcome::Value(h, limit - t.left),
+    let task = Task {
+        row: 0,
+        context: load(record.table, 0),
+        state: State {
+            left: limit,
+            top: 0,
+            bottom: HEAP_CELLS,
+            deep: MAX_NESTING,
+        },
+    };
+    match operands(rule, record, cells, task, Frame::Branch) {
+        Ok(given) => Outcome {
+            steps: limit - given.state.left,
+            value: Ok(given.value),
+        },
+        Err(denied) => Outcome {
+            steps: limit - denied.left,
+            value: Err(denied.fault),
+        },
     }
 }
 
 // Evaluates a rule on a record. The answer's text goes into the output, zeros behind it; on a refusal zeros only. The cells are zero afterwards.
-pub fn evaluate<'a>(
-    rule_table: &[u8],
-    rule_strings: &'a [u8],
-    record_table: &[u8],
-    record_strings: &'a [u8],
+pub fn evaluate(
+    rule: RuleText,
+    record: IndexedText,
     cells: &mut [u8],
     limit: usize,
     output: &mut [u8],
-) -> Answer
-    requires { Ready rule_table.now rule_strings.now record_table.now record_strings.now cells.old limit }
-    ensures { Evaluates rule_table.now rule_strings.now record_table.now record_strings.now cells.old limit output.old result cells.new output.new }
+) -> Evaluated
+    requires { Ready rule.table.now rule.strings.now «record».table.now «record».strings.now cells.old limit }
+    ensures { Evaluates rule.entry.table.now rule.entry.strings.now «record».entry.table.now «record».entry.strings.now cells.old limit output.old result cells.new output.new }
 {
-    match value(
-        rule_table,
-        rule_strings,
-        record_table,
-        record_strings,
-        cells,
-        limit,
-    ) {
-        Outcome::Refused(refusal, steps) => {
+    let outcome = value(rule, record, cells, limit);
+    match outcome.value {
+        Ok(h) => {
+            let areas = Areas {
+                rule_strings: rule.strings,
+                record_strings: record.strings,
+                record_table: record.table,
+                cells,
+            };
+            let w = write(areas, h, output);
+            clear_from(cells, 0);
+            Evaluated {
+                steps: outcome.steps,
+                size: size_of(w),
+            }
+        }
+        Err(fault) => {
             clear_from(cells, 0);
             clear_from(output, 0);
-            refused(refusal, steps)
-        }
-        Outcome::Value(h, steps) => {
-            let w = write(rule_strings, record_strings, record_table, cells, h, output);
-            clear_from(cells, 0);
-            written(w, steps)
+            Evaluated {
+                steps: outcome.steps,
+                size: Err(Refusal::Evaluating(fault)),
+            }
         }
     }
 }
 
-fn refused(refusal: u32, steps: usize) -> Answer
-    ensures { result ≡ record { refusal = refusal; steps = steps; size = 0 } }
+// The length of the text that the writer wrote; or 11, or 12.
+fn size_of(w: Result<usize, WriteFault>) -> Result<usize, Refusal>
+    ensures { result ≡ written_size w }
 {
-    Answer {
-        refusal,
-        steps,
-        size: 0,
-    }
-}
-
-fn written(w: Written, steps: usize) -> Answer
-    ensures { result ≡ written_answer w steps }
-{
-    match w {
-        Written::Written(size) => Answer {
-            refusal: 0,
-            steps,
-            size,
-        },
-        Written::TooLarge => refused(11, steps),
-        Written::OutputTooShort => refused(12, steps),
-    }
+    Ok(w?)
 }

@@ -1,12 +1,15 @@
 // How a rule begins.
 ghost use Rattle.std.specs.Prelude.{◌≡◌, ◌≤◌};
-ghost use Rattle.eval.specs.Inner.{Prepared, Room, literal_handle, first_task, first_argument, Starts};
+ghost use Rattle.eval.specs.Inner.{Room, literal_handle, first_task, first_argument, Starts};
 
-use crate::task::{Frame, Next, Task, arguments_of, operand, state};
+use crate::task::{Frame, Next, Pending, Task, ends, refused};
 use heap::handle::{Area, Form, Handle, compound, string};
 use keywords::Op;
+use model::refusal::EvalFault;
+use name_index::text::IndexedText;
 use op_lookup::value_at;
-use operations::ended::{Ended, Fault, State};
+use operations::ended::State;
+use rule::text::RuleText;
 use rule::view::{Literal, View, view_at};
 use table::node::Rows;
 use table::string::bytes_of;
@@ -28,7 +31,14 @@ fn first(q: Rows, context: Handle, s: State) -> Task
     requires { 1 ≤ s.deep }
     ensures { result ≡ first_task q context s }
 {
-    operand(q.first, context, state(s.left, s.top, s.bottom, s.deep - 1))
+    Task {
+        row: q.first,
+        context,
+        state: State {
+            deep: s.deep - 1,
+            ..s
+        },
+    }
 }
 
 // The first operand of an operation on all its operands. Only an array may have none: its list is empty.
@@ -38,39 +48,35 @@ fn first_argument(op: Op, q: Rows, context: Handle, s: State) -> Next
     ensures { result ≡ first_argument op q context s }
 {
     if q.count == 0 {
-        return Next::Ends(Ended::Gives(compound(Form::List, s.top, 0), s));
+        return ends(compound(Form::List, s.top, 0), s);
     }
-    let rest = q.count - 1;
-    Next::Asks(
-        first(q, context, s),
-        Frame::Argument(arguments_of(op, 0, rest)),
-    )
+    let p = Pending {
+        op,
+        done: 0,
+        rest: q.count - 1,
+    };
+    Next::Asks(first(q, context, s), Frame::Argument(p))
 }
 
 // One step, and then what the rule's kind says; refusal 10 where no step is left.
-pub fn start<'a>(
-    rule_table: &[u8],
-    rule_strings: &'a [u8],
-    record_table: &[u8],
-    record_strings: &'a [u8],
-    cells: &[u8],
-    task: Task,
-) -> Next
-    requires { Room cells.now 0 0 task.state × Prepared rule_table.now rule_strings.now record_table.now record_strings.now }
-    ensures { Starts rule_table.now rule_strings.now record_table.now record_strings.now cells.now task result }
+pub fn start(rule: RuleText, record: IndexedText, cells: &[u8], task: Task) -> Next
+    requires { Room cells.now 0 0 task.state }
+    ensures { Starts rule.entry.table.now rule.entry.strings.now «record».entry.table.now «record».entry.strings.now cells.now task result }
 {
     let s = task.state;
     if s.left == 0 {
-        return Next::Ends(Ended::Denies(Fault::OutOfSteps, 0));
+        return refused(EvalFault::OutOfSteps, 0);
     }
-    let begun = state(s.left - 1, s.top, s.bottom, s.deep);
+    let begun = State {
+        left: s.left - 1,
+        ..s
+    };
     let context = task.context;
-    match view_at(rule_table, rule_strings, task.row, s.deep) {
-        View::Literal(l) => Next::Ends(Ended::Gives(literal(l), begun)),
+    match view_at(rule, task.row, s.deep) {
+        View::Literal(l) => ends(literal(l), begun),
         View::Var(p) => {
-            let path = bytes_of(rule_strings, p);
-            let value = value_at(path, record_strings, record_table, cells, context);
-            Next::Ends(Ended::Gives(value, begun))
+            let path = bytes_of(rule.strings, p);
+            ends(value_at(path, record, cells, context), begun)
         }
         View::If(q) => Next::Asks(first(q, context, begun), Frame::Guard),
         View::And(q) => Next::Asks(first(q, context, begun), Frame::Conjunct(q.count)),

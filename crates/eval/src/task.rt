@@ -1,11 +1,11 @@
 // What an evaluation does next, by value.
 ghost use Rattle.std.specs.Prelude.{◌≡◌};
-ghost use Rattle.operations.specs.Ended as ended;
-ghost use Rattle.eval.specs.Inner as inner;
+ghost use Rattle.operations.specs.Ended.{given, denied};
 
 use heap::handle::Handle;
 use keywords::Op;
-use operations::ended::{Ended, State};
+use model::refusal::EvalFault;
+use operations::ended::{Denied, Ended, Given, State};
 
 // A rule to evaluate: the row that it stands at, the context, and the state that it begins in.
 #[derive(Clone, Copy)]
@@ -23,7 +23,7 @@ pub struct Pending {
     pub rest: usize,
 }
 
-// What an operation does with the value of the operand that is evaluated now.
+// What an operation does with the value of the operand that is evaluated now. (A closure for each would need a box, and so a heap.)
 #[derive(Clone, Copy)]
 pub enum Frame {
     // `if`: chooses the branch, which stands after the guard.
@@ -40,36 +40,23 @@ pub enum Frame {
     Argument(Pending),
 }
 
-// A rule that was begun ends, or asks for the value of an operand.
+// A rule that was begun ends, or asks for the value of an operand: two ways to go on, of which neither is an error.
 #[derive(Clone, Copy)]
 pub enum Next {
     Ends(Ended),
     Asks(Task, Frame),
 }
 
-pub fn state(left: usize, top: usize, bottom: usize, deep: usize) -> State
-    ensures { result ≡ ended.state left top bottom deep }
+// The rule ends with a value.
+pub fn ends(value: Handle, state: State) -> Next
+    ensures { result ≡ Next.Ends (Ok (given value state)) }
 {
-    State {
-        left,
-        top,
-        bottom,
-        deep,
-    }
+    Next::Ends(Ok(Given { value, state }))
 }
 
-pub fn operand(row: usize, context: Handle, s: State) -> Task
-    ensures { result ≡ inner.task row context s }
+// The rule is refused.
+pub fn refused(fault: EvalFault, left: usize) -> Next
+    ensures { result ≡ Next.Ends (Err (denied fault left)) }
 {
-    Task {
-        row,
-        context,
-        state: s,
-    }
-}
-
-pub fn arguments_of(op: Op, done: usize, rest: usize) -> Pending
-    ensures { result ≡ inner.pending op done rest }
-{
-    Pending { op, done, rest }
+    Next::Ends(Err(Denied { fault, left }))
 }

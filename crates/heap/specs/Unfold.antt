@@ -5,6 +5,7 @@ use Rattle.model.specs.Bytes.{Bytes}
 use Rattle.model.specs.Instant.{in_range, from_year0}
 use Rattle.model.specs.Value.{Value, scalar, instant, array, object, null, boolean, integer, string, Values, no_items, item, Members as ValueMembers, no_members, member}
 use Rattle.syntax.specs.Layout.{unbiased}
+use Rattle.heap.specs.declared.areas.Areas.{Areas as Lent}
 use Rattle.heap.specs.declared.handle.Handle.{Handle}
 use Rattle.heap.specs.declared.handle.Handle.TheVariants.{Null, False, True, Integer, Instant, String, Compound}
 use Rattle.heap.specs.declared.handle.Form.{Form}
@@ -22,6 +23,10 @@ pub record Areas : Type 0 where
 
 abbrev pub areas : Bytes → Bytes → Bytes → Bytes → Areas
 areas A B T C = record { rule = A; strings = B; table = T; cells = C }
+
+-- Those that are lent together.
+abbrev pub areas_of : Lent → Areas
+areas_of l = areas l.rule_strings.now l.record_strings.now l.record_table.now l.cells.now
 
 -- The same areas with other cells.
 abbrev pub with_cells : Areas → Bytes → Areas

@@ -63,17 +63,19 @@ pub fn compound(form: Form, first: usize, count: usize) -> Handle
 }
 
 // The handle of a value of the record.
-pub fn of_node(n: Node) -> Handle
-    ensures { result ≡ record_handle n }
-{
-    match n {
-        Node::Null => Handle::Null,
-        Node::False => Handle::False,
-        Node::True => Handle::True,
-        Node::Integer(i) => Handle::Integer(i),
-        Node::String(s) => string(Area::Record, s.start, s.size),
-        Node::Array(q) => compound(Form::Items, q.first, q.count),
-        Node::Object(q) => compound(Form::Members, q.first, q.count),
+impl From<Node> for Handle {
+    ghost from_gives = { λ n h. h ≡ record_handle n };
+
+    fn from(n: Node) -> Handle {
+        match n {
+            Node::Null => Handle::Null,
+            Node::False => Handle::False,
+            Node::True => Handle::True,
+            Node::Integer(i) => Handle::Integer(i),
+            Node::String(s) => string(Area::Record, s.start, s.size),
+            Node::Array(q) => compound(Form::Items, q.first, q.count),
+            Node::Object(q) => compound(Form::Members, q.first, q.count),
+        }
     }
 }
 
@@ -81,5 +83,5 @@ pub fn of_node(n: Node) -> Handle
 pub fn load(record_table: &[u8], row: usize) -> Handle
     ensures { result ≡ row_handle record_table.now row }
 {
-    of_node(node_at(record_table, row))
+    Handle::from(node_at(record_table, row))
 }

@@ -1,5 +1,5 @@
 // The parts of an array or object: the first, its name, and the others.
-ghost use Rattle.std.specs.Prelude.{◌≡◌, ◌-◌};
+ghost use Rattle.std.specs.Prelude.{◌≡◌};
 ghost use Rattle.heap.specs.Contract.{head_of, tail_of, label_of};
 ghost use Rattle.heap.specs.Parts.{next_cell, next_of, context_label};
 
@@ -21,16 +21,14 @@ pub enum Label {
 pub fn head(record_table: &[u8], cells: &[u8], p: Parts) -> Handle
     ensures { result ≡ head_of record_table.now cells.now p }
 {
-    let form = p.form;
-    match form {
-        Form::Items => load(record_table, p.first),
-        Form::Members => load(record_table, p.first),
-        Form::List => get(cells, p.first),
-        Form::Context => get(cells, p.first),
+    match p.form {
+        Form::Items | Form::Members => load(record_table, p.first),
+        Form::List | Form::Context => get(cells, p.first),
     }
 }
 
 // The cell after a cell; the cell itself where there is no such cell.
+#[tactic(auto, unfolding(crate::specs::Parts::next_cell, crate::specs::Cells::cell_bytes))]
 fn next_cell(cells: &[u8], cell: usize) -> usize
     ensures { result ≡ next_cell cells.now cell }
 {
@@ -44,34 +42,20 @@ fn next_cell(cells: &[u8], cell: usize) -> usize
 fn next(record_table: &[u8], cells: &[u8], p: Parts) -> usize
     ensures { result ≡ next_of record_table.now cells.now p }
 {
-    let form = p.form;
-    match form {
-        Form::Items => next_row(record_table, p.first),
-        Form::Members => next_row(record_table, p.first),
-        Form::List => next_cell(cells, p.first),
-        Form::Context => next_cell(cells, p.first),
+    match p.form {
+        Form::Items | Form::Members => next_row(record_table, p.first),
+        Form::List | Form::Context => next_cell(cells, p.first),
     }
-}
-
-// One less; 0 of 0.
-fn less(n: usize) -> usize
-    ensures { result ≡ n - 1 }
-{
-    if n == 0 {
-        return 0;
-    }
-    n - 1
 }
 
 // The parts after the first.
 pub fn tail(record_table: &[u8], cells: &[u8], p: Parts) -> Parts
     ensures { result ≡ tail_of record_table.now cells.now p }
 {
-    let form = p.form;
     Parts {
-        form,
+        form: p.form,
         first: next(record_table, cells, p),
-        count: less(p.count),
+        count: p.count.saturating_sub(1),
     }
 }
 
@@ -89,11 +73,9 @@ fn context_label(count: usize) -> Label
 pub fn name_of(record_table: &[u8], p: Parts) -> Label
     ensures { result ≡ label_of record_table.now p }
 {
-    let form = p.form;
-    match form {
-        Form::Items => Label::Nothing,
+    match p.form {
+        Form::Items | Form::List => Label::Nothing,
         Form::Members => Label::Name(name_at(record_table, p.first)),
-        Form::List => Label::Nothing,
         Form::Context => context_label(p.count),
     }
 }

@@ -9,8 +9,7 @@ use table::string::part_of;
 pub fn bytes<'a>(rule_strings: &'a [u8], record_strings: &'a [u8], s: Span) -> &'a [u8]
     ensures { result.now ≡ span_bytes rule_strings.now record_strings.now s }
 {
-    let area = s.area;
-    match area {
+    match s.area {
         Area::Rule => part_of(rule_strings, s.start, s.size),
         Area::Record => part_of(record_strings, s.start, s.size),
     }

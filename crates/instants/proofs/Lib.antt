@@ -1,4 +1,5 @@
 -- Laws that the proofs of this crate cite.
+pub mod Moves
 pub mod Shifts
 pub mod Texts
 pub mod Main

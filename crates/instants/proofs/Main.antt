@@ -4,7 +4,7 @@
 use Rattle.std.specs.Prelude.{◌≡◌, ◌↔◌, ℕ, suc, ◌-◌, ◌/◌, ◌%◌, ◌≤◌, ◌<◌, T, ℤ, pos, ◌+ℤ◌}
 use Rattle.model.specs.Calendar.{date, month_days}
 use Rattle.model.specs.Instant.{in_range}
-use Rattle.model.specs.Refusal.{out_of_range}
+use Rattle.model.specs.declared.refusal.Fault.TheVariants.{OutOfRange}
 use Rattle.model.specs.Result.{refuse}
 use Rattle.model.specs.declared.TimeUnit.TheVariants.{Year, Month}
 use Rattle.model.proofs.Laws.Shift.{date_of}
@@ -35,7 +35,7 @@ pub month_runs_on :
 month_runs_on = ShiftLaws.month_runs_on
 
 -- A shift by months is 9 exactly where its month is none of the 120,000 months of the years 0000 to 9999.
-pub month_out : (t a : ℤ) → T (in_range t) → (shifted t a Month ≡ refuse out_of_range) ↔ (¬ ((k : ℕ) × (month_to t a ≡ pos k) × (k < 120000)))
+pub month_out : (t a : ℤ) → T (in_range t) → (shifted t a Month ≡ refuse OutOfRange) ↔ (¬ ((k : ℕ) × (month_to t a ≡ pos k) × (k < 120000)))
 month_out = ShiftLaws.month_out
 
 -- A shift by years keeps the month and its day, where the year has that day;
@@ -61,5 +61,5 @@ pub year_runs_on :
 year_runs_on = ShiftLaws.year_runs_on
 
 -- It is 9 exactly where the year is none of 0000 to 9999.
-pub year_out : (t a : ℤ) → T (in_range t) → (shifted t a Year ≡ refuse out_of_range) ↔ (¬ ((y : ℕ) × (pos (date_of t).year +ℤ a ≡ pos y) × (y ≤ 9999)))
+pub year_out : (t a : ℤ) → T (in_range t) → (shifted t a Year ≡ refuse OutOfRange) ↔ (¬ ((y : ℕ) × (pos (date_of t).year +ℤ a ≡ pos y) × (y ≤ 9999)))
 year_out = ShiftLaws.year_out

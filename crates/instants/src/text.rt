@@ -25,9 +25,7 @@ pub fn digit(n: u64) -> u8
 fn text_of(date: Date, time: u64) -> InstantText
     ensures { result.bytes ≡ text_of date time }
 {
-    let year = date.year;
-    let month = date.month;
-    let day = date.day;
+    let Date { year, month, day } = date;
     let hour = time / 3600000;
     let minute = time / 60000 % 60;
     let second = time / 1000 % 60;
@@ -61,11 +59,11 @@ fn text_of(date: Date, time: u64) -> InstantText
     InstantText { bytes }
 }
 
-impl InstantText {
-    // The text of an instant. (Of a year past 9999, which no instant in range has, the last four digits.)
-    pub fn new(t: Instant) -> InstantText
-        ensures { result.bytes ≡ instant_text t.ms }
-    {
+// The text of an instant. (Of a year past 9999, which no instant in range has, the last four digits.)
+impl From<Instant> for InstantText {
+    ghost from_gives = { λ t r. r.bytes ≡ instant_text t.ms };
+
+    fn from(t: Instant) -> InstantText {
         let since = t.since_year_0();
         text_of(date_at(since), since % MS_PER_DAY)
     }

@@ -13,8 +13,8 @@ use Rattle.model.specs.Value.{Value}
 use Rattle.syntax.specs.Output.{written_size, written_output}
 use Rattle.heap.specs.Cells.{cell_bytes}
 use Rattle.table.specs.Laws.Standing.{was_read_denotes}
-use Rattle.eval.specs.declared.Answer as evaluating
-use Rattle.eval.specs.Evaluate.{Ready, Evaluation, evaluation, evaluated, Evaluates}
+use Rattle.eval.specs.declared.Evaluated.{Evaluated}
+use Rattle.eval.specs.Evaluate.{Ready, Evaluation, evaluation, told_number, told_size, evaluated, Evaluates}
 use Rattle.pipeline.specs.Areas.{text_areas, HoldsIndexed, HoldsMarked}
 use Rattle.pipeline.specs.Laws.Stages.{TextHeld, held_rule}
 use Rattle.pipeline.specs.Texts.{TextRead}
@@ -43,27 +43,25 @@ module _ {s : Bytes} {x : TextRead Rule} {v : Value} {T A R B C : Bytes} {limit 
     holds = held_rule t.rule t.rule_held.was_read;
     value = v;
     denotes = was_read_denotes t.record_held.was_read;
-    marked = t.rule_held.marked;
-    indexed = t.record_held.indexed;
     limited = limit_fits r;
     enough = cells_long r;
   }
 
   -- What evaluation comes to, 11 and 12 included.
-  module _ {O C' O' : Bytes} {e : evaluating.Answer} (h : Evaluates T A R B C limit O e C' O') where
+  module _ {O C' O' : Bytes} {e : Evaluated} (h : Evaluates T A R B C limit O e C' O') where
     abbrev result : Judged Bytes
     result = (answer_of x.content v limit (length O)).result
 
     is : evaluated e C' O' ≡ evaluation x.content v limit (length C) (length O)
     is = h.is x.content v (held_rule t.rule t.rule_held.was_read) (was_read_denotes t.record_held.was_read)
 
-    pub refusal_is : e.refusal ≡ judged_number result
+    pub refusal_is : told_number e.size ≡ judged_number result
     refusal_is = ap (λ (y : Evaluation). y.written.refusal) is
 
     pub steps_are : e.steps ≡ (answer_of x.content v limit (length O)).steps_begun
     steps_are = ap (λ (y : Evaluation). y.steps) is
 
-    pub size_is : e.size ≡ written_size result
+    pub size_is : told_size e.size ≡ written_size result
     size_is = ap (λ (y : Evaluation). y.written.size) is
 
     pub output_is : O' ≡ written_output result (length O)

@@ -2,7 +2,8 @@
 use Rattle.std.specs.Prelude.{Bool, ◌||◌, ℕ, ◌*◌, ltb, length, replicate}
 use Rattle.model.specs.Bytes.{Bytes}
 use Rattle.model.specs.Limits.{max_steps, heap_cells}
-use Rattle.model.specs.Refusal.{number, invalid_argument}
+use Rattle.model.specs.Refusal.{number}
+use Rattle.model.specs.declared.refusal.Refusal.TheVariants.{InvalidArgument}
 use Rattle.heap.specs.Cells.{cell_bytes}
 
 -- A refusal's number, or 0; the numbers that are told; the lent areas.
@@ -13,7 +14,7 @@ pub record Entry (N A : Type 0) : Type 0 where
 
 -- "Refusal 1 touches nothing."
 abbrev pub untouched : {N A : Type 0} → N → A → Entry N A
-untouched n a = record { refusal = number invalid_argument; numbers = n; areas = a }
+untouched n a = record { refusal = number InvalidArgument; numbers = n; areas = a }
 
 -- The cells of evaluation, and the output.
 pub record WorkAreas : Type 0 where

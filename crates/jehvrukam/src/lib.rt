@@ -10,18 +10,20 @@ ghost use Rattle.jehvrukam.specs.Evaluate.{evaluate_entry};
 ghost use Rattle.jehvrukam.specs.EvaluateChecked.{evaluate_checked_entry};
 ghost use Rattle.jehvrukam.specs.Fits.{fits_entry};
 
-use crate::evaluate::{cannot_run, judge};
-use crate::evaluate_checked::judge as judge_checked;
+use crate::evaluate::{cannot_run, judge, outcome_told};
+use crate::evaluate_checked::{checked_outcome_told, judge as judge_checked};
 use crate::settle::{settle_text, settle_work};
-use crate::told::yes_or_no;
+use crate::told::told;
 pub use crate::view::{
     jehvrukam_view, jehvrukam_view_integer, jehvrukam_view_name, jehvrukam_view_part,
     jehvrukam_view_string,
 };
-use json_reader::read;
+use json_reader::{NotRead, read};
+use model::refusal::Refusal;
 use pipeline::check::check_texts;
 use pipeline::fit::fit_texts;
 use pipeline::text::is_short;
+use type_set::set::{bits, none};
 
 mod evaluate;
 mod evaluate_checked;
@@ -31,7 +33,6 @@ mod view;
 
 // Reads a text into a table of rows and a strings area.
 #[unsafe(no_mangle)]
-#[tactic(auto, using(crate::proofs::Reading::place_written, crate::proofs::Reading::place_left))]
 pub extern "C" fn jehvrukam_read(
     text: &[u8],
     table: &mut [u8],
@@ -40,11 +41,17 @@ pub extern "C" fn jehvrukam_read(
 ) -> u32
     ensures { answered result place.new table.new strings.new ≡ read_entry text.now table.old strings.old place.old }
 {
-    let a = read(text, table, strings);
-    if a.refusal != 1 {
-        *place = a.place as u64;
+    match read(text, table, strings) {
+        Ok(_) => {
+            *place = 0;
+            0
+        }
+        Err(NotRead::AreaTooShort) => u32::from(Refusal::InvalidArgument),
+        Err(NotRead::Fault(f)) => {
+            *place = f.at as u64;
+            u32::from(f.reason)
+        }
     }
-    a.refusal
 }
 
 // Checks a rule's text under a sheet's, and tells the types that the rule may give, a bit for each.
@@ -68,7 +75,7 @@ pub extern "C" fn jehvrukam_check(
     if is_short(sheet_table, sheet_strings) {
         return 1;
     }
-    let c = check_texts(
+    let checked = check_texts(
         rule_text,
         sheet_text,
         rule_table,
@@ -76,13 +83,13 @@ pub extern "C" fn jehvrukam_check(
         sheet_table,
         sheet_strings,
     );
-    let s = c.stop;
-    settle_text(s.refusal, rule_table, rule_strings);
-    settle_text(s.refusal, sheet_table, sheet_strings);
-    *which = s.which as u64;
-    *place = s.place as u64;
-    *words = c.words;
-    s.refusal
+    let c = told(checked, none());
+    settle_text(c.refusal == 0, rule_table, rule_strings);
+    settle_text(c.refusal == 0, sheet_table, sheet_strings);
+    *which = c.which as u64;
+    *place = c.place as u64;
+    *words = bits(c.value);
+    c.refusal
 }
 
 // Tells whether a record's text fits a sheet's.
@@ -106,7 +113,7 @@ pub extern "C" fn jehvrukam_fits(
     if is_short(record_table, record_strings) {
         return 1;
     }
-    let f = fit_texts(
+    let fitted = fit_texts(
         sheet_text,
         record_text,
         sheet_table,
@@ -114,13 +121,13 @@ pub extern "C" fn jehvrukam_fits(
         record_table,
         record_strings,
     );
-    let s = f.stop;
-    settle_text(s.refusal, sheet_table, sheet_strings);
-    settle_text(s.refusal, record_table, record_strings);
-    *which = s.which as u64;
-    *place = s.place as u64;
-    *fits = yes_or_no(f.fits);
-    s.refusal
+    let f = told(fitted, false);
+    settle_text(f.refusal == 0, sheet_table, sheet_strings);
+    settle_text(f.refusal == 0, record_table, record_strings);
+    *which = f.which as u64;
+    *place = f.place as u64;
+    *fits = u64::from(f.value);
+    f.refusal
 }
 
 // Evaluates a rule's text on a record's text under a step limit, and writes the answer's text into the output.
@@ -151,7 +158,7 @@ pub extern "C" fn jehvrukam_evaluate(
     if is_short(record_table, record_strings) {
         return 1;
     }
-    let e = judge(
+    let judged = judge(
         rule_text,
         record_text,
         limit as usize,
@@ -162,9 +169,10 @@ pub extern "C" fn jehvrukam_evaluate(
         cells,
         output,
     );
-    settle_text(e.refusal, rule_table, rule_strings);
-    settle_text(e.refusal, record_table, record_strings);
-    settle_work(e.refusal, cells, output);
+    let e = outcome_told(judged);
+    settle_text(e.refusal == 0, rule_table, rule_strings);
+    settle_text(e.refusal == 0, record_table, record_strings);
+    settle_work(e.refusal == 0, cells, output);
     *which = e.which as u64;
     *place = e.place as u64;
     *steps = e.steps as u64;
@@ -208,7 +216,7 @@ pub extern "C" fn jehvrukam_evaluate_checked(
     if is_short(record_table, record_strings) {
         return 1;
     }
-    let o = judge_checked(
+    let judged = judge_checked(
         rule_text,
         sheet_text,
         record_text,
@@ -222,14 +230,15 @@ pub extern "C" fn jehvrukam_evaluate_checked(
         cells,
         output,
     );
-    settle_text(o.refusal, rule_table, rule_strings);
-    settle_text(o.refusal, sheet_table, sheet_strings);
-    settle_text(o.refusal, record_table, record_strings);
-    settle_work(o.refusal, cells, output);
+    let o = checked_outcome_told(judged);
+    settle_text(o.refusal == 0, rule_table, rule_strings);
+    settle_text(o.refusal == 0, sheet_table, sheet_strings);
+    settle_text(o.refusal == 0, record_table, record_strings);
+    settle_work(o.refusal == 0, cells, output);
     *which = o.which as u64;
     *place = o.place as u64;
     *words = o.words;
-    *fits = yes_or_no(o.fits);
+    *fits = u64::from(o.fits);
     *steps = o.steps as u64;
     *length = o.size as u64;
     o.refusal

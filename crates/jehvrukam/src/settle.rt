@@ -4,11 +4,11 @@ ghost use Rattle.jehvrukam.specs.Inner.{SettledText, SettledWork};
 use area::clear_from;
 use json_reader::clear_index;
 
-// On a refusal a text's areas are cleared; after success the work room behind the table's rows is.
-pub fn settle_text(refusal: u32, table: &mut [u8], strings: &mut [u8])
-    ensures { SettledText refusal table.old strings.old table.new strings.new }
+// On a refusal a text's areas are cleared; after success, if it is done, the work room behind the table's rows is.
+pub fn settle_text(done: bool, table: &mut [u8], strings: &mut [u8])
+    ensures { SettledText done table.old strings.old table.new strings.new }
 {
-    if refusal == 0 {
+    if done {
         clear_index(table);
         return;
     }
@@ -17,10 +17,10 @@ pub fn settle_text(refusal: u32, table: &mut [u8], strings: &mut [u8])
 }
 
 // On a refusal the cells and the output are cleared; after success they stay as they are.
-pub fn settle_work(refusal: u32, cells: &mut [u8], output: &mut [u8])
-    ensures { SettledWork refusal cells.old output.old cells.new output.new }
+pub fn settle_work(done: bool, cells: &mut [u8], output: &mut [u8])
+    ensures { SettledWork done cells.old output.old cells.new output.new }
 {
-    if refusal == 0 {
+    if done {
         return;
     }
     clear_from(cells, 0);

@@ -1,13 +1,34 @@
-// Numbers that are told.
+// What is told to C. The numbers of refusals are those of its interface.
 ghost use Rattle.std.specs.Prelude.{◌≡◌};
-ghost use Rattle.jehvrukam.specs.Fits.{yes_or_no};
+ghost use Rattle.jehvrukam.specs.Inner.{told_of};
 
-// 1 for yes, 0 for no.
-pub fn yes_or_no(b: bool) -> u64
-    ensures { result ≡ yes_or_no b }
+use pipeline::text::Stop;
+
+// A refusal's number, or 0, the text and the place, and what else is told.
+#[derive(Clone, Copy)]
+pub struct Report<T> {
+    pub refusal: u32,
+    pub which: usize,
+    pub place: usize,
+    pub value: T,
+}
+
+// With a refusal nothing else.
+pub fn told<T: Copy>(r: Result<T, Stop>, nothing: T) -> Report<T>
+    ensures { result ≡ told_of nothing r }
 {
-    if b {
-        return 1;
+    match r {
+        Ok(value) => Report {
+            refusal: 0,
+            which: 0,
+            place: 0,
+            value,
+        },
+        Err(s) => Report {
+            refusal: u32::from(s.refusal),
+            which: s.which,
+            place: s.place,
+            value: nothing,
+        },
     }
-    0
 }

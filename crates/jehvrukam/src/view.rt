@@ -3,8 +3,7 @@ ghost use Rattle.std.specs.Prelude.{◌≡◌};
 ghost use Rattle.jehvrukam.specs.Contract.{told, seen, span};
 ghost use Rattle.jehvrukam.specs.View.{view_entry, view_part_entry, view_integer_entry, view_string_entry, view_name_entry};
 
-use viewer::part::PartAnswer;
-use viewer::row::{RowAnswer, count_of, integer_of};
+use viewer::row::{count_of, integer_of};
 use viewer::view::{part_at, row_at};
 
 // The kind of the value at a place, and how many items or members it has.
@@ -12,7 +11,7 @@ use viewer::view::{part_at, row_at};
 pub extern "C" fn jehvrukam_view(table: &[u8], place: u64, kind: &mut u64, count: &mut u64) -> u32
     ensures { told result (seen kind.new count.new) ≡ view_entry table.now place (seen kind.old count.old) }
 {
-    let RowAnswer::Is(r) = row_at(table, place as usize) else {
+    let Some(r) = row_at(table, place as usize) else {
         return 1;
     };
     *kind = r.kind as u64;
@@ -25,7 +24,7 @@ pub extern "C" fn jehvrukam_view(table: &[u8], place: u64, kind: &mut u64, count
 pub extern "C" fn jehvrukam_view_part(table: &[u8], place: u64, nth: u64, part: &mut u64) -> u32
     ensures { told result part.new ≡ view_part_entry table.now place nth part.old }
 {
-    let PartAnswer::At(p) = part_at(table, place as usize, nth as usize) else {
+    let Some(p) = part_at(table, place as usize, nth as usize) else {
         return 1;
     };
     *part = p as u64;
@@ -38,7 +37,7 @@ pub extern "C" fn jehvrukam_view_part(table: &[u8], place: u64, nth: u64, part: 
 pub extern "C" fn jehvrukam_view_integer(table: &[u8], place: u64, value: &mut i64) -> u32
     ensures { told result value.new ≡ view_integer_entry table.now place value.old }
 {
-    let RowAnswer::Is(r) = row_at(table, place as usize) else {
+    let Some(r) = row_at(table, place as usize) else {
         return 1;
     };
     if r.kind != 4 {
@@ -59,7 +58,7 @@ pub extern "C" fn jehvrukam_view_string(
 ) -> u32
     ensures { told result (span start.new length.new) ≡ view_string_entry table.now place (span start.old length.old) }
 {
-    let RowAnswer::Is(r) = row_at(table, place as usize) else {
+    let Some(r) = row_at(table, place as usize) else {
         return 1;
     };
     if r.kind != 5 {
@@ -80,7 +79,7 @@ pub extern "C" fn jehvrukam_view_name(
 ) -> u32
     ensures { told result (span start.new length.new) ≡ view_name_entry table.now place (span start.old length.old) }
 {
-    let RowAnswer::Is(r) = row_at(table, place as usize) else {
+    let Some(r) = row_at(table, place as usize) else {
         return 1;
     };
     let name = r.name;

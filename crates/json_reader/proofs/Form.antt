@@ -8,7 +8,7 @@ use lib.Seq.{sets}
 use Rattle.area.specs.Laws.{sets_before}
 use Rattle.model.specs.Bytes.{Bytes}
 use Rattle.model.specs.Limits.{max_values}
-use Rattle.model.specs.Refusal.{ReadFault}
+use Rattle.model.specs.declared.refusal.ReadFault.{ReadFault}
 use Rattle.model.specs.Size.{value_count}
 use Rattle.model.specs.Value.{Value}
 use Rattle.name_index.specs.Contract.{entry}
@@ -20,9 +20,8 @@ use Rattle.syntax.proofs.Laws.Layout.{length_row}
 use Rattle.syntax.specs.Read.{Parsed, ok, bad, Parser, then, give}
 use Rattle.json_reader.specs.declared.row.Label.{Label}
 use Rattle.json_reader.specs.declared.step.Cursor.{Cursor}
-use Rattle.json_reader.specs.declared.step.Step.{Step}
-use Rattle.json_reader.specs.declared.step.Step.TheVariants.{Reached, Failed}
-use Rattle.json_reader.specs.Inner.{label_of, Form, value_form, cursor, Wrote, Meets, Safe, StepSafe, Reads, ValueRead, FilledMeets, Filled}
+use Rattle.std.specs.Prelude.{Ok, Err}
+use Rattle.json_reader.specs.Inner.{Step, label_of, Form, value_form, cursor, Wrote, Meets, Safe, StepSafe, Reads, ValueRead, Filled}
 use Rattle.json_reader.specs.Index.{IndexedValue}
 use Rattle.json_reader.proofs.Rows.{rows_sets, entry_sets}
 use Rattle.json_reader.proofs.Index.{value_frame}
@@ -36,10 +35,10 @@ pub record Got {X : Type 0} (F : Form X) (s : Bytes) (row used : ℕ) (T A : Byt
 
 -- A parser that goes on from one that refused.
 pub gone_then : {X Y : Type 0} {g : Parsed X} {h : Parsed Y} {f : Fault} → ((k : ReadFault) (p : ℕ) → g ≡ bad k p → h ≡ bad k p) → Gone g f → Gone h f
-gone_then e w = record { k = w.k; p = w.p; is = e w.k w.p w.is; fault = w.fault }
+gone_then {f = f} e w = record { is = e f.reason f.at w.is }
 
 module _ {X : Type 0} (F : Form X) (s : Bytes) (row used : ℕ) (T A : Bytes) (T' A' : Bytes) where
-  got_of : (c : Cursor) (g : Parsed X) → Meets F s row used T A g (Reached c) T' A' → Got F s row used T A g c T' A'
+  got_of : (c : Cursor) (g : Parsed X) → Meets F s row used T A g (Ok c) T' A' → Got F s row used T A g c T' A'
   got_of c (ok x u q) w = record {
     x = x;
     is = (λ i. ok x (w.left i) q) ∙ (λ i. ok x (drop (sym w.place i) s) (sym w.place i));
@@ -47,31 +46,31 @@ module _ {X : Type 0} (F : Form X) (s : Bytes) (row used : ℕ) (T A : Bytes) (T
   }
   got_of c (bad k p) w = absurd w
 
-  gone_of : (f : Fault) (g : Parsed X) → Meets F s row used T A g (Failed f) T' A' → Gone g f
+  gone_of : (f : Fault) (g : Parsed X) → Meets F s row used T A g (Err f) T' A' → Gone g f
   gone_of f (ok x u q) w = absurd w
-  gone_of f (bad k p) w = record { k = k; p = p; is = refl; fault = w }
+  gone_of f (bad k p) w = record { is = ap (λ (x : Fault). bad x.reason x.at) (sym w) }
 
-  meets_got : {c : Cursor} {g : Parsed X} → Got F s row used T A g c T' A' → Meets F s row used T A g (Reached c) T' A'
-  meets_got {c} w = subst⁻¹ (λ (g : Parsed X). Meets F s row used T A g (Reached c) T' A') w.is w.wrote
+  meets_got : {c : Cursor} {g : Parsed X} → Got F s row used T A g c T' A' → Meets F s row used T A g (Ok c) T' A'
+  meets_got {c} w = subst⁻¹ (λ (g : Parsed X). Meets F s row used T A g (Ok c) T' A') w.is w.wrote
 
-  meets_gone : {f : Fault} {g : Parsed X} → Gone g f → Meets F s row used T A g (Failed f) T' A'
-  meets_gone {f} w = subst⁻¹ (λ (g : Parsed X). Meets F s row used T A g (Failed f) T' A') w.is w.fault
+  meets_gone : {f : Fault} {g : Parsed X} → Gone g f → Meets F s row used T A g (Err f) T' A'
+  meets_gone {f} w = subst⁻¹ (λ (g : Parsed X). Meets F s row used T A g (Err f) T' A') w.is refl
 
 module _ {X : Type 0} {F : Form X} {m : ℕ → Parser X} {k : ℕ} {b : ℕ → Type 0} {s : Bytes} {at row used : ℕ} {T A : Bytes} {T' A' : Bytes} where
-  pub got_at : {c : Cursor} → Reads F m k b s at row used T A (Reached c) T' A' → (f : ℕ) → 2 * (length s - at) + k < f
+  pub got_at : {c : Cursor} → Reads F m k b s at row used T A (Ok c) T' A' → (f : ℕ) → 2 * (length s - at) + k < f
       → Got F s row used T A (m f (drop at s) at) c T' A'
   got_at {c} h f l = got_of F s row used T A T' A' c (m f (drop at s) at) (h.run f l)
 
-  pub gone_at : {x : Fault} → Reads F m k b s at row used T A (Failed x) T' A' → (f : ℕ) → 2 * (length s - at) + k < f
+  pub gone_at : {x : Fault} → Reads F m k b s at row used T A (Err x) T' A' → (f : ℕ) → 2 * (length s - at) + k < f
       → Gone (m f (drop at s) at) x
   gone_at {x} h f l = gone_of F s row used T A T' A' x (m f (drop at s) at) (h.run f l)
 
   pub reads_ok : {c : Cursor} → Safe b s at row used T c T' → ((f : ℕ) → 2 * (length s - at) + k < f → Got F s row used T A (m f (drop at s) at) c T' A')
-      → Reads F m k b s at row used T A (Reached c) T' A'
+      → Reads F m k b s at row used T A (Ok c) T' A'
   reads_ok safe g = record { safe = safe; run = λ f l. meets_got F s row used T A T' A' (g f l) }
 
   pub reads_bad : {x : Fault} → ((f : ℕ) → 2 * (length s - at) + k < f → Gone (m f (drop at s) at) x)
-      → Reads F m k b s at row used T A (Failed x) T' A'
+      → Reads F m k b s at row used T A (Err x) T' A'
   reads_bad g = record { safe = tt; run = λ f l. meets_gone F s row used T A T' A' (g f l) }
 
 pub read_as : {name : Label} {m : ℕ → Parser Value} {more : ℕ} {s : Bytes} {at row used : ℕ} {T A : Bytes} {r x : Step} {T' A' : Bytes}
@@ -93,7 +92,7 @@ pub record On {X : Type 0} (g : Parsed X) (m : ℕ → Parser X) (enough : ℕ) 
   pub is : g ≡ m fuel (drop at s) at
 
 safe_before : (b : ℕ → Type 0) (s : Bytes) (at at' row used : ℕ) (T : Bytes) (r : Step) (T' : Bytes) → at ≤ at' → StepSafe b s at' row used T r T' → StepSafe b s at row used T r T'
-safe_before b s at at' row used T (Reached c) T' l safe = record {
+safe_before b s at at' row used T (Ok c) T' l safe = record {
   on = omega arith;
   inside = safe.inside;
   text = safe.text;
@@ -103,10 +102,10 @@ safe_before b s at at' row used T (Reached c) T' l safe = record {
   count = safe.count;
   kept = safe.kept;
 }
-safe_before b s at at' row used T (Failed f) T' l safe = tt
+safe_before b s at at' row used T (Err f) T' l safe = tt
 
 safe_fewer : {b b' : ℕ → Type 0} → ((e : ℕ) → b e → b' e) → (s : Bytes) (at row used : ℕ) (T : Bytes) (r : Step) (T' : Bytes) → StepSafe b' s at row used T r T' → StepSafe b s at row used T r T'
-safe_fewer k s at row used T (Reached c) T' safe = record {
+safe_fewer k s at row used T (Ok c) T' safe = record {
   on = safe.on;
   inside = safe.inside;
   text = safe.text;
@@ -116,7 +115,7 @@ safe_fewer k s at row used T (Reached c) T' safe = record {
   count = safe.count;
   kept = λ e o p. safe.kept e o (k e p);
 }
-safe_fewer k s at row used T (Failed f) T' safe = tt
+safe_fewer k s at row used T (Err f) T' safe = tt
 
 module _ {X : Type 0} {F : Form X} {m m' : ℕ → Parser X} {k k' : ℕ} {b : ℕ → Type 0} {s : Bytes} {at at' row used : ℕ} {T A : Bytes} {r : Step} {T' A' : Bytes} where
   pub through : at ≤ at' → Reads F m' k' b s at' row used T A r T' A'
@@ -134,7 +133,7 @@ fewer {s = s} {at} {row} {used} {T} {r = r} {T'} g h = record { safe = safe_fewe
 
 -- After a fault the areas are free.
 pub refail : {X : Type 0} {F : Form X} {m : ℕ → Parser X} {k : ℕ} {b : ℕ → Type 0} {s : Bytes} {at row used : ℕ} {T A : Bytes} {x : Fault} {T₁ A₁ T₂ A₂ : Bytes}
-    → Reads F m k b s at row used T A (Failed x) T₁ A₁ → Reads F m k b s at row used T A (Failed x) T₂ A₂
+    → Reads F m k b s at row used T A (Err x) T₁ A₁ → Reads F m k b s at row used T A (Err x) T₂ A₂
 refail h = reads_bad (λ f l. gone_at h f l)
 
 -- ---- an array or an object, whose own row is stored after those of its parts
@@ -167,14 +166,14 @@ module _ {X : Type 0} (F : Form X) (wrap : X → Value) (kind : ℕ) (label : La
   module _ {m : ℕ → Parser X} {n : ℕ → Parser Value} {k : ℕ} {b : ℕ → Type 0} {s : Bytes} {row first at used : ℕ} {T A : Bytes} {T₁ A₁ : Bytes} (l : at ≤ first)
       (is : (f : ℕ) → 2 * (length s - at) + k < f → n f (drop at s) at ≡ then (m f (drop first s) first) (λ x. give (wrap x)))
       (own : (x : X) → F.indexed x (row + 1) T₁ → IndexedValue T₁ row (wrap x)) where
-    wrapped_bad : {x : Fault} {T₂ : Bytes} → Reads F m k b s first (row + 1) used T A (Failed x) T₁ A₁ → Reads (value_form (label_of label)) n k b s at row used T A (Failed x) T₂ A₁
+    pub wrapped_bad : {x : Fault} {T₂ : Bytes} → Reads F m k b s first (row + 1) used T A (Err x) T₁ A₁ → Reads (value_form (label_of label)) n k b s at row used T A (Err x) T₂ A₁
     unfolding then
     wrapped_bad h =
         reads_bad (λ f e. gone_then (λ _ _ g. is f e ∙ ap (λ (p : Parsed X). then p (λ x. give (wrap x))) g) (gone_at h f (omega arith)))
 
-    wrapped : {c : Cursor} {T₂ : Bytes} → Reads F m k b s first (row + 1) used T A (Reached c) T₁ A₁ → row < max_values
+    wrapped : {c : Cursor} {T₂ : Bytes} → Reads F m k b s first (row + 1) used T A (Ok c) T₁ A₁ → row < max_values
         → T₂ ≡ sets T₁ (row * row_bytes) (layout.row kind (label_of label) c.count c.row)
-        → Reads (value_form (label_of label)) n k b s at row used T A (Reached (cursor c.at c.row c.used 0)) T₂ A₁
+        → Reads (value_form (label_of label)) n k b s at row used T A (Ok (cursor c.at c.row c.used 0)) T₂ A₁
     unfolding then give row_bytes
     wrapped {c} h few t =
         let safe = h.safe in
@@ -194,23 +193,7 @@ module _ {X : Type 0} (F : Form X) (wrap : X → Value) (kind : ℕ) (label : La
         let g = got_at h f (omega arith) in
         record { x = wrap g.x; is = is f e ∙ ap (λ (p : Parsed X). then p (λ y. give (wrap y))) g.is; wrote = around g.x g.wrote few (own g.x) t })
 
-    -- By what came of the parts.
-    contained_by : (r : Step) {r₂ : Step} {T₂ : Bytes} → Reads F m k b s first (row + 1) used T A r T₁ A₁ → row < max_values → FilledMeets T₁ row kind label r r₂ T₂
-        → Reads (value_form (label_of label)) n k b s at row used T A r₂ T₂ A₁
-    contained_by (Reached c) {T₂ = T₂} h few e =
-        subst⁻¹ (λ (x : Step). Reads (value_form (label_of label)) n k b s at row used T A x T₂ A₁) e.is (wrapped h few e.table)
-    contained_by (Failed f) {T₂ = T₂} h few e =
-        subst⁻¹ (λ (x : Step). Reads (value_form (label_of label)) n k b s at row used T A x T₂ A₁) e (wrapped_bad h)
-
-    pub contained : {r r₂ : Step} {T₂ : Bytes} → Reads F m k b s first (row + 1) used T A r T₁ A₁ → row < max_values → Filled T₁ row kind label r r₂ T₂
-        → Reads (value_form (label_of label)) n k b s at row used T A r₂ T₂ A₁
-    contained {r} h few e = contained_by r h few e.meets
-
--- ---- a law for each return of `filled`
-module _ {T : Bytes} {row kind : ℕ} {name : Label} {r : Step} where
-  pub filled_failed : {x : Fault} {T' : Bytes} → r ≡ Failed x → Filled T row kind name r (Failed x) T'
-  filled_failed {x} {T'} e = record { meets = subst⁻¹ (λ (y : Step). FilledMeets T row kind name y (Failed x) T') e refl }
-
-  pub filled_around : {c d : Cursor} {T' : Bytes} → r ≡ Reached c → T' ≡ sets T (row * row_bytes) (layout.row kind (label_of name) c.count c.row)
-      → d ≡ cursor c.at c.row c.used 0 → Filled T row kind name r (Reached d) T'
-  filled_around {d = d} {T'} e t q = record { meets = subst⁻¹ (λ (y : Step). FilledMeets T row kind name y (Reached d) T') e (record { is = ap Reached q; table = t }) }
+    pub contained : {c d : Cursor} {T₂ : Bytes} → Reads F m k b s first (row + 1) used T A (Ok c) T₁ A₁ → row < max_values → Filled T₁ row kind label c d T₂
+        → Reads (value_form (label_of label)) n k b s at row used T A (Ok d) T₂ A₁
+    contained {T₂ = T₂} h few e =
+        subst⁻¹ (λ (x : Cursor). Reads (value_form (label_of label)) n k b s at row used T A (Ok x) T₂ A₁) e.is (wrapped h few e.table)

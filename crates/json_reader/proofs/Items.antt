@@ -4,7 +4,8 @@ use Prim.Native.Nat.{ℕ, suc, ◌+◌, ◌-◌, ◌≤◌, ◌<◌}
 use native.Mathlib.Omega.{arith}
 use lib.ListN.{length, drop}
 use Rattle.model.specs.Bytes.{Bytes}
-use Rattle.model.specs.Refusal.{not_json}
+use Rattle.model.specs.declared.refusal.ReadFault.{ReadFault}
+use Rattle.model.specs.declared.refusal.ReadFault.TheVariants.{NotJson}
 use Rattle.model.specs.Size.{value_count}
 use Rattle.model.specs.Value.{Value, no_items, item}
 use Rattle.scan.specs.declared.Fault.{Fault}
@@ -17,13 +18,12 @@ use Rattle.syntax.proofs.Laws.Layout.{length_rows}
 use Rattle.syntax.specs.Read.{Parsed, ok, then, ◌>>=◌, give, fail, peek, eat, white, on_separator, value, items}
 use Rattle.syntax.specs.Tokens.{separator_of}
 use Rattle.json_reader.specs.declared.step.Cursor.{Cursor}
-use Rattle.json_reader.specs.declared.step.Step.{Step}
-use Rattle.json_reader.specs.declared.step.Step.TheVariants.{Reached, Failed}
+use Rattle.std.specs.Prelude.{Ok, Err}
 use Rattle.json_reader.specs.declared.row.Label.{Label}
-use Rattle.json_reader.specs.Inner.{value_form, items_form, cursor, Wrote, Below, ValueRead, ItemsRead, Room, Breaks, failed, stopped, Closes, Continued}
+use Rattle.json_reader.specs.Inner.{value_form, items_form, cursor, Wrote, Below, ValueRead, ItemsRead, Room, Breaks, Closes, Continued}
 use Rattle.json_reader.specs.Index.{IndexedValue, IndexedItems}
 use Rattle.json_reader.proofs.Index.{value_frame}
-use Rattle.json_reader.proofs.Form.{gone_then, got_at, gone_at, read_as}
+use Rattle.json_reader.proofs.Form.{gone_then, got_at, gone_at}
 use Rattle.json_reader.proofs.Loop.{Front, Onward, Inv, inv_start, loop_bad, loop_last, loop_more}
 
 -- The label of a value that is no member.
@@ -76,19 +76,19 @@ items_start {depth} {s} {at} {row} {used} {T} {A} r e =
 
 module _ {depth : ℕ} {s : Bytes} {at row used : ℕ} {T A T₁ A₁ : Bytes} {here next to count : ℕ} (i : ItemsInv depth s at row used T A T₁ A₁ here next to count)
     {T₂ A₂ : Bytes} where
-  items_bad : {x : Fault} → ValueRead bare (λ f. value f next depth) 0 s here next to T₁ A₁ (Failed x) T₂ A₂ → ItemsRead s at row used depth T A (Failed x) T₂ A₂
+  pub items_bad : {x : Fault} → ValueRead bare (λ f. value f next depth) 0 s here next to T₁ A₁ (Err x) T₂ A₂ → ItemsRead s at row used depth T A (Err x) T₂ A₂
   unfolding value then
   items_bad h = record {
     reads = loop_bad i.inv (λ f l. gone_then (λ _ _ e. rw e) (gone_at h.reads f (omega arith)));
   }
 
-  module _ {c : Cursor} (h : ValueRead bare (λ f. value f next depth) 0 s here next to T₁ A₁ (Reached c) T₂ A₂) {end : ℕ} (sk : Skipped s c.at end) where
-    items_stop : Separated s 93 end Neither → ItemsRead s at row used depth T A (Failed (fault_of not_json end)) T₂ A₂
+  module _ {c : Cursor} (h : ValueRead bare (λ f. value f next depth) 0 s here next to T₁ A₁ (Ok c) T₂ A₂) {end : ℕ} (sk : Skipped s c.at end) where
+    items_stop : Separated s 93 end Neither → ItemsRead s at row used depth T A (Err (fault_of NotJson end)) T₂ A₂
     unfolding on_separator fail
     items_stop se = record {
       reads = loop_bad i.inv
           (λ f l. let g = got_at h.reads f (omega arith) in
-          record { k = not_json; p = end; is = items_as f next depth here g.x g.is sk se; fault = refl });
+          record { is = items_as f next depth here g.x g.is sk se });
     }
 
     onward : {here₁ : ℕ} → end < here₁ → here₁ ≤ length s → Onward (Below next) (Below c.row) s here next to T₁ here₁ c.row c.used T₂
@@ -106,7 +106,7 @@ module _ {depth : ℕ} {s : Bytes} {at row used : ℕ} {T A T₁ A₁ : Bytes} {
           still = λ e p. omega (arith, safe.less);
         }
 
-    items_last : Separated s 93 end Close → ItemsRead s at row used depth T A (Reached (cursor (end + 1) c.row c.used (count + 1))) T₂ A₂
+    items_last : Separated s 93 end Close → ItemsRead s at row used depth T A (Ok (cursor (end + 1) c.row c.used (count + 1))) T₂ A₂
     unfolding on_separator give rows_of strings_of value_count item_count IndexedValue
     items_last se = record {
       reads = loop_last i.inv (onward (omega arith) (omega (arith, se.room)))
@@ -141,22 +141,20 @@ module _ {depth : ℕ} {s : Bytes} {at row used : ℕ} {T A T₁ A₁ : Bytes} {
           });
     }
 
-  pub items_broken : {r : Step} {f : Fault} → ValueRead bare (λ f. value f next depth) 0 s here next to T₁ A₁ r T₂ A₂ → Breaks s r 93 f
-      → ItemsRead s at row used depth T A (Failed f) T₂ A₂
-  items_broken h (failed e) = items_bad (read_as h e)
-  items_broken h (stopped e sk se q) = subst⁻¹ (λ (x : Fault). ItemsRead s at row used depth T A (Failed x) T₂ A₂) q (items_stop (read_as h e) sk se)
+  module _ {c : Cursor} (h : ValueRead bare (λ f. value f next depth) 0 s here next to T₁ A₁ (Ok c) T₂ A₂) where
+    pub items_broken : {f : Fault} → Breaks s c 93 f → ItemsRead s at row used depth T A (Err f) T₂ A₂
+    items_broken {f} b = subst⁻¹ (λ (k : ReadFault). ItemsRead s at row used depth T A (Err (fault_of k f.at)) T₂ A₂) b.reason (items_stop h b.skipped b.neither)
 
-  pub items_closed : {r : Step} {t : Cursor} → ValueRead bare (λ f. value f next depth) 0 s here next to T₁ A₁ r T₂ A₂ → Closes s r count 93 t
-      → ItemsRead s at row used depth T A (Reached t) T₂ A₂
-  items_closed h c = subst⁻¹ (λ (x : Cursor). ItemsRead s at row used depth T A (Reached x) T₂ A₂) c.is (items_last (read_as h c.good) c.skipped c.closing)
+    pub items_closed : {t : Cursor} → Closes s c count 93 t → ItemsRead s at row used depth T A (Ok t) T₂ A₂
+    items_closed l = subst⁻¹ (λ (x : Cursor). ItemsRead s at row used depth T A (Ok x) T₂ A₂) l.is (items_last h l.skipped l.closing)
 
-  module _ {r : Step} (h : ValueRead bare (λ f. value f next depth) 0 s here next to T₁ A₁ r T₂ A₂) {t : Cursor} (c : Continued s r count 93 t) where
-    pub items_next : length T₂ ≡ length T → length A₂ ≡ length A → ItemsInv depth s at row used T A T₂ A₂ t.at t.row t.used t.count
-    items_next lt la =
-        subst⁻¹ (λ (x : Cursor). ItemsInv depth s at row used T A T₂ A₂ x.at x.row x.used x.count) c.is
-        (items_more (read_as h c.good) c.skipped c.comma c.white lt la)
+    module _ {t : Cursor} (l : Continued s c count 93 t) where
+      pub items_next : length T₂ ≡ length T → length A₂ ≡ length A → ItemsInv depth s at row used T A T₂ A₂ t.at t.row t.used t.count
+      items_next lt la =
+          subst⁻¹ (λ (x : Cursor). ItemsInv depth s at row used T A T₂ A₂ x.at x.row x.used x.count) l.is
+          (items_more h l.skipped l.comma l.white lt la)
 
-    pub items_less : length s - t.at < length s - here
-    items_less =
-        let safe = (read_as h c.good).reads.safe in
-        rw (ap (λ (x : Cursor). x.at) c.is) (omega (arith, safe, c.skipped.on, c.white.on, c.comma.room))
+      pub items_less : length s - t.at < length s - here
+      items_less =
+          let safe = h.reads.safe in
+          rw (ap (λ (x : Cursor). x.at) l.is) (omega (arith, safe, l.skipped.on, l.white.on, l.comma.room))

@@ -13,9 +13,8 @@ use Rattle.scan.specs.Laws.{Gone}
 use Rattle.syntax.specs.Layout.{row_bytes, rows_part}
 use Rattle.syntax.specs.Read.{Parsed, ok, Parser, then, give}
 use Rattle.json_reader.specs.declared.step.Cursor.{Cursor}
-use Rattle.json_reader.specs.declared.step.Step.{Step}
-use Rattle.json_reader.specs.declared.step.Step.TheVariants.{Reached, Failed}
-use Rattle.json_reader.specs.Inner.{Index, Form, with_index, cursor, Wrote, Kept, Reads}
+use Rattle.std.specs.Prelude.{Ok, Err}
+use Rattle.json_reader.specs.Inner.{Step, Index, Form, with_index, cursor, Wrote, Kept, Reads}
 use Rattle.json_reader.proofs.Form.{Got, gone_then, got_at, gone_at, reads_ok, reads_bad, fuelled, fewer}
 
 -- ---- one part in front
@@ -40,8 +39,8 @@ abbrev pub counting : ℕ → Cursor → Cursor
 counting n c = cursor c.at c.row c.used (c.count + n)
 
 abbrev pub shift : ℕ → Step → Step
-shift n (Reached c) = Reached (counting n c)
-shift n (Failed f) = Failed f
+shift n (Ok c) = Ok (counting n c)
+shift n (Err f) = Err f
 
 module _ {X : Type 0} {F : Form X} {J : Index X} {b : ℕ → Type 0} {row used : ℕ} {T A : Bytes} {next to : ℕ} {T₁ A₁ : Bytes} {cons : X → X}
     (h : Front F J b row used T A next to T₁ A₁ cons) where
@@ -109,7 +108,7 @@ pub record Last {X : Type 0} (F : Form X) (J : Index X) (b : ℕ → Type 0) (m 
 module _ {X : Type 0} {F : Form X} {J : Index X} {m : ℕ → Parser X} {b b' : ℕ → Type 0} {s : Bytes} {at row used : ℕ} {T A : Bytes} {here next to : ℕ} {T₁ A₁ : Bytes}
     (w : Onward b b' s at row used T here next to T₁) where
   pub last : ((f : ℕ) → 2 * (length s - at) + 1 ≤ f → Last F J b' (m (suc f)) s at row used T A here next to T₁ A₁)
-      → Reads F m 1 b s at row used T A (Reached (cursor here next to 1)) T₁ A₁
+      → Reads F m 1 b s at row used T A (Ok (cursor here next to 1)) T₁ A₁
   last g =
       reads_ok
       (record { on = w.on; inside = w.inside; text = w.text; more = w.more; rows = w.rows; less = w.less; count = omega arith; kept = w.kept })
@@ -120,7 +119,7 @@ module _ {X : Type 0} {F : Form X} {J : Index X} {m : ℕ → Parser X} {b b' : 
   pub more : {m' : ℕ → Parser X} (t : Step) {T₂ A₂ : Bytes} → ((f : ℕ) → 2 * (length s - at) + 1 ≤ f → More F J b' (m (suc f)) (m' f) s at row used T A here next to T₁ A₁)
       → Reads (with_index F J) m' 1 b' s here next to T₁ A₁ t T₂ A₂ → Reads F m 1 b s at row used T A (shift 1 t) T₂ A₂
   unfolding then give
-  more (Reached c) {T₂} {A₂} g h =
+  more (Ok c) {T₂} {A₂} g h =
       let safe = h.safe in
       reads_ok
       (record {
@@ -137,7 +136,7 @@ module _ {X : Type 0} {F : Form X} {J : Index X} {m : ℕ → Parser X} {b b' : 
       (λ f l. let o = g f l in
       let r = got_at h f (omega arith) in
       record { x = o.cons r.x; is = o.is ∙ ap (λ (p : Parsed X). then p (λ x. give (o.cons x))) r.is; wrote = joined o.front r.x r.wrote safe.kept }))
-  more (Failed x) g h =
+  more (Err x) g h =
       reads_bad
       (fuelled (λ (f : ℕ). Gone (m f (drop at s) at) x) (2 * (length s - at) + 1)
       (λ f l. let o = g f l in
@@ -171,21 +170,21 @@ inv_start F {J} {m} {b} {b'} {s} {at} {row} {used} {T} {A} l u r k = record {
 }
   where
     none : (t : Step) (T₂ A₂ : Bytes) → Reads (with_index F J) m 1 b s at row used T A t T₂ A₂ → Reads (with_index F J) m 1 b s at row used T A (shift 0 t) T₂ A₂
-    none (Reached c) T₂ A₂ h = subst⁻¹ (λ (n : ℕ). Reads (with_index F J) m 1 b s at row used T A (Reached (cursor c.at c.row c.used n)) T₂ A₂) (omega arith) h
-    none (Failed f) T₂ A₂ h = h
+    none (Ok c) T₂ A₂ h = subst⁻¹ (λ (n : ℕ). Reads (with_index F J) m 1 b s at row used T A (Ok (cursor c.at c.row c.used n)) T₂ A₂) (omega arith) h
+    none (Err f) T₂ A₂ h = h
 
 module _ {X : Type 0} {F : Form X} {J : Index X} {m m' : ℕ → Parser X} {b b' : ℕ → Type 0} {s : Bytes} {at row used : ℕ} {T A T₁ A₁ : Bytes} {here next to count : ℕ}
     (inv : Inv F J m m' b b' s at row used T A T₁ A₁ here next to count) where
   pub loop_bad : {x : Fault} {T₂ A₂ : Bytes} → ((f : ℕ) → 2 * (length s - here) + 1 ≤ f → Gone (m' (suc f) (drop here s) here) x)
-      → Reads F m 1 b s at row used T A (Failed x) T₂ A₂
+      → Reads F m 1 b s at row used T A (Err x) T₂ A₂
   loop_bad {x} {T₂} {A₂} g =
-      inv.rest (Failed x) T₂ A₂ (reads_bad (fuelled (λ (f : ℕ). Gone (m' f (drop here s) here) x) (2 * (length s - here) + 1) g))
+      inv.rest (Err x) T₂ A₂ (reads_bad (fuelled (λ (f : ℕ). Gone (m' f (drop here s) here) x) (2 * (length s - here) + 1) g))
 
   pub loop_last : {J'' : Index X} {b'' : ℕ → Type 0} {here₁ next₁ to₁ : ℕ} {T₂ A₂ : Bytes} → Onward b' b'' s here next to T₁ here₁ next₁ to₁ T₂
       → ((f : ℕ) → 2 * (length s - here) + 1 ≤ f → Last (with_index F J) J'' b'' (m' (suc f)) s here next to T₁ A₁ here₁ next₁ to₁ T₂ A₂)
-      → Reads F m 1 b s at row used T A (Reached (cursor here₁ next₁ to₁ (count + 1))) T₂ A₂
+      → Reads F m 1 b s at row used T A (Ok (cursor here₁ next₁ to₁ (count + 1))) T₂ A₂
   loop_last {here₁ = here₁} {next₁} {to₁} {T₂} {A₂} w g =
-      subst (λ (n : ℕ). Reads F m 1 b s at row used T A (Reached (cursor here₁ next₁ to₁ n)) T₂ A₂) (omega arith) (inv.rest (Reached (cursor here₁ next₁ to₁ 1)) T₂ A₂ (last w g))
+      subst (λ (n : ℕ). Reads F m 1 b s at row used T A (Ok (cursor here₁ next₁ to₁ n)) T₂ A₂) (omega arith) (inv.rest (Ok (cursor here₁ next₁ to₁ 1)) T₂ A₂ (last w g))
 
   pub loop_more : {J'' : Index X} {m'' : ℕ → Parser X} {b'' : ℕ → Type 0} {here₁ next₁ to₁ : ℕ} {T₂ A₂ : Bytes} → Onward b' b'' s here next to T₁ here₁ next₁ to₁ T₂ → length T₂ ≡ length T → length A₂ ≡ length A
       → ((f : ℕ) → 2 * (length s - here) + 1 ≤ f → More (with_index F J) J'' b'' (m' (suc f)) (m'' f) s here next to T₁ A₁ here₁ next₁ to₁ T₂ A₂)
@@ -203,5 +202,5 @@ module _ {X : Type 0} {F : Form X} {J : Index X} {m m' : ℕ → Parser X} {b b'
   }
     where
       both : (t : Step) (T₃ A₃ : Bytes) → Reads F m 1 b s at row used T A (shift count (shift 1 t)) T₃ A₃ → Reads F m 1 b s at row used T A (shift (count + 1) t) T₃ A₃
-      both (Reached c) T₃ A₃ h = subst (λ (n : ℕ). Reads F m 1 b s at row used T A (Reached (cursor c.at c.row c.used n)) T₃ A₃) (omega arith) h
-      both (Failed f) T₃ A₃ h = h
+      both (Ok c) T₃ A₃ h = subst (λ (n : ℕ). Reads F m 1 b s at row used T A (Ok (cursor c.at c.row c.used n)) T₃ A₃) (omega arith) h
+      both (Err f) T₃ A₃ h = h

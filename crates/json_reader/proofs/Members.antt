@@ -11,7 +11,8 @@ use Rattle.area.specs.Words.{word_at}
 use Rattle.area.specs.Laws.{sets_append, take_sets_before, part_sets, word_at_take, word_at_sets}
 use Rattle.model.specs.Bytes.{Bytes}
 use Rattle.model.specs.Limits.{max_text_bytes, max_values}
-use Rattle.model.specs.Refusal.{not_json}
+use Rattle.model.specs.declared.refusal.ReadFault.{ReadFault}
+use Rattle.model.specs.declared.refusal.ReadFault.TheVariants.{NotJson}
 use Rattle.model.specs.Size.{value_count}
 use Rattle.model.specs.Value.{Value, Members, no_members, member}
 use Rattle.model.proofs.Laws.Logic.{clash}
@@ -28,16 +29,13 @@ use Rattle.syntax.proofs.Laws.Layout.{count_positive, length_rows}
 use Rattle.syntax.specs.Read.{Parsed, ok, bad, then, ◌>>=◌, give, fail, peek, eat, white, on_separator, name, value, members}
 use Rattle.syntax.specs.Tokens.{separator_of}
 use Rattle.json_reader.specs.declared.step.Cursor.{Cursor}
-use Rattle.json_reader.specs.declared.step.Step.{Step}
-use Rattle.json_reader.specs.declared.step.Step.TheVariants.{Reached, Failed}
-use Rattle.json_reader.specs.declared.name.NameStep.{NameStep}
-use Rattle.json_reader.specs.declared.name.NameStep.TheVariants.{Named, NoName}
+use Rattle.std.specs.Prelude.{Ok, Err}
 use Rattle.json_reader.specs.declared.row.Label.{Label}
-use Rattle.json_reader.specs.Inner.{with_index, value_form, members_index, members_form, cursor, Wrote, Kept, Below, Older, ValueRead, MembersRead, MembersRoom, Holds, Has, named, NameMeets, NameRead, Breaks, failed, stopped, Closes, Continued}
+use Rattle.json_reader.specs.Inner.{with_index, value_form, members_index, members_form, cursor, Wrote, Kept, Below, Older, ValueRead, MembersRead, MembersRoom, Holds, Has, named, NameMeets, NameRead, Breaks, Closes, Continued}
 use Rattle.json_reader.specs.Index.{entries_of, IndexedValue, IndexedMembers}
 use Rattle.json_reader.proofs.Index.{value_frame, row_between, row_snoc}
 use Rattle.json_reader.proofs.Rows.{length_rows_part, take_rows, first_row, row_size, row_start}
-use Rattle.json_reader.proofs.Form.{Got, gone_then, got_at, gone_at, read_as}
+use Rattle.json_reader.proofs.Form.{Got, gone_then, got_at, gone_at}
 use Rattle.json_reader.proofs.Loop.{Front, Onward, Inv, inv_start, loop_bad, loop_last, loop_more}
 use Rattle.json_reader.proofs.Names.{holds_kept, holds_snoc, between_more, between_snoc, names_snoc, part_kept}
 
@@ -52,7 +50,7 @@ record Name (g : Parsed Bytes) (s : Bytes) (first row used : ℕ) (A : Bytes) (e
   indexed : Indexed T' first (es ++ (named A' row used nm.size ∷ []))
 
 module _ (s : Bytes) (first row used : ℕ) (T A : Bytes) (es : List Entry) (T' A' : Bytes) where
-  name_of : (on : ℕ) (nm : Label) (g : Parsed Bytes) → NameMeets s first row used T A es g (Named on nm) T' A' → Name g s first row used A es on nm T' A'
+  name_of : (on : ℕ) (nm : Label) (g : Parsed Bytes) → NameMeets s first row used T A es g (Ok (record { at = on; name = nm })) T' A' → Name g s first row used A es on nm T' A'
   name_of on nm (ok n u q) m = record {
     n = n;
     q = q;
@@ -64,12 +62,9 @@ module _ (s : Bytes) (first row used : ℕ) (T A : Bytes) (es : List Entry) (T' 
   }
   name_of on nm (bad k p) m = absurd m
 
-  no_name_of : (x : Fault) (g : Parsed Bytes) → NameMeets s first row used T A es g (NoName x) T' A' → Gone g x
+  no_name_of : (x : Fault) (g : Parsed Bytes) → NameMeets s first row used T A es g (Err x) T' A' → Gone g x
   no_name_of x (ok n u q) m = absurd m
-  no_name_of x (bad k p) m = record { k = k; p = p; is = refl; fault = m }
-
-pub named_as : {s : Bytes} {at first row used : ℕ} {T A : Bytes} {r x : NameStep} {T' A' : Bytes} → NameRead s at first row used T A r T' A' → r ≡ x → NameRead s at first row used T A x T' A'
-named_as {s} {at} {first} {row} {used} {T} {A} {T' = T'} {A'} h e = subst (λ (x : NameStep). NameRead s at first row used T A x T' A') e h
+  no_name_of x (bad k p) m = record { is = ap (λ (f : Fault). bad f.reason f.at) (sym m) }
 
 -- ---- the definition, after a name and after a member
 -- What follows the content of a member.
@@ -216,18 +211,18 @@ members_start {depth} {s} {at} {row} {used} {T} {A} r e =
 
 module _ {depth : ℕ} {s : Bytes} {at row used : ℕ} {T A T₁ A₁ : Bytes} {here next to count : ℕ} (i : MembersInv depth s at row used T A T₁ A₁ here next to count)
     {T₂ A₂ : Bytes} where
-  pub members_no_name : {x : Fault} → NameRead s here row next to T₁ A₁ (NoName x) T₂ A₂ → MembersRead [] s at row used depth T A (Failed x) T₂ A₂
+  pub members_no_name : {x : Fault} → NameRead s here row next to T₁ A₁ (Err x) T₂ A₂ → MembersRead [] s at row used depth T A (Err x) T₂ A₂
   members_no_name {x} nr = record {
     reads = loop_bad i.inv
         (λ f l. members_unnamed f next depth here (names_of i.es) s
         (no_name_of s row next to T₁ A₁ i.es T₂ A₂ x (name f (names_of i.es) (drop here s) here) (nr.run f (omega arith) i.es i.has)));
   }
 
-  module _ {on : ℕ} {nm : Label} (nr : NameRead s here row next to T₁ A₁ (Named on nm) T₂ A₂) where
+  module _ {on : ℕ} {nm : Label} (nr : NameRead s here row next to T₁ A₁ (Ok (record { at = on; name = nm })) T₂ A₂) where
     name_at_lem : (f : ℕ) → length s ≤ here + f → Name (name f (names_of i.es) (drop here s) here) s row next to A₁ i.es on nm T₂ A₂
     name_at_lem f l = name_of s row next to T₁ A₁ i.es T₂ A₂ on nm (name f (names_of i.es) (drop here s) here) (nr.run f l i.es i.has)
 
-    members_no_value : {x : Fault} {T₃ A₃ : Bytes} → ValueRead nm (λ f. value f next depth) 0 s on next (to + nm.size) T₂ A₂ (Failed x) T₃ A₃ → MembersRead [] s at row used depth T A (Failed x) T₃ A₃
+    pub members_no_value : {x : Fault} {T₃ A₃ : Bytes} → ValueRead nm (λ f. value f next depth) 0 s on next (to + nm.size) T₂ A₂ (Err x) T₃ A₃ → MembersRead [] s at row used depth T A (Err x) T₃ A₃
     members_no_value h = record {
       reads = loop_bad i.inv
           (λ f l.
@@ -236,7 +231,7 @@ module _ {depth : ℕ} {s : Bytes} {at row used : ℕ} {T A T₁ A₁ : Bytes} {
           members_empty f next depth here (names_of i.es) o.n o.is o.skipped (gone_at h.reads f (omega arith)));
     }
 
-    module _ {c : Cursor} {T₃ A₃ : Bytes} (h : ValueRead nm (λ f. value f next depth) 0 s on next (to + nm.size) T₂ A₂ (Reached c) T₃ A₃) {end : ℕ} (sk : Skipped s c.at end) where
+    module _ {c : Cursor} {T₃ A₃ : Bytes} (h : ValueRead nm (λ f. value f next depth) 0 s on next (to + nm.size) T₂ A₂ (Ok c) T₃ A₃) {end : ℕ} (sk : Skipped s c.at end) where
       got : (f : ℕ) → 2 * (length s - here) + 1 ≤ f
           → Got (value_form (label to nm.size)) s next (to + nm.size) T₂ A₂ (value f next depth (drop on s) on) c T₃ A₃
       got f l =
@@ -244,14 +239,14 @@ module _ {depth : ℕ} {s : Bytes} {at row used : ℕ} {T A T₁ A₁ : Bytes} {
           subst (λ (x : ℕ). Got (value_form (label x nm.size)) s next (to + nm.size) T₂ A₂ (value f next depth (drop on s) on) c T₃ A₃) safe.start
           (got_at h.reads f (omega arith))
 
-      members_stop : Separated s 125 end Neither → MembersRead [] s at row used depth T A (Failed (fault_of not_json end)) T₃ A₃
+      members_stop : Separated s 125 end Neither → MembersRead [] s at row used depth T A (Err (fault_of NotJson end)) T₃ A₃
       unfolding on_separator fail
       members_stop se = record {
         reads = loop_bad i.inv
             (λ f l.
             let o = name_at_lem f (omega arith) in
             let g = got f l in
-            record { k = not_json; p = end; is = members_as f next depth here (names_of i.es) o.n o.is o.skipped g.x g.is sk se; fault = refl });
+            record { is = members_as f next depth here (names_of i.es) o.n o.is o.skipped g.x g.is sk se });
       }
 
       module _ (room : MembersRoom s T A at row used) where
@@ -325,7 +320,7 @@ module _ {depth : ℕ} {s : Bytes} {at row used : ℕ} {T A T₁ A₁ : Bytes} {
             front o.n (got f l).x to T₁ A₁ nr.safe.rows o.size o.area (got f l).wrote row i.es (named A₂ next to nm.size) i.has.between refl
             (sym (is_part_lem f (omega arith)))
 
-        members_last : Separated s 125 end Close → length T₂ ≡ length T → MembersRead [] s at row used depth T A (Reached (cursor (end + 1) c.row c.used (count + 1))) T₃ A₃
+        members_last : Separated s 125 end Close → length T₂ ≡ length T → MembersRead [] s at row used depth T A (Ok (cursor (end + 1) c.row c.used (count + 1))) T₃ A₃
         unfolding on_separator give rows_of strings_of value_count IndexedValue entries_of
         members_last se lt = record {
           reads = loop_last i.inv (onward (omega arith) (omega (arith, se.room)))
@@ -375,26 +370,23 @@ module _ {depth : ℕ} {s : Bytes} {at row used : ℕ} {T A T₁ A₁ : Bytes} {
                 ∙ white_by _ sk₁
                 ∙ (λ j. then (members f (sym g.wrote.rows j) depth (k j) (drop here₁ s) here₁) (λ ms. give (member m v ms)))
 
-    pub members_broken : {r : Step} {f : Fault} {T₃ A₃ : Bytes} → ValueRead nm (λ f. value f next depth) 0 s on next (to + nm.size) T₂ A₂ r T₃ A₃ → Breaks s r 125 f
-        → MembersRead [] s at row used depth T A (Failed f) T₃ A₃
-    members_broken h (failed e) = members_no_value (read_as h e)
-    members_broken {T₃ = T₃} {A₃} h (stopped e sk se q) =
-        subst⁻¹ (λ (x : Fault). MembersRead [] s at row used depth T A (Failed x) T₃ A₃) q (members_stop (read_as h e) sk se)
+    module _ {c : Cursor} {T₃ A₃ : Bytes} (h : ValueRead nm (λ f. value f next depth) 0 s on next (to + nm.size) T₂ A₂ (Ok c) T₃ A₃) where
+      pub members_broken : {f : Fault} → Breaks s c 125 f → MembersRead [] s at row used depth T A (Err f) T₃ A₃
+      members_broken {f} b = subst⁻¹ (λ (k : ReadFault). MembersRead [] s at row used depth T A (Err (fault_of k f.at)) T₃ A₃) b.reason (members_stop h b.skipped b.neither)
 
-    pub members_closed : {r : Step} {t : Cursor} {T₃ A₃ : Bytes} → ValueRead nm (λ f. value f next depth) 0 s on next (to + nm.size) T₂ A₂ r T₃ A₃ → Closes s r count 125 t
-        → MembersRoom s T A at row used → length T₂ ≡ length T → MembersRead [] s at row used depth T A (Reached t) T₃ A₃
-    members_closed {T₃ = T₃} {A₃} h c room lt =
-        subst⁻¹ (λ (x : Cursor). MembersRead [] s at row used depth T A (Reached x) T₃ A₃) c.is (members_last (read_as h c.good) c.skipped room c.closing lt)
+      pub members_closed : {t : Cursor} → Closes s c count 125 t → MembersRoom s T A at row used → length T₂ ≡ length T → MembersRead [] s at row used depth T A (Ok t) T₃ A₃
+      members_closed l room lt =
+          subst⁻¹ (λ (x : Cursor). MembersRead [] s at row used depth T A (Ok x) T₃ A₃) l.is (members_last h l.skipped room l.closing lt)
 
-    module _ {r : Step} {T₃ A₃ : Bytes} (h : ValueRead nm (λ f. value f next depth) 0 s on next (to + nm.size) T₂ A₂ r T₃ A₃) {t : Cursor} (c : Continued s r count 125 t) where
-      pub members_next : MembersRoom s T A at row used → length T₂ ≡ length T → length T₃ ≡ length T → length A₃ ≡ length A
-          → MembersInv depth s at row used T A T₃ A₃ t.at t.row t.used t.count
-      members_next room lt₂ lt la =
-          subst⁻¹ (λ (x : Cursor). MembersInv depth s at row used T A T₃ A₃ x.at x.row x.used x.count) c.is
-          (members_more (read_as h c.good) c.skipped room c.comma c.white lt₂ lt la)
+      module _ {t : Cursor} (l : Continued s c count 125 t) where
+        pub members_next : MembersRoom s T A at row used → length T₂ ≡ length T → length T₃ ≡ length T → length A₃ ≡ length A
+            → MembersInv depth s at row used T A T₃ A₃ t.at t.row t.used t.count
+        members_next room lt₂ lt la =
+            subst⁻¹ (λ (x : Cursor). MembersInv depth s at row used T A T₃ A₃ x.at x.row x.used x.count) l.is
+            (members_more h l.skipped room l.comma l.white lt₂ lt la)
 
-      pub members_less : length s - t.at < length s - here
-      members_less =
-          let safe = (read_as h c.good).reads.safe in
-          let safe₁ = nr.safe in
-          rw (ap (λ (x : Cursor). x.at) c.is) (omega (arith, safe, c.skipped.on, c.white.on, c.comma.room))
+        pub members_less : length s - t.at < length s - here
+        members_less =
+            let safe = h.reads.safe in
+            let safe₁ = nr.safe in
+            rw (ap (λ (x : Cursor). x.at) l.is) (omega (arith, safe, l.skipped.on, l.white.on, l.comma.room))

@@ -12,7 +12,7 @@ use Rattle.area.specs.Words.{word_at}
 use Rattle.area.specs.Laws.{word_at_take, part_sets}
 use Rattle.model.specs.Bytes.{Bytes, same_bytes}
 use Rattle.model.specs.Lists.{any}
-use Rattle.model.specs.Refusal.{not_json, repeated_name}
+use Rattle.model.specs.declared.refusal.ReadFault.TheVariants.{NotJson, RepeatedName}
 use Rattle.name_index.specs.Contract as index
 use Rattle.name_index.specs.Contract.{Entry, Indexed, Between, EnterRoom, Entered, names_of, part}
 use Rattle.scan.specs.declared.Fault.{Fault}
@@ -20,11 +20,10 @@ use Rattle.scan.specs.Contract.{fault_of, Skipped, Stands}
 use Rattle.scan.specs.Laws.{eat_next, white_by, byte_by, Gone}
 use Rattle.chars.specs.Contract.{CharsPromise}
 use Rattle.chars.specs.declared.Decoded.{Decoded}
-use Rattle.chars.specs.declared.Decoded.TheVariants.{Chars, NoChars}
+use Rattle.std.specs.Prelude.{Ok, Err}
 use Rattle.syntax.specs.Layout.{row_bytes, rows_part, entry_bytes}
 use Rattle.syntax.specs.Read.{Parsed, bad, Parser, then, ◌>>=◌, give, fail, if, peek, eat, white, chars, clear, quoted, among, name}
-use Rattle.json_reader.specs.declared.name.NameStep.{NameStep}
-use Rattle.json_reader.specs.declared.name.NameStep.TheVariants.{Named, NoName}
+use Rattle.json_reader.specs.declared.name.Named.{Named}
 use Rattle.json_reader.specs.Inner.{Holds, Has, named, NameRoom, NameMeets, NameRead}
 use Rattle.json_reader.proofs.Form.{gone_then}
 use Rattle.json_reader.proofs.Values.{Text, chars_got, chars_gone}
@@ -89,49 +88,54 @@ names_snoc (d ∷ es) e = ap (λ (l : List Bytes). d.name ∷ l) (names_snoc es 
 -- ---- the definition of a name, by what stands there
 -- After the characters n, which end at a closing quote.
 abbrev colon : Bytes → Parser Bytes
-colon n = peek >>= λ c. if (eqb c 0x3A) (eat (give n)) (fail not_json)
+colon n = peek >>= λ c. if (eqb c 0x3A) (eat (give n)) (fail NotJson)
 
 abbrev fresh : List Bytes → Bytes → Parser Bytes
-fresh seen n = if (among n seen) (fail repeated_name) (eat (white (colon n)))
+fresh seen n = if (among n seen) (fail RepeatedName) (eat (white (colon n)))
 
 module _ {s : Bytes} {at : ℕ} {b : Bool} (st : Stands s at 34 b) (f : ℕ) (seen : List Bytes) where
-  name_none : b ≡ false → name f seen (drop at s) at ≡ bad not_json at
+  name_none : b ≡ false → name f seen (drop at s) at ≡ bad NotJson at
   unfolding name if fail
-  name_none e = byte_by (quoted f >>= fresh seen) st ∙ ap (λ (c : Bool). if c (quoted f >>= fresh seen) (fail not_json) (drop at s) at) e
+  name_none e = byte_by (quoted f >>= fresh seen) st ∙ ap (λ (c : Bool). if c (quoted f >>= fresh seen) (fail NotJson) (drop at s) at) e
 
   name_chars : b ≡ true → name f seen (drop at s) at ≡ then (chars f clear (drop (at + 1) s) (at + 1)) (fresh seen)
   unfolding name if quoted ◌>>=◌
   name_chars e =
-      byte_by (quoted f >>= fresh seen) st ∙ ap (λ (c : Bool). if c (quoted f >>= fresh seen) (fail not_json) (drop at s) at) e
+      byte_by (quoted f >>= fresh seen) st ∙ ap (λ (c : Bool). if c (quoted f >>= fresh seen) (fail NotJson) (drop at s) at) e
       ∙ ap (λ (p : Parsed Bytes). then p (fresh seen)) (eat_next (chars f clear) s at (st.room e))
 
 -- ---- a law for each return of `member_name`
 module _ {s : Bytes} {at first row used : ℕ} {T A : Bytes} where
-  name_bad : {r : NameStep} {x : Fault} {T' A' : Bytes} → r ≡ NoName x
-      → ((f : ℕ) → length s ≤ at + f → (es : List Entry) → Has T A first row used es → Gone (name f (names_of es) (drop at s) at) x)
-      → NameRead s at first row used T A r T' A'
-  name_bad {x = x} {T'} {A'} z g =
-      subst⁻¹ (λ (r : NameStep). NameRead s at first row used T A r T' A') z
-      (record {
-        safe = Prim.tt;
-        run = λ f l es h. let o = g f l es h in
-            subst⁻¹ (λ (p : Parsed Bytes). NameMeets s first row used T A es p (NoName x) T' A') o.is o.fault;
-      })
+  name_bad : {x : Fault} {T' A' : Bytes} → ((f : ℕ) → length s ≤ at + f → (es : List Entry) → Has T A first row used es → Gone (name f (names_of es) (drop at s) at) x)
+      → NameRead s at first row used T A (Err x) T' A'
+  name_bad {x} {T'} {A'} g = record {
+    safe = Prim.tt;
+    run = λ f l es h. subst⁻¹ (λ (p : Parsed Bytes). NameMeets s first row used T A es p (Err x) T' A') (g f l es h).is refl;
+  }
 
   module _ {b : Bool} (st : Stands s at 34 b) where
-    pub law_no_name : {r : NameStep} {T' A' : Bytes} → b ≡ false → r ≡ NoName (fault_of not_json at) → NameRead s at first row used T A r T' A'
-    law_no_name e n = name_bad n (λ f l es h. record { k = not_json; p = at; is = name_none st f (names_of es) e; fault = refl })
+    pub law_no_name : {T' A' : Bytes} → b ≡ false → NameRead s at first row used T A (Err (fault_of NotJson at)) T' A'
+    law_no_name e = name_bad (λ f l es h. record { is = name_none st f (names_of es) e })
 
-    module _ (e : b ≡ true) {d : Decoded} {A₁ : Bytes} (c : CharsPromise s (at + 1) used A d A₁) where
-      pub law_name_chars : {x : Fault} {T' A' : Bytes} → d ≡ NoChars x → NameRead s at first row used T A (NoName x) T' A'
+    module _ (e : b ≡ true) {A₁ : Bytes} where
+      pub law_name_chars : {x : Fault} {T' A' : Bytes} → CharsPromise s (at + 1) used A (Err x) A₁ → NameRead s at first row used T A (Err x) T' A'
       unfolding then
-      law_name_chars z =
-          name_bad refl
-          (λ f l es h. gone_then (λ _ _ g. name_chars st f (names_of es) e ∙ ap (λ (p : Parsed Bytes). then p (fresh (names_of es))) g) (chars_gone c z f (omega arith)))
+      law_name_chars c =
+          name_bad
+          (λ f l es h. gone_then (λ _ _ g. name_chars st f (names_of es) e ∙ ap (λ (p : Parsed Bytes). then p (fresh (names_of es))) g) (chars_gone c f (omega arith)))
 
-      module _ {end to : ℕ} (z : d ≡ Chars end to) (room : NameRoom s T A at first row used) where
+      module _ {d : Decoded} (c : CharsPromise s (at + 1) used A (Ok d) A₁) (room : NameRoom s T A at first row used) where
+        abbrev end : ℕ
+        end = d.at
+
+        abbrev to : ℕ
+        to = d.used
+
+        abbrev name_read : ℕ → Named
+        name_read on = record { at = on; name = record { start = used; size = to - used } }
+
         text : (f : ℕ) → length s ≤ at + f → Text (chars f clear (drop (at + 1) s) (at + 1)) s (at + 1) used A end to A₁
-        text f l = chars_got c z f (omega arith)
+        text f l = chars_got c f (omega arith)
 
         some_text : Text (chars (suc (length s)) clear (drop (at + 1) s) (at + 1)) s (at + 1) used A end to A₁
         some_text = text (suc (length s)) (omega arith)
@@ -174,43 +178,35 @@ module _ {s : Bytes} {at first row used : ℕ} {T A : Bytes} where
           seen f l es h = (found es h).0 ∙ ap (λ (y : Bytes). any (same_bytes y) (names_of es)) (sym (is_part_lem f l))
 
           after : (f : ℕ) (l : length s ≤ at + f) (es : List Entry) → Has T A first row used es
-              → name f (names_of es) (drop at s) at ≡ if t (fail repeated_name) (eat (white (colon (text f l).bs))) (drop end s) end
+              → name f (names_of es) (drop at s) at ≡ if t (fail RepeatedName) (eat (white (colon (text f l).bs))) (drop end s) end
           unfolding then
           after f l es h =
               name_chars st f (names_of es) e ∙ ap (λ (p : Parsed Bytes). then p (fresh (names_of es))) (text f l).is
-              ∙ ap (λ (y : Bool). if y (fail repeated_name) (eat (white (colon (text f l).bs))) (drop end s) end) (sym (seen f l es h))
+              ∙ ap (λ (y : Bool). if y (fail RepeatedName) (eat (white (colon (text f l).bs))) (drop end s) end) (sym (seen f l es h))
 
-          pub law_repeated : {r : NameStep} {T' A' : Bytes} → t ≡ true → r ≡ NoName (fault_of repeated_name end) → NameRead s at first row used T A r T' A'
+          pub law_repeated : {T' A' : Bytes} → t ≡ true → NameRead s at first row used T A (Err (fault_of RepeatedName end)) T' A'
           unfolding if fail
-          law_repeated y k =
-              name_bad k
-              (λ f l es h. record {
-                k = repeated_name;
-                p = end;
-                is = after f l es h ∙ ap (λ (x : Bool). if x (fail repeated_name) (eat (white (colon (text f l).bs))) (drop end s) end) y;
-                fault = refl;
-              })
+          law_repeated y =
+              name_bad
+              (λ f l es h. record { is = after f l es h ∙ ap (λ (x : Bool). if x (fail RepeatedName) (eat (white (colon (text f l).bs))) (drop end s) end) y })
 
           module _ (y : t ≡ false) {p : ℕ} (sk : Skipped s (end + 1) p) where
             at_colon : (f : ℕ) (l : length s ≤ at + f) (es : List Entry) → Has T A first row used es → name f (names_of es) (drop at s) at ≡ colon (text f l).bs (drop p s) p
             unfolding if
             at_colon f l es h =
-                after f l es h ∙ ap (λ (x : Bool). if x (fail repeated_name) (eat (white (colon (text f l).bs))) (drop end s) end) y
+                after f l es h ∙ ap (λ (x : Bool). if x (fail RepeatedName) (eat (white (colon (text f l).bs))) (drop end s) end) y
                 ∙ eat_next (white (colon (text f l).bs)) s end (text f l).inside ∙ white_by (colon (text f l).bs) sk
 
             module _ {b₂ : Bool} (st₂ : Stands s p 58 b₂) where
-              pub law_no_colon : {r : NameStep} {T' A' : Bytes} → b₂ ≡ false → r ≡ NoName (fault_of not_json p) → NameRead s at first row used T A r T' A'
+              pub law_no_colon : {T' A' : Bytes} → b₂ ≡ false → NameRead s at first row used T A (Err (fault_of NotJson p)) T' A'
               unfolding if fail
-              law_no_colon x k =
-                  name_bad k
+              law_no_colon x =
+                  name_bad
                   (λ f l es h. record {
-                    k = not_json;
-                    p = p;
-                    is = at_colon f l es h ∙ byte_by (eat (give (text f l).bs)) st₂ ∙ ap (λ (c : Bool). if c (eat (give (text f l).bs)) (fail not_json) (drop p s) p) x;
-                    fault = refl;
+                    is = at_colon f l es h ∙ byte_by (eat (give (text f l).bs)) st₂ ∙ ap (λ (c : Bool). if c (eat (give (text f l).bs)) (fail NotJson) (drop p s) p) x;
                   })
 
-              pub law_name : {on : ℕ} → b₂ ≡ true → Skipped s (p + 1) on → NameRead s at first row used T A (Named on (record { start = used; size = to - used })) T₁ A₁
+              pub law_name : {on : ℕ} → b₂ ≡ true → Skipped s (p + 1) on → NameRead s at first row used T A (Ok (name_read on)) T₁ A₁
               unfolding if give rows_part row_bytes
               law_name {on} x sk₂ =
                   let o = some_text in
@@ -224,8 +220,8 @@ module _ {s : Bytes} {at first row used : ℕ} {T A : Bytes} where
                       rows = n.rows;
                       kept = λ es h e p q. n.others es h.indexed (all_named es h) h.between h.none h.some e p q.1 (λ g. omega (arith, q.0));
                     };
-                    run = λ f l es h. subst⁻¹ (λ (g : Parsed Bytes). NameMeets s first row used T A es g (Named on (record { start = used; size = to - used })) T₁ A₁)
-                        (at_colon f l es h ∙ byte_by (eat (give (text f l).bs)) st₂ ∙ ap (λ (c : Bool). if c (eat (give (text f l).bs)) (fail not_json) (drop p s) p) x
+                    run = λ f l es h. subst⁻¹ (λ (g : Parsed Bytes). NameMeets s first row used T A es g (Ok (name_read on)) T₁ A₁)
+                        (at_colon f l es h ∙ byte_by (eat (give (text f l).bs)) st₂ ∙ ap (λ (c : Bool). if c (eat (give (text f l).bs)) (fail NotJson) (drop p s) p) x
                         ∙ eat_next (give (text f l).bs) s p (st₂.room x))
                         (record {
                           skipped = sk₂;

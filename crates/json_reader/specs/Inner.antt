@@ -1,9 +1,9 @@
 -- Inner: what the private functions ask and promise. A text s is read from an offset into a table and a strings area, which are T and A before and T' and A' after.
-use Rattle.std.specs.Prelude.{◌≡◌, List, [], ◌∷◌, ◌++◌, ℕ, suc, ◌+◌, ◌*◌, ◌-◌, ◌/◌, ◌≤◌, ◌<◌, eqb, length, drop}
+use Rattle.std.specs.Prelude.{◌≡◌, List, [], ◌∷◌, ◌++◌, ℕ, suc, ◌+◌, ◌*◌, ◌-◌, ◌/◌, ◌≤◌, ◌<◌, eqb, length, drop, Result, Ok, Err}
 use Rattle.std.proofs.lemmas.List.Edits.{sets}
 use Rattle.model.specs.Bytes.{Bytes}
 use Rattle.model.specs.Limits.{max_text_bytes, max_values}
-use Rattle.model.specs.Refusal.{not_json}
+use Rattle.model.specs.declared.refusal.ReadFault.TheVariants.{NotJson}
 use Rattle.model.specs.Size.{value_count, items_count, members_count}
 use Rattle.model.specs.Value.{Value, scalar, array, object, string, Values, no_items, Members, no_members, member_count}
 use Rattle.area.specs.Words.{word_at}
@@ -17,15 +17,10 @@ use Rattle.syntax.specs.declared.Word.{Word}
 use Rattle.syntax.specs.declared.Word.TheVariants.{TrueWord, FalseWord, NullWord}
 use Rattle.syntax.specs.declared.Separator.TheVariants.{Comma, Close, Neither}
 use Rattle.json_reader.specs.declared.list.After.{After}
-use Rattle.json_reader.specs.declared.list.After.TheVariants.{Closed, More, Broken}
+use Rattle.json_reader.specs.declared.list.After.TheVariants.{Closed, More}
 use Rattle.json_reader.specs.declared.step.Cursor.{Cursor}
-use Rattle.json_reader.specs.declared.step.Step.{Step}
-use Rattle.json_reader.specs.declared.step.Step.TheVariants.{Reached, Failed}
-use Rattle.json_reader.specs.declared.name.NameStep.{NameStep}
-use Rattle.json_reader.specs.declared.name.NameStep.TheVariants.{Named, NoName}
+use Rattle.json_reader.specs.declared.name.Named.{Named}
 use Rattle.json_reader.specs.declared.row.Label.{Label}
-use Rattle.json_reader.specs.declared.TextStep.{TextStep}
-use Rattle.json_reader.specs.declared.TextStep.TheVariants.{Whole, NoText}
 use Rattle.json_reader.specs.Index.{IndexedValue, IndexedItems, IndexedMembers, entries_of}
 
 -- ---- where things lie
@@ -96,6 +91,10 @@ pub record ScalarRoom (s T : Bytes) (at row used size : ℕ) : Type 0 where
 abbrev pub cursor : ℕ → ℕ → ℕ → ℕ → Cursor
 cursor at row used count = record { at = at; row = row; used = used; count = count }
 
+-- What came of a reading.
+abbrev pub Step : Type 0
+Step = Result Cursor Fault
+
 -- A reading that went well, of x, up to the offset q, and stands at c.
 pub record Wrote {X : Type 0} (F : Form X) (s : Bytes) (row used : ℕ) (T A : Bytes) (x : X) (u : Bytes) (q : ℕ) (c : Cursor) (T' A' : Bytes) : Type 0 where
   pub place : c.at ≡ q
@@ -109,10 +108,10 @@ pub record Wrote {X : Type 0} (F : Form X) (s : Bytes) (row used : ℕ) (T A : B
 
 -- The answer, by what the parser gives. After a fault the areas are free: the entry clears them.
 abbrev pub Meets : {X : Type 0} → Form X → Bytes → ℕ → ℕ → Bytes → Bytes → Parsed X → Step → Bytes → Bytes → Type 0
-Meets F s row used T A (ok x u q) (Reached c) T' A' = Wrote F s row used T A x u q c T' A'
-Meets F s row used T A (ok x u q) (Failed f) T' A' = ⊥
-Meets F s row used T A (bad k p) (Reached c) T' A' = ⊥
-Meets F s row used T A (bad k p) (Failed f) T' A' = f ≡ fault_of k p
+Meets F s row used T A (ok x u q) (Ok c) T' A' = Wrote F s row used T A x u q c T' A'
+Meets F s row used T A (ok x u q) (Err f) T' A' = ⊥
+Meets F s row used T A (bad k p) (Ok c) T' A' = ⊥
+Meets F s row used T A (bad k p) (Err f) T' A' = f ≡ fault_of k p
 
 -- The index entries of certain rows stay.
 abbrev pub Kept : (ℕ → Type 0) → Bytes → Bytes → Type 0
@@ -134,8 +133,8 @@ pub record Safe (keeps : ℕ → Type 0) (s : Bytes) (at row used : ℕ) (T : By
   pub kept : Kept keeps T T'
 
 abbrev pub StepSafe : (ℕ → Type 0) → Bytes → ℕ → ℕ → ℕ → Bytes → Step → Bytes → Type 0
-StepSafe keeps s at row used T (Reached c) T' = Safe keeps s at row used T c T'
-StepSafe keeps s at row used T (Failed f) T' = Unit {0}
+StepSafe keeps s at row used T (Ok c) T' = Safe keeps s at row used T c T'
+StepSafe keeps s at row used T (Err f) T' = Unit {0}
 
 -- What is read at `at` is what the parser m gives, with steps enough: more than two for each byte that is left, and `more`.
 pub record Reads {X : Type 0} (F : Form X) (m : ℕ → Parser X) (more : ℕ) (keeps : ℕ → Type 0) (s : Bytes) (at row used : ℕ) (T A : Bytes) (r : Step) (T' A' : Bytes) : Type 0 where
@@ -154,22 +153,14 @@ pub record Stored (T : Bytes) (row : ℕ) (bs : Bytes) (T' : Bytes) : Type 0 whe
   pub is : T' ≡ sets T (row * row_bytes) bs
 
 -- The row of an empty array or object.
-pub record Emptied (T : Bytes) (row kind : ℕ) (name : Label) (at used : ℕ) (r : Step) (T' : Bytes) : Type 0 where
-  pub is : r ≡ Reached (cursor (at + 1) (row + 1) used 0)
+pub record Emptied (T : Bytes) (row kind : ℕ) (name : Label) (at used : ℕ) (r : Cursor) (T' : Bytes) : Type 0 where
+  pub is : r ≡ cursor (at + 1) (row + 1) used 0
   pub table : T' ≡ sets T (row * row_bytes) (layout.row kind (label_of name) 0 (row + 1))
 
 -- The row of an array or object whose items or members are read, up to c.
-pub record Around (T : Bytes) (row kind : ℕ) (name : Label) (c : Cursor) (r : Step) (T' : Bytes) : Type 0 where
-  pub is : r ≡ Reached (cursor c.at c.row c.used 0)
+pub record Filled (T : Bytes) (row kind : ℕ) (name : Label) (c r : Cursor) (T' : Bytes) : Type 0 where
+  pub is : r ≡ cursor c.at c.row c.used 0
   pub table : T' ≡ sets T (row * row_bytes) (layout.row kind (label_of name) c.count c.row)
-
--- By what came of the items or members.
-abbrev pub FilledMeets : Bytes → ℕ → ℕ → Label → Step → Step → Bytes → Type 0
-FilledMeets T row kind name (Reached c) r T' = Around T row kind name c r T'
-FilledMeets T row kind name (Failed f) r T' = r ≡ Failed f
-
-pub record Filled (T : Bytes) (row kind : ℕ) (name : Label) (s r : Step) (T' : Bytes) : Type 0 where
-  pub meets : FilledMeets T row kind name s r T'
 
 -- ---- values
 abbrev pub kind_of : Word → ℕ
@@ -206,43 +197,40 @@ pub record MembersRead (seen : List Bytes) (s : Bytes) (at row used depth : ℕ)
   pub reads : Reads (members_form row) (λ f. members f row depth seen) 1 (Below row) s at row used T A r T' A'
 
 -- ---- what follows an item or a member
--- Before which there were `count`.
+-- After the part before which there were `count`.
 pub record FollowRoom (s : Bytes) (count : ℕ) : Type 0 where
   pub short : length s ≤ max_text_bytes
   pub few : count ≤ max_values
 
--- How a list breaks whose last part ended with s: that part failed, or neither a comma nor the closing byte follows.
-pub data Breaks (t : Bytes) (s : Step) (close : ℕ) (f : Fault) : Type 0 where
-  failed : s ≡ Failed f → Breaks t s close f
-  stopped : {here : Cursor} {end : ℕ} → s ≡ Reached here → Skipped t here.at end → Separated t close end Neither → f ≡ fault_of not_json end → Breaks t s close f
+-- The list breaks after a part that ended at `here`: neither a comma nor the closing byte follows.
+pub record Breaks (t : Bytes) (here : Cursor) (close : ℕ) (f : Fault) : Type 0 where
+  pub skipped : Skipped t here.at f.at
+  pub neither : Separated t close f.at Neither
+  pub reason : f.reason ≡ NotJson
 
 -- The closing byte follows.
-pub record Closes (t : Bytes) (s : Step) (count close : ℕ) (r : Cursor) : Type 0 where
-  pub here : Cursor
+pub record Closes (t : Bytes) (here : Cursor) (count close : ℕ) (r : Cursor) : Type 0 where
   pub end : ℕ
-  pub good : s ≡ Reached here
   pub skipped : Skipped t here.at end
   pub closing : Separated t close end Close
   pub is : r ≡ cursor (end + 1) here.row here.used (count + 1)
 
 -- A comma follows, and then a part.
-pub record Continued (t : Bytes) (s : Step) (count close : ℕ) (r : Cursor) : Type 0 where
-  pub here : Cursor
+pub record Continued (t : Bytes) (here : Cursor) (count close : ℕ) (r : Cursor) : Type 0 where
   pub end : ℕ
-  pub good : s ≡ Reached here
   pub skipped : Skipped t here.at end
   pub comma : Separated t close end Comma
   pub next : ℕ
   pub white : Skipped t (end + 1) next
   pub is : r ≡ cursor next here.row here.used (count + 1)
 
-abbrev pub FollowMeets : Bytes → Step → ℕ → ℕ → After → Type 0
-FollowMeets t s count close (Closed r) = Closes t s count close r
-FollowMeets t s count close (More r) = Continued t s count close r
-FollowMeets t s count close (Broken f) = Breaks t s close f
+abbrev pub FollowMeets : Bytes → Cursor → ℕ → ℕ → Result After Fault → Type 0
+FollowMeets t here count close (Ok (Closed r)) = Closes t here count close r
+FollowMeets t here count close (Ok (More r)) = Continued t here count close r
+FollowMeets t here count close (Err f) = Breaks t here close f
 
-pub record Followed (t : Bytes) (s : Step) (count close : ℕ) (o : After) : Type 0 where
-  pub meets : FollowMeets t s count close o
+pub record Followed (t : Bytes) (here : Cursor) (count close : ℕ) (o : Result After Fault) : Type 0 where
+  pub meets : FollowMeets t here count close o
 
 -- ---- names
 -- The rows of an object's members so far have their names, which end before `to`.
@@ -284,11 +272,11 @@ pub record NameWrote (s : Bytes) (first row used : ℕ) (T A : Bytes) (es : List
   pub indexed : Indexed T' first (es ++ (named A' row used name.size ∷ []))
 
 -- The answer, by what the parser gives.
-abbrev pub NameMeets : Bytes → ℕ → ℕ → ℕ → Bytes → Bytes → List Entry → Parsed Bytes → NameStep → Bytes → Bytes → Type 0
-NameMeets s first row used T A es (ok n u q) (Named on name) T' A' = NameWrote s first row used T A es n u q on name T' A'
-NameMeets s first row used T A es (ok n u q) (NoName f) T' A' = ⊥
-NameMeets s first row used T A es (bad k p) (Named on name) T' A' = ⊥
-NameMeets s first row used T A es (bad k p) (NoName f) T' A' = f ≡ fault_of k p
+abbrev pub NameMeets : Bytes → ℕ → ℕ → ℕ → Bytes → Bytes → List Entry → Parsed Bytes → Result Named Fault → Bytes → Bytes → Type 0
+NameMeets s first row used T A es (ok n u q) (Ok m) T' A' = NameWrote s first row used T A es n u q m.at m.name T' A'
+NameMeets s first row used T A es (ok n u q) (Err f) T' A' = ⊥
+NameMeets s first row used T A es (bad k p) (Ok m) T' A' = ⊥
+NameMeets s first row used T A es (bad k p) (Err f) T' A' = f ≡ fault_of k p
 
 -- What a caller needs to go on, whatever was read.
 pub record NameSafe (s : Bytes) (at first row used : ℕ) (T A : Bytes) (on : ℕ) (name : Label) (T' : Bytes) : Type 0 where
@@ -299,11 +287,11 @@ pub record NameSafe (s : Bytes) (at first row used : ℕ) (T A : Bytes) (on : �
   pub rows : rows_part T' ≡ rows_part T
   pub kept : (es : List Entry) → Has T A first row used es → Kept (Older row es) T T'
 
-abbrev pub NameStepSafe : Bytes → ℕ → ℕ → ℕ → ℕ → Bytes → Bytes → NameStep → Bytes → Type 0
-NameStepSafe s at first row used T A (Named on name) T' = NameSafe s at first row used T A on name T'
-NameStepSafe s at first row used T A (NoName f) T' = Unit {0}
+abbrev pub NameStepSafe : Bytes → ℕ → ℕ → ℕ → ℕ → Bytes → Bytes → Result Named Fault → Bytes → Type 0
+NameStepSafe s at first row used T A (Ok m) T' = NameSafe s at first row used T A m.at m.name T'
+NameStepSafe s at first row used T A (Err f) T' = Unit {0}
 
-pub record NameRead (s : Bytes) (at first row used : ℕ) (T A : Bytes) (r : NameStep) (T' A' : Bytes) : Type 0 where
+pub record NameRead (s : Bytes) (at first row used : ℕ) (T A : Bytes) (r : Result Named Fault) (T' A' : Bytes) : Type 0 where
   pub safe : NameStepSafe s at first row used T A r T'
   pub run : (f : ℕ) → length s ≤ at + f → (es : List Entry) → Has T A first row used es
       → NameMeets s first row used T A es (name f (names_of es) (drop at s) at) r T' A'
@@ -320,11 +308,11 @@ pub record TextWrote (v : Value) (T A : Bytes) (rows used : ℕ) (T' A' : Bytes)
   pub fits : used ≤ max_text_bytes
 
 -- The answer, by what the text reads as.
-abbrev pub TextMeets : Read → Bytes → Bytes → TextStep → Bytes → Bytes → Type 0
-TextMeets (done v) T A (Whole rows used) T' A' = TextWrote v T A rows used T' A'
-TextMeets (done v) T A (NoText f) T' A' = ⊥
-TextMeets (refuse k p) T A (Whole rows used) T' A' = ⊥
-TextMeets (refuse k p) T A (NoText f) T' A' = f ≡ fault_of k p
+abbrev pub TextMeets : Read → Bytes → Bytes → Step → Bytes → Bytes → Type 0
+TextMeets (done v) T A (Ok c) T' A' = TextWrote v T A c.row c.used T' A'
+TextMeets (done v) T A (Err f) T' A' = ⊥
+TextMeets (refuse k p) T A (Ok c) T' A' = ⊥
+TextMeets (refuse k p) T A (Err f) T' A' = f ≡ fault_of k p
 
-pub record TextRead (s T A : Bytes) (r : TextStep) (T' A' : Bytes) : Type 0 where
+pub record TextRead (s T A : Bytes) (r : Step) (T' A' : Bytes) : Type 0 where
   pub meets : TextMeets (read s) T A r T' A'

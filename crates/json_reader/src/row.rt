@@ -4,7 +4,7 @@ ghost use Rattle.std.specs.Prelude.{◌<◌};
 ghost use Rattle.model.specs.Limits.{max_text_bytes};
 ghost use Rattle.syntax.specs.Layout as layout;
 
-use crate::step::{Step, place};
+use crate::step::{Cursor, place};
 use area::put_word;
 use syntax::ROW_BYTES;
 
@@ -28,24 +28,26 @@ pub fn put_row(table: &mut [u8], row: usize, kind: usize, name: Label, a: usize,
 }
 
 // The row of an empty array or object, whose closing byte is at `at`.
-pub fn empty(table: &mut [u8], row: usize, kind: usize, name: Label, at: usize, used: usize) -> Step
+pub fn empty(
+    table: &mut [u8],
+    row: usize,
+    kind: usize,
+    name: Label,
+    at: usize,
+    used: usize,
+) -> Cursor
     requires { RowRoom table.old row kind name.size × (at < max_text_bytes) }
     ensures { Emptied table.old row kind name at used result table.new }
 {
     put_row(table, row, kind, name, 0, row + 1);
-    Step::Reached(place(at + 1, row + 1, used))
+    place(at + 1, row + 1, used)
 }
 
-// The row of an array or object whose items or members are read.
-pub fn filled(table: &mut [u8], row: usize, kind: usize, name: Label, s: Step) -> Step
+// The row of an array or object whose items or members were read up to `end`.
+pub fn filled(table: &mut [u8], row: usize, kind: usize, name: Label, end: Cursor) -> Cursor
     requires { RowRoom table.old row kind name.size }
-    ensures { Filled table.old row kind name s result table.new }
+    ensures { Filled table.old row kind name end result table.new }
 {
-    match s {
-        Step::Failed(f) => Step::Failed(f),
-        Step::Reached(end) => {
-            put_row(table, row, kind, name, end.count, end.row);
-            Step::Reached(place(end.at, end.row, end.used))
-        }
-    }
+    put_row(table, row, kind, name, end.count, end.row);
+    place(end.at, end.row, end.used)
 }

@@ -5,10 +5,11 @@ ghost use Rattle.syntax.specs.Read as reading;
 ghost use Rattle.json_reader.specs.Inner.{Room, ScalarRoom, RowRead, ValueRead, string_from, kind_of};
 
 use crate::row::{Label, put_row};
-use crate::step::{Step, place};
-use chars::{Decoded, chars};
-use scan::number::{Numeral, number};
-use scan::token::{WordMatch, literal};
+use crate::step::{Cursor, place};
+use chars::chars;
+use scan::Fault;
+use scan::number::number;
+use scan::token::literal;
 use syntax::{FALSE_ROW, INTEGER_ROW, NULL_ROW, STRING_ROW, TRUE_ROW, Word};
 
 // The number of a literal's kind.
@@ -31,18 +32,13 @@ pub fn read_literal(
     used: usize,
     name: Label,
     word: Word,
-) -> Step
+) -> Result<Cursor, Fault>
     requires { ScalarRoom text.now table.old at row used name.size }
     ensures { RowRead name (reading.literal word) text.now at row used table.old result table.new }
 {
-    let matched = literal(text, at, word);
-    match matched {
-        WordMatch::Mismatch(f) => Step::Failed(f),
-        WordMatch::Matched(end) => {
-            put_row(table, row, kind_of(word), name, 0, 0);
-            Step::Reached(place(end, row + 1, used))
-        }
-    }
+    let end = literal(text, at, word)?;
+    put_row(table, row, kind_of(word), name, 0, 0);
+    Ok(place(end, row + 1, used))
 }
 
 // The number at `at`, after its sign.
@@ -54,20 +50,15 @@ pub fn read_number(
     row: usize,
     used: usize,
     name: Label,
-) -> Step
+) -> Result<Cursor, Fault>
     requires { ScalarRoom text.now table.old at row used name.size }
     ensures { RowRead name (reading.int negative) text.now at row used table.old result table.new }
 {
-    let numeral = number(text, at, negative);
-    match numeral {
-        Numeral::NoInteger(f) => Step::Failed(f),
-        Numeral::Integer { at: end, biased } => {
-            let low = (biased % 4294967296) as usize;
-            let high = (biased / 4294967296) as usize;
-            put_row(table, row, INTEGER_ROW, name, low, high);
-            Step::Reached(place(end, row + 1, used))
-        }
-    }
+    let n = number(text, at, negative)?;
+    let low = (n.biased % 4294967296) as usize;
+    let high = (n.biased / 4294967296) as usize;
+    put_row(table, row, INTEGER_ROW, name, low, high);
+    Ok(place(n.at, row + 1, used))
 }
 
 // The string whose first character is at `at`.
@@ -79,16 +70,11 @@ pub fn read_string(
     strings: &mut [u8],
     used: usize,
     name: Label,
-) -> Step
+) -> Result<Cursor, Fault>
     requires { Room text.now table.old strings.old at row used name.size × (row < max_values) }
     ensures { ValueRead name string_from 0 text.now at row used table.old strings.old result table.new strings.new }
 {
-    let decoded = chars(text, at, strings, used);
-    match decoded {
-        Decoded::NoChars(f) => Step::Failed(f),
-        Decoded::Chars { at: end, used: to } => {
-            put_row(table, row, STRING_ROW, name, used, to - used);
-            Step::Reached(place(end + 1, row + 1, to))
-        }
-    }
+    let end = chars(text, at, strings, used)?;
+    put_row(table, row, STRING_ROW, name, used, end.used - used);
+    Ok(place(end.at + 1, row + 1, end.used))
 }

@@ -1,14 +1,17 @@
-// Values, with the items of arrays and the members of objects.
+// Values, with the items of arrays and the members of objects. Text, table and strings are lent one by one, and a place changes with each step: a struct
+// of them would be made and taken apart at each call.
 ghost use Rattle.std.specs.Prelude.{[], ◌<◌};
 ghost use Rattle.model.specs.Limits.{max_values, max_nesting};
 ghost use Rattle.syntax.specs.Read as reading;
 ghost use Rattle.json_reader.specs.Inner.{Room, MembersRoom, ValueRead, ItemsRead, MembersRead, array_from, object_from};
 
 use crate::list::{After, follow};
-use crate::name::{NameStep, member_name};
+use crate::name::member_name;
 use crate::row::{Label, empty, filled};
 use crate::scalar::{read_literal, read_number, read_string};
-use crate::step::{Step, fail, place};
+use crate::step::{Cursor, place};
+use model::refusal::ReadFault;
+use scan::Fault;
 use scan::token::{skip_white, stands, start};
 use syntax::{ARRAY_ROW, OBJECT_ROW, Start};
 
@@ -23,14 +26,19 @@ pub fn value(
     used: usize,
     depth: usize,
     name: Label,
-) -> Step
+) -> Result<Cursor, Fault>
     requires { Room text.now table.old strings.old at row used name.size }
     ensures { ValueRead name (λ f. reading.value f row depth) 0 text.now at row used table.old strings.old result table.new strings.new }
 {
-    let kind = start(text, at, row, depth);
-    match kind {
-        Start::NoValue => fail(2, at),
-        Start::TooMuch => fail(5, at),
+    match start(text, at, row, depth) {
+        Start::NoValue => Err(Fault {
+            reason: ReadFault::NotJson,
+            at,
+        }),
+        Start::TooMuch => Err(Fault {
+            reason: ReadFault::TooLarge,
+            at,
+        }),
         Start::Literal(word) => read_literal(text, at, table, row, used, name, word),
         Start::Minus => read_number(text, at + 1, true, table, row, used, name),
         Start::Digit => read_number(text, at, false, table, row, used, name),
@@ -40,7 +48,7 @@ pub fn value(
     }
 }
 
-// What follows an opening bracket.
+// What follows an opening bracket. An array and an object have a function each: each is proved against a parser of its own (`array_from`, `object_from`).
 #[cycle(all_items_all_members_array_object_value)]
 fn array(
     text: &[u8],
@@ -51,16 +59,16 @@ fn array(
     used: usize,
     depth: usize,
     name: Label,
-) -> Step
+) -> Result<Cursor, Fault>
     requires { Room text.now table.old strings.old at row used name.size × (row < max_values) × (depth < max_nesting) }
     ensures { ValueRead name (λ f. array_from f row depth) 1 text.now at row used table.old strings.old result table.new strings.new }
 {
     let first = skip_white(text, at);
     if stands(text, first, b']') {
-        return empty(table, row, ARRAY_ROW, name, first, used);
+        return Ok(empty(table, row, ARRAY_ROW, name, first, used));
     }
-    let s = all_items(text, first, table, row + 1, strings, used, depth + 1);
-    filled(table, row, ARRAY_ROW, name, s)
+    let end = all_items(text, first, table, row + 1, strings, used, depth + 1)?;
+    Ok(filled(table, row, ARRAY_ROW, name, end))
 }
 
 // What follows an opening brace.
@@ -74,16 +82,16 @@ fn object(
     used: usize,
     depth: usize,
     name: Label,
-) -> Step
+) -> Result<Cursor, Fault>
     requires { Room text.now table.old strings.old at row used name.size × (row < max_values) × (depth < max_nesting) }
     ensures { ValueRead name (λ f. object_from f row depth) 1 text.now at row used table.old strings.old result table.new strings.new }
 {
     let first = skip_white(text, at);
     if stands(text, first, b'}') {
-        return empty(table, row, OBJECT_ROW, name, first, used);
+        return Ok(empty(table, row, OBJECT_ROW, name, first, used));
     }
-    let s = all_members(text, first, table, row + 1, strings, used, depth + 1);
-    filled(table, row, OBJECT_ROW, name, s)
+    let end = all_members(text, first, table, row + 1, strings, used, depth + 1)?;
+    Ok(filled(table, row, OBJECT_ROW, name, end))
 }
 
 // One item or more, and the closing bracket.
@@ -96,23 +104,19 @@ fn all_items(
     strings: &mut [u8],
     used: usize,
     depth: usize,
-) -> Step
+) -> Result<Cursor, Fault>
     requires { Room text.now table.old strings.old at row used 0 }
     ensures { ItemsRead text.now at row used depth table.old strings.old result table.new strings.new }
 {
     let bare = Label { start: 0, size: 0 };
     let mut here = place(at, row, used);
     loop {
-        let s = value(
+        let end = value(
             text, here.at, table, here.row, strings, here.used, depth, bare,
-        );
-        let after = follow(text, s, here.count, b']');
-        match after {
-            After::Broken(f) => {
-                return Step::Failed(f);
-            }
-            After::Closed(end) => {
-                return Step::Reached(end);
+        )?;
+        match follow(text, end, here.count, b']')? {
+            After::Closed(last) => {
+                return Ok(last);
             }
             After::More(next) => {
                 here = next;
@@ -131,32 +135,30 @@ fn all_members(
     strings: &mut [u8],
     used: usize,
     depth: usize,
-) -> Step
+) -> Result<Cursor, Fault>
     requires { MembersRoom text.now table.old strings.old at row used }
     ensures { MembersRead [] text.now at row used depth table.old strings.old result table.new strings.new }
 {
     let mut here = place(at, row, used);
     loop {
-        let n = member_name(text, here.at, table, row, here.row, strings, here.used);
-        match n {
-            NameStep::NoName(f) => {
-                return Step::Failed(f);
+        let member = member_name(text, here.at, table, row, here.row, strings, here.used)?;
+        let used = here.used + member.name.size;
+        let end = value(
+            text,
+            member.at,
+            table,
+            here.row,
+            strings,
+            used,
+            depth,
+            member.name,
+        )?;
+        match follow(text, end, here.count, b'}')? {
+            After::Closed(last) => {
+                return Ok(last);
             }
-            NameStep::Named(content, name) => {
-                let to = here.used + name.size;
-                let s = value(text, content, table, here.row, strings, to, depth, name);
-                let after = follow(text, s, here.count, b'}');
-                match after {
-                    After::Broken(f) => {
-                        return Step::Failed(f);
-                    }
-                    After::Closed(end) => {
-                        return Step::Reached(end);
-                    }
-                    After::More(next) => {
-                        here = next;
-                    }
-                }
+            After::More(next) => {
+                here = next;
             }
         }
     }

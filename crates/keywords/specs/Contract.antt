@@ -1,5 +1,5 @@
 -- Contract: the code's names for keywords, units and operations, in the terms of the model.
-use Rattle.std.proofs.Math.Option.{Option, none, some}
+use Rattle.std.specs.Prelude.{Option, None, Some}
 use Rattle.std.specs.Prelude.{◌≡◌, ℕ, ◌≤◌, T, ℤ}
 use Rattle.model.specs.Rule.{Operation}
 use Rattle.model.specs.Shape.{Keyword as ModelKeyword, var, if, reduce, and, plus_time, extract_from_uvci, counted}
@@ -12,13 +12,6 @@ use Rattle.keywords.specs.declared.Keyword.{Keyword}
 use Rattle.keywords.specs.declared.Keyword.TheVariants as Keywords
 use Rattle.keywords.specs.declared.Op.{Op}
 use Rattle.keywords.specs.declared.Op.TheVariants as Ops
-use Rattle.keywords.specs.declared.UnitAnswer.{UnitAnswer}
-use Rattle.keywords.specs.declared.UnitAnswer.TheVariants as Units
-
--- The unit, or none where no name fits.
-abbrev pub unit_of : UnitAnswer → Option TimeUnit
-unit_of Units.NoUnit = none
-unit_of (Units.Unit u) = some u
 
 -- The operation in the model's terms. 2^53 was added to an amount or index.
 abbrev pub operation_of : Op → Operation
@@ -33,15 +26,15 @@ operation_of (Ops.PlusTime n u) = Operation.plus_time (unbiased n) u
 operation_of (Ops.ExtractFromUvci n) = Operation.extract_from_uvci (unbiased n)
 
 -- The keyword in the model's terms; none where no name fits.
-abbrev pub keyword_of : Keyword → Option ModelKeyword
-keyword_of Keywords.NoKeyword = none
-keyword_of Keywords.Var = some var
-keyword_of Keywords.If = some if
-keyword_of Keywords.Reduce = some reduce
-keyword_of Keywords.And = some and
-keyword_of Keywords.PlusTime = some plus_time
-keyword_of Keywords.ExtractFromUvci = some extract_from_uvci
-keyword_of (Keywords.Counted least most op) = some (counted least most (operation_of op))
+abbrev pub keyword_of : Option Keyword → Option ModelKeyword
+keyword_of None = None
+keyword_of (Some Keywords.Var) = Some var
+keyword_of (Some Keywords.If) = Some if
+keyword_of (Some Keywords.Reduce) = Some reduce
+keyword_of (Some Keywords.And) = Some and
+keyword_of (Some Keywords.PlusTime) = Some plus_time
+keyword_of (Some Keywords.ExtractFromUvci) = Some extract_from_uvci
+keyword_of (Some (Keywords.Counted least most op)) = Some (counted least most (operation_of op))
 
 -- And back: the code's operation, and its keyword.
 abbrev pub op_for : Operation → Op
@@ -55,15 +48,15 @@ op_for (Operation.compare d c) = Ops.Compare d c
 op_for (Operation.plus_time z u) = Ops.PlusTime (biased z) u
 op_for (Operation.extract_from_uvci z) = Ops.ExtractFromUvci (biased z)
 
-abbrev pub keyword_for : Option ModelKeyword → Keyword
-keyword_for none = Keywords.NoKeyword
-keyword_for (some var) = Keywords.Var
-keyword_for (some if) = Keywords.If
-keyword_for (some reduce) = Keywords.Reduce
-keyword_for (some and) = Keywords.And
-keyword_for (some plus_time) = Keywords.PlusTime
-keyword_for (some extract_from_uvci) = Keywords.ExtractFromUvci
-keyword_for (some (counted least most o)) = Keywords.Counted least most (op_for o)
+abbrev pub keyword_for : Option ModelKeyword → Option Keyword
+keyword_for None = None
+keyword_for (Some var) = Some Keywords.Var
+keyword_for (Some if) = Some Keywords.If
+keyword_for (Some reduce) = Some Keywords.Reduce
+keyword_for (Some and) = Some Keywords.And
+keyword_for (Some plus_time) = Some Keywords.PlusTime
+keyword_for (Some extract_from_uvci) = Some Keywords.ExtractFromUvci
+keyword_for (Some (counted least most o)) = Some (Keywords.Counted least most (op_for o))
 
 -- The operation, with its number of operands as 01's table has it. 2^53 was added to an amount or index.
 pub data Stands : Op → Operation → ℕ → Type 0 where

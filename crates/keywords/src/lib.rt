@@ -2,14 +2,11 @@
 #![tactic(auto)]
 
 ghost use Rattle.std.specs.Prelude.{cond, [], ◌∷◌, ◌≡◌, length};
-ghost use Rattle.std.proofs.Math.Option.{none};
 ghost use Rattle.model.specs.Bytes.{same_bytes};
-ghost use Rattle.model.specs.Shape.{keywords, keyword_named, units, unit_named};
-ghost use Rattle.octets.specs.Names.{entry_at};
-ghost use Rattle.keywords.specs.Contract.{keyword_of, unit_of};
+ghost use Rattle.model.specs.Shape.{keyword_named, unit_named};
+ghost use Rattle.keywords.specs.Contract.{keyword_of};
 
 use model::{Comparison, Domain, TimeUnit};
-use octets::names::{Position, position_of};
 use octets::same;
 
 // An operation that evaluates all operands first. 2^53 was added to an amount and an index.
@@ -35,7 +32,6 @@ pub enum Op {
 // How an operation is written; `Counted` has from `least` to `most` rules as operands.
 #[derive(Clone, Copy)]
 pub enum Keyword {
-    NoKeyword,
     Var,
     If,
     Reduce,
@@ -43,12 +39,6 @@ pub enum Keyword {
     PlusTime,
     ExtractFromUvci,
     Counted { least: usize, most: usize, op: Op },
-}
-
-#[derive(Clone, Copy)]
-pub enum UnitAnswer {
-    NoUnit,
-    Unit(TimeUnit),
 }
 
 // An operation on exactly n rules.
@@ -73,143 +63,119 @@ fn compare(domain: Domain, comparison: Comparison) -> Keyword
     }
 }
 
-// The keyword at a place of 01's table. "The four date words, in the table's order, mean >, <, <=, >= on instants."
-fn keyword_at(i: usize) -> Keyword
-    ensures { keyword_of result ≡ entry_at keywords i }
-{
-    match i {
-        0 => Keyword::Var,
-        1 => Keyword::If,
-        2 => Keyword::Reduce,
-        3 => exactly(2, Op::Equal),
-        4 => exactly(2, Op::MemberOf),
-        5 => exactly(2, Op::Plus),
-        6 => Keyword::And,
-        7 => compare(Domain::OnIntegers, Comparison::Greater),
-        8 => compare(Domain::OnIntegers, Comparison::Less),
-        9 => compare(Domain::OnIntegers, Comparison::GreaterOrEqual),
-        10 => compare(Domain::OnIntegers, Comparison::LessOrEqual),
-        11 => compare(Domain::OnInstants, Comparison::Greater),
-        12 => compare(Domain::OnInstants, Comparison::Less),
-        13 => compare(Domain::OnInstants, Comparison::LessOrEqual),
-        14 => compare(Domain::OnInstants, Comparison::GreaterOrEqual),
-        15 => exactly(1, Op::Not),
-        16 => exactly(1, Op::DateOfBirth),
-        17 => Keyword::PlusTime,
-        18 => Keyword::ExtractFromUvci,
-        _ => Keyword::NoKeyword,
-    }
-}
-
-// The keyword at a place of 01's table, if this name is the word there.
-fn spelled(name: &[u8], word: &[u8], i: usize) -> Keyword
-    ensures { keyword_of result ≡ cond (same_bytes name.now word.now) (entry_at keywords i) none }
+// ---- by the number of bytes, then by the first of them: of all names one at most is left, and compared.
+// Nineteen comparisons were slower: a tenth of an admission.
+// This keyword, if the name is this word.
+fn spelled(name: &[u8], word: &[u8], k: Keyword) -> Option<Keyword>
+    ensures { keyword_of result ≡ cond (same_bytes name.now word.now) (keyword_of (Some k)) None }
 {
     if same(name, word) {
-        return keyword_at(i);
+        return Some(k);
     }
-    Keyword::NoKeyword
+    None
 }
 
 // The keyword whose name is one byte.
-fn of_one_byte(a: u8) -> Keyword
+fn of_one_byte(a: u8) -> Option<Keyword>
     ensures { keyword_of result ≡ keyword_named (a ∷ []) }
 {
     match a {
-        b'+' => keyword_at(5),
-        b'>' => keyword_at(7),
-        b'<' => keyword_at(8),
-        b'!' => keyword_at(15),
-        _ => Keyword::NoKeyword,
+        b'+' => Some(exactly(2, Op::Plus)),
+        b'>' => Some(compare(Domain::OnIntegers, Comparison::Greater)),
+        b'<' => Some(compare(Domain::OnIntegers, Comparison::Less)),
+        b'!' => Some(exactly(1, Op::Not)),
+        _ => None,
     }
 }
 
 // The keyword whose name is two bytes.
-fn of_two_bytes(a: u8, b: u8) -> Keyword
+fn of_two_bytes(a: u8, b: u8) -> Option<Keyword>
     ensures { keyword_of result ≡ keyword_named (a ∷ b ∷ []) }
 {
-    if b == b'=' {
-        return match a {
-            b'>' => keyword_at(9),
-            b'<' => keyword_at(10),
-            _ => Keyword::NoKeyword,
-        };
-    }
-    if a != b'i' {
-        return Keyword::NoKeyword;
-    }
-    match b {
-        b'f' => keyword_at(1),
-        b'n' => keyword_at(4),
-        _ => Keyword::NoKeyword,
+    match (a, b) {
+        (b'i', b'f') => Some(Keyword::If),
+        (b'i', b'n') => Some(exactly(2, Op::MemberOf)),
+        (b'>', b'=') => Some(compare(Domain::OnIntegers, Comparison::GreaterOrEqual)),
+        (b'<', b'=') => Some(compare(Domain::OnIntegers, Comparison::LessOrEqual)),
+        _ => None,
     }
 }
 
-// The keyword whose name is three bytes. The first byte leaves one word.
-fn of_three_bytes(name: &[u8]) -> Keyword
+// The keyword whose name is three bytes.
+fn of_three_bytes(name: &[u8]) -> Option<Keyword>
     requires { length name.now ≡ 3 }
     ensures { keyword_of result ≡ keyword_named name.now }
 {
     match name[0] {
-        b'v' => spelled(name, b"var", 0),
-        b'=' => spelled(name, b"===", 3),
-        b'a' => spelled(name, b"and", 6),
-        _ => Keyword::NoKeyword,
+        b'v' => spelled(name, b"var", Keyword::Var),
+        b'=' => spelled(name, b"===", exactly(2, Op::Equal)),
+        b'a' => spelled(name, b"and", Keyword::And),
+        _ => None,
     }
 }
 
 // The keyword whose name is six bytes.
-fn of_six_bytes(name: &[u8]) -> Keyword
+fn of_six_bytes(name: &[u8]) -> Option<Keyword>
     requires { length name.now ≡ 6 }
     ensures { keyword_of result ≡ keyword_named name.now }
 {
     match name[0] {
-        b'r' => spelled(name, b"reduce", 2),
-        b'b' => spelled(name, b"before", 12),
-        _ => Keyword::NoKeyword,
+        b'r' => spelled(name, b"reduce", Keyword::Reduce),
+        b'b' => spelled(
+            name,
+            b"before",
+            compare(Domain::OnInstants, Comparison::Less),
+        ),
+        _ => None,
     }
 }
 
-// The keyword of this name. Few words have the same length.
-pub fn keyword_named(name: &[u8]) -> Keyword
+// The keyword of this name. "The four date words, in the table's order, mean >, <, <=, >= on instants."
+pub fn keyword_named(name: &[u8]) -> Option<Keyword>
     ensures { keyword_of result ≡ keyword_named name.now }
 {
     match name.len() {
         1 => of_one_byte(name[0]),
         2 => of_two_bytes(name[0], name[1]),
         3 => of_three_bytes(name),
-        5 => spelled(name, b"after", 11),
+        5 => spelled(
+            name,
+            b"after",
+            compare(Domain::OnInstants, Comparison::Greater),
+        ),
         6 => of_six_bytes(name),
-        8 => spelled(name, b"plusTime", 17),
-        9 => spelled(name, b"not-after", 13),
-        10 => spelled(name, b"not-before", 14),
-        14 => spelled(name, b"dccDateOfBirth", 16),
-        15 => spelled(name, b"extractFromUVCI", 18),
-        _ => Keyword::NoKeyword,
-    }
-}
-
-// The unit at a place of the table.
-fn unit_at(i: usize) -> UnitAnswer
-    ensures { unit_of result ≡ entry_at units i }
-{
-    match i {
-        0 => UnitAnswer::Unit(TimeUnit::Year),
-        1 => UnitAnswer::Unit(TimeUnit::Month),
-        2 => UnitAnswer::Unit(TimeUnit::Day),
-        3 => UnitAnswer::Unit(TimeUnit::Hour),
-        _ => UnitAnswer::NoUnit,
+        8 => spelled(name, b"plusTime", Keyword::PlusTime),
+        9 => spelled(
+            name,
+            b"not-after",
+            compare(Domain::OnInstants, Comparison::LessOrEqual),
+        ),
+        10 => spelled(
+            name,
+            b"not-before",
+            compare(Domain::OnInstants, Comparison::GreaterOrEqual),
+        ),
+        14 => spelled(name, b"dccDateOfBirth", exactly(1, Op::DateOfBirth)),
+        15 => spelled(name, b"extractFromUVCI", Keyword::ExtractFromUvci),
+        _ => None,
     }
 }
 
 // The unit of this name.
-pub fn unit_named(name: &[u8]) -> UnitAnswer
-    ensures { unit_of result ≡ unit_named name.now }
+pub fn unit_named(name: &[u8]) -> Option<TimeUnit>
+    ensures { result ≡ unit_named name.now }
 {
-    let names = b"year month day hour ";
-    let sizes = [4, 5, 3, 4];
-    match position_of(names, &sizes, name) {
-        Position::Nowhere => UnitAnswer::NoUnit,
-        Position::At(i) => unit_at(i),
+    if same(name, b"year") {
+        return Some(TimeUnit::Year);
     }
+    if same(name, b"month") {
+        return Some(TimeUnit::Month);
+    }
+    if same(name, b"day") {
+        return Some(TimeUnit::Day);
+    }
+    if same(name, b"hour") {
+        return Some(TimeUnit::Hour);
+    }
+    None
 }

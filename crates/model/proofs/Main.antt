@@ -4,7 +4,7 @@ use mathlib.Core.Path.{◌≡◌, ap}
 use mathlib.Core.List.{[], Memᴰ, reverse}
 use Rattle.std.specs.Prelude.{◌⊎◌, ℕ, ◌≤◌, T, ℤ, length}
 use Rattle.std.proofs.Common.{inl, inr}
-use Rattle.std.proofs.Math.Option.{some}
+use Rattle.std.specs.Prelude.{Some}
 use Rattle.model.specs.Bounds.{bounded}
 use Rattle.model.specs.Bytes.{Bytes}
 use Rattle.model.specs.DateText.{date_text, day_text}
@@ -15,7 +15,9 @@ use Rattle.model.specs.Judgement.{answer_of}
 use Rattle.model.specs.Limits.{max_steps}
 use Rattle.model.specs.Path.{Path, lookup}
 use Rattle.model.specs.Place.{subrule, replace, subvalue, replace_value}
-use Rattle.model.specs.Refusal.{eval_number, out_of_steps, out_of_range}
+use Rattle.model.specs.Refusal.{eval_number}
+use Rattle.model.specs.declared.refusal.Fault.TheVariants.{OutOfRange}
+use Rattle.model.specs.declared.refusal.EvalFault.TheVariants.{OutOfSteps}
 use Rattle.model.specs.Result.{ok, refuse}
 use Rattle.model.specs.Rule.{Rule}
 use Rattle.model.specs.Run.{Place, Name, trace, steps, NeverBegins}
@@ -44,9 +46,9 @@ EndsWell ts (refusal e) = (eval_number e ≡ 9) ⊎ (eval_number e ≡ 10)
 -- (A record has no instant in it: no text reads as one, `read-well-formed` of the crate syntax, which also has this theorem over texts.)
 pub demand_3a :
     (rule sheet record' : Value) (r : Rule) (s : Sheet) (ts : Types) (limit : ℕ)
-    → shape rule ≡ some r
-    → sheet_of sheet ≡ some s
-    → check r s ≡ some ts
+    → shape rule ≡ Some r
+    → sheet_of sheet ≡ Some s
+    → check r s ≡ Some ts
     → T (instant_free record')
     → T (fits s record')
     → limit ≤ max_steps
@@ -59,7 +61,7 @@ demand_3a rule sheet record' r s ts limit is-rule is_sheet_lem accepted free fit
     numbered (refusal e) (inr h) = inr (ap eval_number h)
 
 -- The check finds at least one type for a rule that it accepts.
-pub found_some : (sheet : Value) (r : Rule) (s : Sheet) (ts : Types) → sheet_of sheet ≡ some s → check r s ≡ some ts → ¬ (ts ≡ [])
+pub found_some : (sheet : Value) (r : Rule) (s : Sheet) (ts : Types) → sheet_of sheet ≡ Some s → check r s ≡ Some ts → ¬ (ts ≡ [])
 found_some = FoundLaws.found_some
 
 -- ---- demand 3b
@@ -67,39 +69,39 @@ found_some = FoundLaws.found_some
 -- If the whole still has right shape, both runs end alike, in value or refusal and in steps.
 pub demand_3b :
     (rule new record' : Value) (r s t r' : Rule) (place : Place) (limit : ℕ)
-    → shape rule ≡ some r
-    → shape new ≡ some s
-    → subrule place r ≡ some t
+    → shape rule ≡ Some r
+    → shape new ≡ Some s
+    → subrule place r ≡ Some t
     → NeverBegins place (run r record' limit)
-    → shape (replace_value place new rule) ≡ some r'
+    → shape (replace_value place new rule) ≡ Some r'
     → (outcome (run r' record' limit) ≡ outcome (run r record' limit)) × (steps (run r' record' limit) ≡ steps (run r record' limit))
 demand_3b rule new record' r s t r' place limit is-rule is-new stands unbegun is_whole = ReplaceLaws.unbegun_same_value rule new record' r s t place limit is-rule is-new stands unbegun r' is_whole
 
 -- So the whole answer is the same: text or refusal and steps, after the tests of 11 and 12 too.
 pub demand_3b_answer :
     (rule new record' : Value) (r s t r' : Rule) (place : Place) (limit room : ℕ)
-    → shape rule ≡ some r
-    → shape new ≡ some s
-    → subrule place r ≡ some t
+    → shape rule ≡ Some r
+    → shape new ≡ Some s
+    → subrule place r ≡ Some t
     → NeverBegins place (run r record' limit)
-    → shape (replace_value place new rule) ≡ some r'
+    → shape (replace_value place new rule) ≡ Some r'
     → answer_of r' record' limit room ≡ answer_of r record' limit room
 demand_3b_answer rule new record' r s t r' place limit room is-rule is-new stands unbegun is_whole = ReplaceLaws.unbegun_same_answer rule new record' r s t place limit room is-rule is-new stands unbegun r' is_whole
 
 -- The whole does have right shape, and the rule at a place is the shape of the value there.
 pub replaced_is_rule :
     (rule new : Value) (r s t : Rule) (place : Place)
-    → shape rule ≡ some r
-    → shape new ≡ some s
-    → subrule place r ≡ some t
-    → shape (replace_value place new rule) ≡ some (replace place s r)
+    → shape rule ≡ Some r
+    → shape new ≡ Some s
+    → subrule place r ≡ Some t
+    → shape (replace_value place new rule) ≡ Some (replace place s r)
 replaced_is_rule rule new r s t place is-rule is-new stands = ReplaceLaws.replace_shape place rule new r s t is-rule is-new stands
 
 pub operand_is_rule :
     (rule : Value) (r t : Rule) (place : Place)
-    → shape rule ≡ some r
-    → subrule place r ≡ some t
-    → (v : Value) × (subvalue place rule ≡ some v) × (shape v ≡ some t)
+    → shape rule ≡ Some r
+    → subrule place r ≡ Some t
+    → (v : Value) × (subvalue place rule ≡ Some v) × (shape v ≡ Some t)
 operand_is_rule rule r t place is-rule stands = ReplaceLaws.part_shape place rule r t is-rule stands
 
 -- ---- steps and names
@@ -111,14 +113,14 @@ names_are_steps r record' limit = mathlib.Core.Path.refl
 pub names_are_places :
     (r : Rule) (record' : Value) (limit : ℕ) (name : Name)
     → Memᴰ name (trace (run r record' limit))
-    → (place : Place) × (t : Rule) × (name ≡ reverse place) × (subrule place r ≡ some t)
+    → (place : Place) × (t : Rule) × (name ≡ reverse place) × (subrule place r ≡ Some t)
 names_are_places = TraceLaws.names_are_places
 
 -- Steps never exceed the limit; refusal 10 reports it.
 pub steps_within_limit : (r : Rule) (record' : Value) (limit : ℕ) → steps (run r record' limit) ≤ limit
 steps_within_limit = LimitLaws.steps_within_limit
 
-pub out_of_steps_reports_limit : (r : Rule) (record' : Value) (limit : ℕ) → outcome (run r record' limit) ≡ refusal out_of_steps → steps (run r record' limit) ≡ limit
+pub out_of_steps_reports_limit : (r : Rule) (record' : Value) (limit : ℕ) → outcome (run r record' limit) ≡ refusal OutOfSteps → steps (run r record' limit) ≡ limit
 out_of_steps_reports_limit = LimitLaws.out_of_steps_reports_limit
 
 -- ---- dates
@@ -127,7 +129,7 @@ pub day_is_date : (s : Bytes) (t : ℤ) → day_text s ≡ ok t → date_text s 
 day_is_date = DateTextLaws.day_is_date
 
 -- Each of the first three forms is in range: a text of theirs is an instant or 8, never 9.
-pub day_never_out : (s : Bytes) → ¬ (day_text s ≡ refuse out_of_range)
+pub day_never_out : (s : Bytes) → ¬ (day_text s ≡ refuse OutOfRange)
 day_never_out = DateTextLaws.day_never_out
 
 -- An instant's text has 24 bytes and reads back as the instant.
@@ -141,7 +143,7 @@ reads_back = InstantTextLaws.reads_back
 -- From a rule and a record whose integers are within the limits, and whose instants (there are none in a text) are in range, so is the answer.
 pub answer_bounded :
     (rule record' : Value) (r : Rule) (limit : ℕ) (v : Value)
-    → shape rule ≡ some r
+    → shape rule ≡ Some r
     → T (bounded rule)
     → T (bounded record')
     → outcome (run r record' limit) ≡ value v
@@ -150,5 +152,5 @@ answer_bounded = BoundsLaws.answer_bounded
 
 -- ---- records
 -- What a path leads to in a value without instants has none.
-pub lookup_instant_free : (q : Path) (c v : Value) → T (instant_free c) → lookup q c ≡ some v → T (instant_free v)
+pub lookup_instant_free : (q : Path) (c v : Value) → T (instant_free c) → lookup q c ≡ Some v → T (instant_free v)
 lookup_instant_free = LookupLaws.lookup_instant_free

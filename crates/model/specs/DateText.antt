@@ -3,12 +3,12 @@
 --   YYYY-MM-DDThh:mm:ss  then nothing or .S     S: one to nine digits
 --   then nothing, Z, or + or - and one of       h  hh  hmm  hhmm  h:mm  hh:mm
 use Rattle.std.specs.Prelude.{Bool, true, false, ◌&&◌, cond, [], ◌∷◌, ℕ, suc, ◌+◌, ◌*◌, eqb, leb, get_or, length, take, drop, ℤ, pos, ◌+ℤ◌, neg_ℤ}
-use Rattle.std.proofs.Math.Option.{Option, none, some, map}
+use Rattle.std.specs.Prelude.{Option, None, Some, option_map}
 use Rattle.model.specs.Bytes.{Bytes, ascii, byte, is_digit, digit_value}
 use Rattle.model.specs.Calendar.{date, day_number, is_valid, month_days}
 use Rattle.model.specs.Instant.{from_year0, ms_per_day, ranged}
 use Rattle.model.specs.Option.{when}
-use Rattle.model.specs.Refusal.{bad_date}
+use Rattle.model.specs.declared.refusal.Fault.TheVariants.{BadDate}
 use Rattle.model.specs.Result.{Result, refuse, ◌>>=◌, provided, required, is_ok}
 use Rattle.model.specs.declared.Date.{Date}
 
@@ -53,7 +53,7 @@ last_of_month y m = date y m (month_days y m)
 
 -- A date's first instant.
 abbrev pub midnight : Date → Result ℤ
-midnight w = provided (is_valid w) bad_date (ranged (from_year0 (day_number w * ms_per_day)))
+midnight w = provided (is_valid w) BadDate (ranged (from_year0 (day_number w * ms_per_day)))
 
 -- YYYY, YYYY-MM, YYYY-MM-DD; any other text is 8.
 unfoldable pub day_text : Bytes → Result ℤ
@@ -61,12 +61,12 @@ day_text s =
     cond (like (ascii "0000") s) (midnight (last_of_year (year_in s)))
     (cond (like (ascii "0000-00") s) (midnight (last_of_month (year_in s) (month_in s)))
     (cond (like (ascii "0000-00-00") s) (midnight (date_in s))
-    (refuse bad_date)))
+    (refuse BadDate)))
 
 -- ---- offsets
 -- "offset hours to 23 and minutes to 59": in milliseconds.
 abbrev pub offset_of : ℕ → ℕ → Option ℕ
-offset_of h m = when (leb h 23 && leb m 59) (some ((h * 60 + m) * 60000))
+offset_of h m = when (leb h 23 && leb m 59) (Some ((h * 60 + m) * 60000))
 
 -- What follows the sign.
 unfoldable pub offset_digits : Bytes → Option ℕ
@@ -77,16 +77,16 @@ offset_digits r =
     (cond (like (ascii "0000") r) (offset_of (two_digits r 0) (two_digits r 2))
     (cond (like (ascii "0:00") r) (offset_of (digit_at r 0) (two_digits r 2))
     (cond (like (ascii "00:00") r) (offset_of (two_digits r 0) (two_digits r 3))
-    none)))))
+    None)))))
 
 -- The milliseconds that lead from local time to UTC: clocks at +h run ahead. "No offset means Z."
 unfoldable pub to_utc : Bytes → Option ℤ
 to_utc z =
-    cond (like (ascii "") z) (some (pos 0))
-    (cond (like (ascii "Z") z) (some (pos 0))
-    (cond (starts_like (ascii "+") z) (map (λ k. neg_ℤ (pos k)) (offset_digits (drop 1 z)))
-    (cond (starts_like (ascii "-") z) (map pos (offset_digits (drop 1 z)))
-    none)))
+    cond (like (ascii "") z) (Some (pos 0))
+    (cond (like (ascii "Z") z) (Some (pos 0))
+    (cond (starts_like (ascii "+") z) (option_map (λ k. neg_ℤ (pos k)) (offset_digits (drop 1 z)))
+    (cond (starts_like (ascii "-") z) (option_map pos (offset_digits (drop 1 z)))
+    None)))
 
 -- ---- fractions
 -- "A fraction has one to nine digits; those after the third are dropped."
@@ -109,7 +109,7 @@ milliseconds f = fraction_digit f 0 * 100 + fraction_digit f 1 * 10 + fraction_d
 -- The instant of a local time in milliseconds since 0000-01-01, and what follows its last digit.
 abbrev pub zoned : ℕ → Bytes → Result ℤ
 zoned u z = do
-  correction ← required bad_date (to_utc z)
+  correction ← required BadDate (to_utc z)
   ranged (from_year0 u +ℤ correction)
 
 -- The instant of a local time in whole seconds, and what follows them.
@@ -117,7 +117,7 @@ unfoldable pub after_seconds : ℕ → Bytes → Result ℤ
 after_seconds u t =
     let digits = digit_run (drop 1 t) in
     cond (starts_like (ascii ".") t)
-    (provided (leb 1 digits && leb digits max_fraction_digits) bad_date
+    (provided (leb 1 digits && leb digits max_fraction_digits) BadDate
     (zoned (u + milliseconds (take digits (drop 1 t))) (drop (1 + digits) t)))
     (zoned u t)
 
@@ -131,7 +131,7 @@ time_text s =
     let h = two_digits s 11 in
     let m = two_digits s 14 in
     let c = two_digits s 17 in
-    provided (is_valid (date_in s) && is_time h m c) bad_date
+    provided (is_valid (date_in s) && is_time h m c) BadDate
     (after_seconds (day_number (date_in s) * ms_per_day + ((h * 60 + m) * 60 + c) * 1000) (drop 19 s))
 
 -- ---- all nineteen forms

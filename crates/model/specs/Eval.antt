@@ -3,7 +3,9 @@ use Rattle.std.specs.Prelude.{[], ◌∷◌, ℕ, suc}
 use Rattle.model.specs.Bytes.{Bytes, ascii}
 use Rattle.model.specs.Operations.{operate}
 use Rattle.model.specs.Path.{value_at}
-use Rattle.model.specs.Refusal.{EvalFault, fault, wrong_kind}
+use Rattle.model.specs.declared.refusal.Fault.TheVariants.{WrongKind}
+use Rattle.model.specs.declared.refusal.EvalFault.{EvalFault}
+use Rattle.model.specs.declared.refusal.EvalFault.TheVariants.{Operation}
 use Rattle.model.specs.Result.{required}
 use Rattle.model.specs.Rule.{Rule, literal, var, if, and, reduce, apply, Rules, no_rules, rule, literal_value}
 use Rattle.model.specs.Run.{Name, Ended, got, failed, Run, return, refused, lift, begin, ◌>>=◌}
@@ -20,7 +22,7 @@ branch neither second third = third
 abbrev pub go_on : Truth → Value → Run Value → Run Value
 go_on truthy v next = next
 go_on falsy v next = return v
-go_on neither v next = refused (fault wrong_kind)
+go_on neither v next = refused (Operation WrongKind)
 
 -- "over an object with `current` and `accumulator` in that order"
 abbrev pub current : Bytes
@@ -54,7 +56,7 @@ unfoldable mutual
   body (reduce r lambda initial) p c = do
     v ← begin (0 ∷ p) (body r (0 ∷ p) c)
     i ← begin (2 ∷ p) (body initial (2 ∷ p) c)
-    vs ← lift (required wrong_kind (as_array v))
+    vs ← lift (required WrongKind (as_array v))
     fold (λ cur acc. begin (1 ∷ p) (body lambda (1 ∷ p) (context cur acc))) vs i
   body (apply o rs) p c = do
     vs ← body_all rs 0 p c

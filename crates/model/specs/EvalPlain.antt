@@ -4,7 +4,9 @@ use Rattle.std.specs.Prelude.{ℕ, zero, suc}
 use Rattle.model.specs.Eval.{Outcome, value, refusal, context}
 use Rattle.model.specs.Operations.{operate}
 use Rattle.model.specs.Path.{value_at}
-use Rattle.model.specs.Refusal.{EvalFault, fault, wrong_kind, out_of_steps}
+use Rattle.model.specs.declared.refusal.Fault.TheVariants.{WrongKind}
+use Rattle.model.specs.declared.refusal.EvalFault.{EvalFault}
+use Rattle.model.specs.declared.refusal.EvalFault.TheVariants.{Operation, OutOfSteps}
 use Rattle.model.specs.Result.{Result, ok, refuse, required}
 use Rattle.model.specs.Rule.{Rule, literal, var, if, and, reduce, apply, Rules, no_rules, rule, literal_value}
 use Rattle.model.specs.Truth.{Truth, truthy, falsy, neither, truth}
@@ -22,11 +24,11 @@ PlainRun A = ℕ → Plain A
 -- What an operation gives takes no step.
 abbrev pub lift : {A : Type 0} → Result A → PlainRun A
 lift (ok a) = gives a
-lift (refuse e) = denies (fault e)
+lift (refuse e) = denies (Operation e)
 
 -- One step and then the run; refusal 10 where none is left.
 abbrev pub step : {A : Type 0} → PlainRun A → PlainRun A
-step m zero = denies out_of_steps zero
+step m zero = denies OutOfSteps zero
 step m (suc n) = m n
 
 -- One run and then another, with the steps that the first left.
@@ -47,7 +49,7 @@ branch neither second third = third
 abbrev pub go_on : Truth → Value → PlainRun Value → PlainRun Value
 go_on truthy v next = next
 go_on falsy v next = gives v
-go_on neither v next = denies (fault wrong_kind)
+go_on neither v next = denies (Operation WrongKind)
 
 abbrev pub fold : (Value → Value → PlainRun Value) → Values → Value → PlainRun Value
 fold f no_items acc = gives acc
@@ -69,7 +71,7 @@ unfoldable mutual
   plain_body (reduce r lambda initial) c = do
     v ← step (plain_body r c)
     i ← step (plain_body initial c)
-    vs ← lift (required wrong_kind (as_array v))
+    vs ← lift (required WrongKind (as_array v))
     fold (λ cur acc. step (plain_body lambda (context cur acc))) vs i
   plain_body (apply o rs) c = do
     vs ← plain_all rs c

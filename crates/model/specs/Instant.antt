@@ -1,7 +1,7 @@
 -- Instant: a count of milliseconds from 1970-01-01 (Gregorian, no leap seconds), within a range.
 use Rattle.std.specs.Prelude.{Bool, ◌&&◌, ℕ, suc, ◌+◌, ◌-◌, ℤ, pos, negsuc, ◌+ℤ◌, neg_ℤ}
 use Rattle.std.specs.Int.Signed.{le_z}
-use Rattle.model.specs.Refusal.{out_of_range}
+use Rattle.model.specs.declared.refusal.Fault.TheVariants.{OutOfRange}
 use Rattle.model.specs.Result.{Result, ok, provided}
 
 -- The milliseconds from 0000-01-01 to 1970-01-01.
@@ -20,7 +20,7 @@ in_range t = le_z earliest t && le_z t latest
 
 -- 01, Dates: instants "must both lie between, else 9".
 abbrev pub ranged : ℤ → Result ℤ
-ranged t = provided (in_range t) out_of_range (ok t)
+ranged t = provided (in_range t) OutOfRange (ok t)
 
 abbrev pub ms_per_day : ℕ
 ms_per_day = 86400000

@@ -1,12 +1,12 @@
 -- Operations: what each operation gives on the values of its operands (01, Evaluation), or 7, 8 or 9.
 -- The number of operands is fixed by the shape of a rule; what is given for another number is never seen.
 use Rattle.std.specs.Prelude.{Bool, true, false, ◌&&◌, ◌||◌, cond, List, [], ◌∷◌, ℕ, zero, suc, eqb, ℤ, pos, negsuc, ◌+ℤ◌}
-use Rattle.std.proofs.Math.Option.{Option}
+use Rattle.std.specs.Prelude.{Option}
 use Rattle.std.specs.Int.Signed.{le_z, lt_z}
 use Rattle.model.specs.Bytes.{Bytes, ascii, byte, same_bytes, split_on}
 use Rattle.model.specs.DateText.{date_text, day_text}
 use Rattle.model.specs.Option.{holds}
-use Rattle.model.specs.Refusal.{wrong_kind, out_of_range}
+use Rattle.model.specs.declared.refusal.Fault.TheVariants.{WrongKind, OutOfRange}
 use Rattle.model.specs.Result.{Result, ok, refuse, ◌>>=◌, required, provided}
 use Rattle.model.specs.Rule.{Operation}
 use Rattle.model.specs.Shift.{shift}
@@ -20,15 +20,15 @@ use Rattle.model.specs.declared.Domain.TheVariants.{OnIntegers, OnInstants}
 
 -- The value of the one operand, of the two.
 abbrev pub unary : (Value → Result Value) → Values → Result Value
-unary f no_items = refuse wrong_kind
+unary f no_items = refuse WrongKind
 unary f (item a no_items) = f a
-unary f (item a (item b vs)) = refuse wrong_kind
+unary f (item a (item b vs)) = refuse WrongKind
 
 abbrev pub binary : (Value → Value → Result Value) → Values → Result Value
-binary f no_items = refuse wrong_kind
-binary f (item a no_items) = refuse wrong_kind
+binary f no_items = refuse WrongKind
+binary f (item a no_items) = refuse WrongKind
 binary f (item a (item b no_items)) = f a b
-binary f (item a (item b (item c vs))) = refuse wrong_kind
+binary f (item a (item b (item c vs))) = refuse WrongKind
 
 abbrev pub bool : Bool → Value
 bool b = scalar (boolean b)
@@ -37,8 +37,8 @@ bool b = scalar (boolean b)
 -- "`===`: both sides null, boolean, integer or string (a scalar), else 7; true when kind and content are equal."
 abbrev pub equality : Value → Value → Result Value
 equality a b = do
-  x ← required wrong_kind (as_scalar a)
-  y ← required wrong_kind (as_scalar b)
+  x ← required WrongKind (as_scalar a)
+  y ← required WrongKind (as_scalar b)
   ok (bool (same_scalar x y))
 
 -- "`in`: a scalar, then an array, else 7; items that are no scalar equal nothing."
@@ -48,15 +48,15 @@ among x (item v vs) = holds (same_scalar x) (as_scalar v) || among x vs
 
 abbrev pub membership : Value → Value → Result Value
 membership a b = do
-  x ← required wrong_kind (as_scalar a)
-  vs ← required wrong_kind (as_array b)
+  x ← required WrongKind (as_scalar a)
+  vs ← required WrongKind (as_array b)
   ok (bool (among x vs))
 
 -- "`!`: an instant is 7."
 abbrev pub negated : Truth → Result Value
 negated truthy = ok (bool false)
 negated falsy = ok (bool true)
-negated neither = refuse wrong_kind
+negated neither = refuse WrongKind
 
 -- ---- numbers
 -- The numbers of a comparison's domain: integers, or the milliseconds of instants.
@@ -68,7 +68,7 @@ as_number OnInstants v = as_instant v
 abbrev pub numbers : Domain → Values → Result (List ℤ)
 numbers d no_items = ok []
 numbers d (item v vs) = do
-  n ← required wrong_kind (as_number d v)
+  n ← required WrongKind (as_number d v)
   ns ← numbers d vs
   ok (n ∷ ns)
 
@@ -93,15 +93,15 @@ comparison d c vs = do
 -- "`+` and the four signs need integers." Refusal 9: "a sum beyond the limits of 4".
 abbrev pub sum : Value → Value → Result Value
 sum a b = do
-  m ← required wrong_kind (as_integer a)
-  n ← required wrong_kind (as_integer b)
-  provided (within_limits (m +ℤ n)) out_of_range (ok (scalar (integer (m +ℤ n))))
+  m ← required WrongKind (as_integer a)
+  n ← required WrongKind (as_integer b)
+  provided (within_limits (m +ℤ n)) OutOfRange (ok (scalar (integer (m +ℤ n))))
 
 -- ---- dates
 -- "A non-string is 7, a bad text 8." "The text's own instant and the shifted one must both lie between, else 9."
 abbrev pub plus_time : ℤ → TimeUnit → Value → Result Value
 plus_time amount unit v = do
-  s ← required wrong_kind (as_string v)
+  s ← required WrongKind (as_string v)
   t ← date_text s
   r ← shift t amount unit
   ok (instant r)
@@ -109,7 +109,7 @@ plus_time amount unit v = do
 -- "`dccDateOfBirth` takes the first three only"
 abbrev pub date_of_birth : Value → Result Value
 date_of_birth v = do
-  s ← required wrong_kind (as_string v)
+  s ← required WrongKind (as_string v)
   t ← day_text s
   ok (instant t)
 
@@ -136,12 +136,12 @@ fragment l (negsuc k) = scalar null
 -- "null gives null; a non-string is 7."
 abbrev pub extract_from_uvci : ℤ → Value → Result Value
 extract_from_uvci k (scalar null) = ok (scalar null)
-extract_from_uvci k (scalar (boolean b)) = refuse wrong_kind
-extract_from_uvci k (scalar (integer z)) = refuse wrong_kind
+extract_from_uvci k (scalar (boolean b)) = refuse WrongKind
+extract_from_uvci k (scalar (integer z)) = refuse WrongKind
 extract_from_uvci k (scalar (string s)) = ok (fragment (drop_prefix (split_on is_uvci_separator s)) k)
-extract_from_uvci k (instant t) = refuse wrong_kind
-extract_from_uvci k (array vs) = refuse wrong_kind
-extract_from_uvci k (object ms) = refuse wrong_kind
+extract_from_uvci k (instant t) = refuse WrongKind
+extract_from_uvci k (array vs) = refuse WrongKind
+extract_from_uvci k (object ms) = refuse WrongKind
 
 -- ---- all of them
 -- "An array gives the list of its items' values."

@@ -1,27 +1,27 @@
 -- Option: a value or none, chained by `do`.
 use Rattle.std.specs.Prelude.{Bool, true, false}
-use Rattle.std.proofs.Math.Option.{Option, none, some}
+use Rattle.std.specs.Prelude.{Option, None, Some}
 
 infixl 10 ◌>>=◌
 abbrev pub ◌>>=◌ : {A B : Type 0} → Option A → (A → Option B) → Option B
-none >>= f = none
-some a >>= f = f a
+None >>= f = None
+Some a >>= f = f a
 
 -- The value if a test holds, else none.
 abbrev pub when : {A : Type 0} → Bool → Option A → Option A
 when true o = o
-when false o = none
+when false o = None
 
 abbrev pub is_some : {A : Type 0} → Option A → Bool
-is_some none = false
-is_some (some a) = true
+is_some None = false
+is_some (Some a) = true
 
 -- The value, or another one where there is none.
 abbrev pub or_else : {A : Type 0} → Option A → A → A
-or_else none b = b
-or_else (some a) b = a
+or_else None b = b
+or_else (Some a) b = a
 
 -- There is a value, and a test holds of it.
 abbrev pub holds : {A : Type 0} → (A → Bool) → Option A → Bool
-holds f none = false
-holds f (some a) = f a
+holds f None = false
+holds f (Some a) = f a

@@ -1,7 +1,7 @@
 -- Place: the rules inside a rule and the values that hold them, and another one put in the place of one (01, Evaluation).
 -- "An operand rule is a rule that stands as an operand, or as an item of an array rule, at any depth."
 use Rattle.std.specs.Prelude.{[], ◌∷◌, ℕ, zero, suc}
-use Rattle.std.proofs.Math.Option.{Option, none, some}
+use Rattle.std.specs.Prelude.{Option, None, Some}
 use Rattle.model.specs.Option.{◌>>=◌}
 use Rattle.model.specs.Path.{item_at}
 use Rattle.model.specs.Rule.{Rule, literal, var, if, and, reduce, apply, Rules, no_rules, rule}
@@ -19,13 +19,13 @@ operands_in (reduce r lambda initial) = rule r (rule lambda (rule initial no_rul
 operands_in (apply o rs) = rs
 
 abbrev pub rule_at : Rules → ℕ → Option Rule
-rule_at no_rules k = none
-rule_at (rule r rs) zero = some r
+rule_at no_rules k = None
+rule_at (rule r rs) zero = Some r
 rule_at (rule r rs) (suc k) = rule_at rs k
 
 -- The rule at a place, if one stands there. The root's place is empty.
 abbrev pub subrule : Place → Rule → Option Rule
-subrule [] r = some r
+subrule [] r = Some r
 subrule (k ∷ q) r = rule_at (operands_in r) k >>= subrule q
 
 -- A rule with its operand at one position changed.
@@ -67,7 +67,7 @@ operand_values_in (object (member name (array vs) ms)) = vs
 operand_values_in (object (member name (object os) ms)) = no_items
 
 abbrev pub subvalue : Place → Value → Option Value
-subvalue [] v = some v
+subvalue [] v = Some v
 subvalue (k ∷ q) v = item_at (operand_values_in v) k >>= subvalue q
 
 abbrev pub map_item : Values → ℕ → (Value → Value) → Values

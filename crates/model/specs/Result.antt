@@ -1,7 +1,8 @@
 -- Result: what an operation gives on the values of its operands, or the fault that refuses it; chained by `do`.
 use Rattle.std.specs.Prelude.{Bool, true, false, ℕ}
-use Rattle.std.proofs.Math.Option.{Option, none, some}
-use Rattle.model.specs.Refusal.{Fault, fault_number}
+use Rattle.std.specs.Prelude.{Option, None, Some}
+use Rattle.model.specs.Refusal.{fault_number}
+use Rattle.model.specs.declared.refusal.Fault.{Fault}
 
 pub data Result (A : Type 0) : Type 0 where
   ok : A → Result A
@@ -14,8 +15,8 @@ refuse e >>= f = refuse e
 
 -- The value that is there, or the fault.
 abbrev pub required : {A : Type 0} → Fault → Option A → Result A
-required e none = refuse e
-required e (some a) = ok a
+required e None = refuse e
+required e (Some a) = ok a
 
 -- The value if a test holds, or the fault.
 abbrev pub provided : {A : Type 0} → Bool → Fault → Result A → Result A

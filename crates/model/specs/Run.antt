@@ -1,7 +1,8 @@
 -- Run: a computation that begins rules under a step limit and names each rule that it begins; chained by `do`.
 use mathlib.Core.List.{List, [], ◌∷◌, ◌++◌, Memᴰ, reverse}
 use Rattle.std.specs.Prelude.{ℕ, zero, suc, length}
-use Rattle.model.specs.Refusal.{EvalFault, fault, out_of_steps}
+use Rattle.model.specs.declared.refusal.EvalFault.{EvalFault}
+use Rattle.model.specs.declared.refusal.EvalFault.TheVariants.{Operation, OutOfSteps}
 use Rattle.model.specs.Result.{Result, ok, refuse}
 
 -- 01, Evaluation: "A rule is named by its place": the path of operand positions, from 0, that leads to it from the root.
@@ -47,11 +48,11 @@ refused e n = failed e []
 -- What an operation gives takes no step.
 abbrev pub lift : {A : Type 0} → Result A → Run A
 lift (ok a) = return a
-lift (refuse e) = refused (fault e)
+lift (refuse e) = refused (Operation e)
 
 -- One step begins the rule of this name; refusal 10 where none is left: "one step more than the limit would be needed".
 abbrev pub begin : {A : Type 0} → Name → Run A → Run A
-begin p m zero = failed out_of_steps []
+begin p m zero = failed OutOfSteps []
 begin p m (suc n) = log (p ∷ []) (m n)
 
 -- One run and then another, with the steps that the first left.

@@ -1,7 +1,7 @@
 -- Shape: which values are rules, and the rule that each is (01, Shape of a rule). None is refusal 6.
 -- The steps of each `do` stand in text order: the operation's name, the number of its operands, then these from left to right.
 use Rattle.std.specs.Prelude.{◌&&◌, List, [], ◌∷◌, ℕ, leb, length}
-use Rattle.std.proofs.Math.Option.{Option, none, some}
+use Rattle.std.specs.Prelude.{Option, None, Some}
 use Rattle.model.specs.Bytes.{Bytes, ascii, same_bytes}
 use Rattle.model.specs.Lists.{find}
 use Rattle.model.specs.Option.{◌>>=◌, when}
@@ -62,46 +62,46 @@ pub record Operand : Type 0 where
 
 -- The rules that all operands are.
 abbrev pub rules_of : List Operand → Option Rules
-rules_of [] = some no_rules
+rules_of [] = Some no_rules
 rules_of (a ∷ l) = do
   r ← a.as_rule
   rs ← rules_of l
-  some (rule r rs)
+  Some (rule r rs)
 
 -- What a function gives on exactly two elements, on exactly three; none for any other number.
 abbrev pub exactly2 : {A B : Type 0} → List A → (A → A → Option B) → Option B
-exactly2 [] f = none
-exactly2 (a ∷ []) f = none
+exactly2 [] f = None
+exactly2 (a ∷ []) f = None
 exactly2 (a ∷ b ∷ []) f = f a b
-exactly2 (a ∷ b ∷ c ∷ l) f = none
+exactly2 (a ∷ b ∷ c ∷ l) f = None
 
 abbrev pub exactly3 : {A B : Type 0} → List A → (A → A → A → Option B) → Option B
-exactly3 [] f = none
-exactly3 (a ∷ []) f = none
-exactly3 (a ∷ b ∷ []) f = none
+exactly3 [] f = None
+exactly3 (a ∷ []) f = None
+exactly3 (a ∷ b ∷ []) f = None
 exactly3 (a ∷ b ∷ c ∷ []) f = f a b c
-exactly3 (a ∷ b ∷ c ∷ d ∷ l) f = none
+exactly3 (a ∷ b ∷ c ∷ d ∷ l) f = None
 
 -- `and` of two or more rules.
 abbrev pub and_of : Rules → Option Rule
-and_of no_rules = none
-and_of (rule r rs) = some (Rule.and r rs)
+and_of no_rules = None
+and_of (rule r rs) = Some (Rule.and r rs)
 
 -- The rule of a keyword and its operands; `var` has none.
 abbrev pub with_operands : Keyword → List Operand → Option Rule
-with_operands var l = none
+with_operands var l = None
 with_operands if l =
     exactly3 l λ guard yes no. do
       g ← guard.as_rule
       a ← yes.as_rule
       b ← no.as_rule
-      some (Rule.if g a b)
+      Some (Rule.if g a b)
 with_operands reduce l =
     exactly3 l λ operand lambda initial. do
       a ← operand.as_rule
       f ← lambda.as_rule
       i ← initial.as_rule
-      some (Rule.reduce a f i)
+      Some (Rule.reduce a f i)
 with_operands and l = when (leb 2 (length l)) (rules_of l >>= and_of)
 with_operands plus_time l =
     exactly3 l λ operand amount unit. do
@@ -109,28 +109,28 @@ with_operands plus_time l =
       n ← as_integer amount.value
       s ← as_string unit.value
       u ← unit_named s
-      some (apply (Operation.plus_time n u) (rule r no_rules))
+      Some (apply (Operation.plus_time n u) (rule r no_rules))
 with_operands extract_from_uvci l =
     exactly2 l λ operand index. do
       r ← operand.as_rule
       n ← as_integer index.value
-      some (apply (Operation.extract_from_uvci n) (rule r no_rules))
+      Some (apply (Operation.extract_from_uvci n) (rule r no_rules))
 with_operands (counted least most o) l =
     when (leb least (length l) && leb (length l) most) (do
       rs ← rules_of l
-      some (apply o rs))
+      Some (apply o rs))
 
 -- 01: `var` takes "a string itself, not an array".
 abbrev pub with_string : Keyword → Bytes → Option Rule
 with_string var s = do
   q ← path_of s
-  some (Rule.var q)
-with_string if s = none
-with_string reduce s = none
-with_string and s = none
-with_string plus_time s = none
-with_string extract_from_uvci s = none
-with_string (counted least most o) s = none
+  Some (Rule.var q)
+with_string if s = None
+with_string reduce s = None
+with_string and s = None
+with_string plus_time s = None
+with_string extract_from_uvci s = None
+with_string (counted least most o) s = None
 
 -- ---- values
 -- What stands as the content of an operation's member.
@@ -150,24 +150,24 @@ scalar_content (string s) = text s
 abbrev pub build : Content → Keyword → Option Rule
 build (text s) o = with_string o s
 build (list l) o = with_operands o l
-build other o = none
+build other o = None
 
 -- "A boolean, integer or string"; "Null is no rule."
 abbrev pub literal_shape : Scalar → Option Rule
-literal_shape null = none
-literal_shape (boolean b) = some (literal (Literal.boolean b))
-literal_shape (integer z) = some (literal (Literal.integer z))
-literal_shape (string s) = some (literal (Literal.string s))
+literal_shape null = None
+literal_shape (boolean b) = Some (literal (Literal.boolean b))
+literal_shape (integer z) = Some (literal (Literal.integer z))
+literal_shape (string s) = Some (literal (Literal.string s))
 
 -- 01: "A boolean, integer or string; an array of rules (possibly empty); or an object with exactly one member, named for an operation,
 -- with these operands in an array." "Null is no rule."
 unfoldable mutual
   pub shape : Value → Option Rule
   shape (scalar x) = literal_shape x
-  shape (instant t) = none
+  shape (instant t) = None
   shape (array vs) = do
     rs ← rules_of (operands_of vs)
-    some (apply Operation.array rs)
+    Some (apply Operation.array rs)
   shape (object ms) = object_shape ms
 
   -- Each item of an array as an operand.
@@ -177,9 +177,9 @@ unfoldable mutual
 
   -- "An object must yield its single member, or else it is refused with 6."
   pub object_shape : Members → Option Rule
-  object_shape no_members = none
+  object_shape no_members = None
   object_shape (member name v no_members) = keyword_named name >>= build (content_of v)
-  object_shape (member name v (member name₂ v₂ ms)) = none
+  object_shape (member name v (member name₂ v₂ ms)) = None
 
   -- A string, or operands in an array.
   pub content_of : Value → Content

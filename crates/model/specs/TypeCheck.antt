@@ -1,6 +1,6 @@
 -- TypeCheck: the kind check (01, Sheets and kinds): the types found for a rule, and whether it is accepted. A rule not accepted is refusal 13.
 use Rattle.std.specs.Prelude.{Bool, true, false, ◌&&◌, cond, List, [], ◌∷◌, ◌++◌}
-use Rattle.std.proofs.Math.Option.{Option, some}
+use Rattle.std.specs.Prelude.{Option, Some}
 use Rattle.model.specs.Bytes.{same_bytes}
 use Rattle.model.specs.DateText.{is_date, is_day}
 use Rattle.model.specs.Eval.{current, accumulator}
@@ -13,7 +13,6 @@ use Rattle.model.specs.Types.{Types, passes, scalars, any_of_record, any_value}
 use Rattle.model.specs.declared.Domain.{Domain}
 use Rattle.model.specs.declared.Domain.TheVariants.{OnIntegers, OnInstants}
 use Rattle.model.specs.declared.Ty.{Ty}
-use Rattle.model.specs.declared.Ty.TheVariants as Ty
 
 -- ---- variables
 -- Where a rule stands: outside every lambda, under a sheet; or in a lambda, with the types of `current` and `accumulator`.
@@ -162,4 +161,4 @@ unfoldable mutual
 
 -- The types found for a whole rule under a sheet; none where the check does not pass.
 abbrev pub check : Rule → Sheet → Option Types
-check r sheet = when (accepts r (outside sheet)) (some (types_for r (outside sheet)))
+check r sheet = when (accepts r (outside sheet)) (Some (types_for r (outside sheet)))

@@ -5,7 +5,6 @@ use Rattle.model.specs.Lists.{any, all}
 use Rattle.model.specs.Option.{is_some, holds}
 use Rattle.model.specs.Value.{Value, as_string, as_instant, as_array, all_items, is_null, is_boolean, is_integer, is_string, is_object}
 use Rattle.model.specs.declared.Ty.{Ty}
-use Rattle.model.specs.declared.Ty.TheVariants as Ty
 
 -- A set of types, the paper's "words" (declared in src/lib.rt: Ty), which may list one twice.
 abbrev pub Types : Type 0

@@ -2,7 +2,7 @@
 -- strings byte by byte, instants by their milliseconds, arrays and objects part by part in order (01, Evaluation).
 use Rattle.std.specs.Prelude.{Bool, true, false, ◌&&◌, ℕ, suc, eqb, ℤ, pos, negsuc, neg_ℤ}
 use Rattle.std.specs.Bool.{beq}
-use Rattle.std.proofs.Math.Option.{Option, none, some}
+use Rattle.std.specs.Prelude.{Option, None, Some}
 use Rattle.std.specs.Int.Signed.{le_z}
 use Rattle.model.specs.Bytes.{Bytes, same_bytes}
 use Rattle.model.specs.Limits.{max_integer}
@@ -35,40 +35,40 @@ mutual
 
 -- ---- a value as one of a kind, or none where it is of another
 abbrev pub as_scalar : Value → Option Scalar
-as_scalar (scalar x) = some x
-as_scalar (instant t) = none
-as_scalar (array vs) = none
-as_scalar (object ms) = none
+as_scalar (scalar x) = Some x
+as_scalar (instant t) = None
+as_scalar (array vs) = None
+as_scalar (object ms) = None
 
 abbrev pub as_instant : Value → Option ℤ
-as_instant (scalar x) = none
-as_instant (instant t) = some t
-as_instant (array vs) = none
-as_instant (object ms) = none
+as_instant (scalar x) = None
+as_instant (instant t) = Some t
+as_instant (array vs) = None
+as_instant (object ms) = None
 
 abbrev pub as_array : Value → Option Values
-as_array (scalar x) = none
-as_array (instant t) = none
-as_array (array vs) = some vs
-as_array (object ms) = none
+as_array (scalar x) = None
+as_array (instant t) = None
+as_array (array vs) = Some vs
+as_array (object ms) = None
 
 abbrev pub as_integer : Value → Option ℤ
-as_integer (scalar null) = none
-as_integer (scalar (boolean b)) = none
-as_integer (scalar (integer z)) = some z
-as_integer (scalar (string s)) = none
-as_integer (instant t) = none
-as_integer (array vs) = none
-as_integer (object ms) = none
+as_integer (scalar null) = None
+as_integer (scalar (boolean b)) = None
+as_integer (scalar (integer z)) = Some z
+as_integer (scalar (string s)) = None
+as_integer (instant t) = None
+as_integer (array vs) = None
+as_integer (object ms) = None
 
 abbrev pub as_string : Value → Option Bytes
-as_string (scalar null) = none
-as_string (scalar (boolean b)) = none
-as_string (scalar (integer z)) = none
-as_string (scalar (string s)) = some s
-as_string (instant t) = none
-as_string (array vs) = none
-as_string (object ms) = none
+as_string (scalar null) = None
+as_string (scalar (boolean b)) = None
+as_string (scalar (integer z)) = None
+as_string (scalar (string s)) = Some s
+as_string (instant t) = None
+as_string (array vs) = None
+as_string (object ms) = None
 
 -- ---- kinds
 abbrev pub is_null : Value → Bool

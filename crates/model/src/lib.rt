@@ -1,6 +1,8 @@
 // The limits of document 01 and the plain types that the definitions under specs/ and the code of the crates above share.
 #![tactic(auto)]
 
+pub mod refusal;
+
 // The limits that specs/Limits.antt has. Among the code they stand only here.
 pub const MAX_TEXT_BYTES: usize = 16384;
 

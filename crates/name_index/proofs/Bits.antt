@@ -8,19 +8,18 @@ use native.Mathlib.Decide.{dec_lt}
 use native.Mathlib.Numerals.{add-one}
 use borrow.Author.Tests.{eq-eqb, eqb-true}
 use lib.Dec.{eqb}
-use lib.ListN.{length, get_or, drop, length-take, length-drop}
-use lib.Seq.{get_or-take, get_or-drop, ext_get_or}
+use lib.ListN.{length, get_or}
+use lib.Seq.{ext_get_or}
 use lib.Pow.{pow_pos, pow_mono, shr-shr}
 use lib.Bits.{bit_xor, xor_shr, xor_self, xor_add_and, and_le_l, and_le_r, xor_lt}
 use lib.Count.{count_leading_zeros, leading_top}
 use Rattle.model.specs.Bytes.{Bytes}
-use Rattle.name_index.specs.Bits.{part, symbol_at, bit_at, Agree, Critical}
-use Rattle.name_index.specs.Slots.{side}
+use Rattle.name_index.specs.Bits.{symbol_at, bit_at, Agree, Critical}
 use Rattle.name_index.specs.Inner.{Highest, Common}
 
 -- ---- symbols
 
-symbol_past : (n : Bytes) (p : ℕ) → length n ≤ p → symbol_at n p ≡ 0
+pub symbol_past : (n : Bytes) (p : ℕ) → length n ≤ p → symbol_at n p ≡ 0
 unfolding symbol_at
 symbol_past [] p h = refl
 symbol_past (x ∷ n) zero h = absurd (none h)
@@ -29,7 +28,7 @@ symbol_past (x ∷ n) zero h = absurd (none h)
     none h = omega arith
 symbol_past (x ∷ n) (suc p) h = symbol_past n p (omega arith)
 
-symbol_in : (n : Bytes) (p : ℕ) → p < length n → symbol_at n p ≡ 256 + get_or n p 0
+pub symbol_in : (n : Bytes) (p : ℕ) → p < length n → symbol_at n p ≡ 256 + get_or n p 0
 unfolding symbol_at
 symbol_in [] p h = absurd (none h)
   where
@@ -38,33 +37,7 @@ symbol_in [] p h = absurd (none h)
 symbol_in (x ∷ n) zero h = refl
 symbol_in (x ∷ n) (suc p) h = symbol_in n p (omega arith)
 
-module _ (A : Bytes) (start len : ℕ) (h : start + len ≤ length A) where
-  pub length_part : length (part A start len) ≡ len
-  length_part = simp (length-take, length-drop) (omega arith)
-
-  get_d_part : (p : ℕ) → p < len → get_or (part A start len) p 0 ≡ get_or A (start + p) 0
-  get_d_part p l = get_or-take len (drop start A) p 0 l ∙ get_or-drop start A p 0
-
-  pub part_past : (p : ℕ) → len ≤ p → symbol_at (part A start len) p ≡ 0
-  part_past p l = symbol_past (part A start len) p (rw length_part l)
-
-  pub part_in : (p : ℕ) → p < len → symbol_at (part A start len) p ≡ 256 + get_or A (start + p) 0
-  part_in p l = symbol_in (part A start len) p (rw length_part l) ∙ ap (λ (x : ℕ). 256 + x) (get_d_part p l)
-
 -- ---- bits
-
-bit_side : (y : ℕ) → y < 2 → y * 4 ≡ side (eqb y 1)
-bit_side zero h = refl
-bit_side (suc zero) h = refl
-bit_side (suc (suc y)) h = absurd (none h)
-  where
-    none : {k : ℕ} → suc (suc (suc k)) ≤ 2 → ⊥
-    none h = omega arith
-
-pub turn_side : (n : Bytes) (r s : ℕ) → s ≡ symbol_at n (r / 16) → s / 2 ^ (15 - r % 16) % 2 * 4 ≡ side (bit_at n r)
-unfolding bit_at
-turn_side n r s e =
-    bit_side (s / 2 ^ (15 - r % 16) % 2) (omega arith) ∙ ap (λ (x : ℕ). side (eqb (x / 2 ^ (15 - r % 16) % 2) 1)) e
 
 same_bit : (u v : Bytes) (i : ℕ) → symbol_at u (i / 16) / 2 ^ (15 - i % 16) ≡ symbol_at v (i / 16) / 2 ^ (15 - i % 16) → bit_at u i ≡ bit_at v i
 unfolding bit_at
@@ -145,57 +118,49 @@ module _ (x y : ℕ) (hx : x < 512) (hy : y < 512) (ne : x ≡ y → ⊥) where
 
 -- ---- comparing two names
 
-module _ (A : Bytes) (a m b n p : ℕ) (ha : a + m ≤ length A) (hb : b + n ≤ length A) (h : Common A a m b n p) where
-  same_before : (i : ℕ) → i < p → symbol_at (part A a m) i ≡ symbol_at (part A b n) i
-  same_before i l =
-      let il : i < m = omega (arith, h.left) in
-      let ir : i < n = omega (arith, h.right) in
-      part_in A a m ha i il ∙ ap (λ (x : ℕ). 256 + x) (h.same i l) ∙ sym (part_in A b n hb i ir)
+module _ (m n : Bytes) (p : ℕ) (h : Common m n p) where
+  same_before : (i : ℕ) → i < p → symbol_at m i ≡ symbol_at n i
+  same_before i l = symbol_in m i (omega (arith, h.left)) ∙ ap (λ (x : ℕ). 256 + x) (h.same i l) ∙ sym (symbol_in n i (omega (arith, h.right)))
 
   -- Equal symbols there: both names end.
-  module _ (e : symbol_at (part A a m) p ≡ symbol_at (part A b n) p) where
-    left_ends : p ≡ m
-    left_ends = elim (dec_lt p m) [
+  module _ (e : symbol_at m p ≡ symbol_at n p) where
+    left_ends : p ≡ length m
+    left_ends = elim (dec_lt p (length m)) [
       | no g ↦ omega (arith, h.left)
-      | yes g ↦ absurd (elim (dec_lt p n) [
-        | yes k ↦ h.parts g k (omega (arith, part_in A a m ha p g, part_in A b n hb p k, e))
-        | no k ↦ omega (arith, part_in A a m ha p g, part_past A b n hb p (omega (arith, k)), e)
+      | yes g ↦ absurd (elim (dec_lt p (length n)) [
+        | yes k ↦ h.parts g k (omega (arith, symbol_in m p g, symbol_in n p k, e))
+        | no k ↦ omega (arith, symbol_in m p g, symbol_past n p (omega (arith, k)), e)
       ])
     ]
 
-    right_ends : p ≡ n
-    right_ends = elim (dec_lt p n) [
+    right_ends : p ≡ length n
+    right_ends = elim (dec_lt p (length n)) [
       | no g ↦ omega (arith, h.right)
-      | yes g ↦ absurd (omega (arith, part_in A b n hb p g, part_past A a m ha p (omega (arith, left_ends)), e))
+      | yes g ↦ absurd (omega (arith, symbol_in n p g, symbol_past m p (omega (arith, left_ends)), e))
     ]
 
-    pub names_same : part A a m ≡ part A b n
-    names_same =
-        ext_get_or 0 (part A a m) (part A b n)
-        (length_part A a m ha ∙ sym left_ends ∙ right_ends ∙ sym (length_part A b n hb))
-        (λ i l.
-        let q : i < m = rw (length_part A a m ha) at l in
-        get_d_part A a m ha i q ∙ h.same i (omega (arith, left_ends)) ∙ sym (get_d_part A b n hb i (omega (arith, left_ends, right_ends))))
+    pub names_same : m ≡ n
+    names_same = ext_get_or 0 m n (sym left_ends ∙ right_ends) (λ i l. h.same i (omega (arith, left_ends)))
 
   -- Different symbols there: the names part at the highest bit in which they differ.
-  module _ (x y k : ℕ) (ex : x ≡ symbol_at (part A a m) p) (ey : y ≡ symbol_at (part A b n) p) (t : Highest x y k) where
-    agree_below : Agree (p * 16 + k) (part A a m) (part A b n)
+  module _ (x y k : ℕ) (ex : x ≡ symbol_at m p) (ey : y ≡ symbol_at n p) (t : Highest x y k) where
+    agree_below : Agree (p * 16 + k) m n
     agree_below i l = elim (dec_lt (i / 16) p) [
-      | yes g ↦ same_bit (part A a m) (part A b n) i (ap (λ (z : ℕ). z / 2 ^ (15 - i % 16)) (same_before (i / 16) g))
+      | yes g ↦ same_bit m n i (ap (λ (z : ℕ). z / 2 ^ (15 - i % 16)) (same_before (i / 16) g))
       | no g ↦
           let q : i / 16 ≡ p = omega (arith, t.small) in
-          same_bit (part A a m) (part A b n) i
-          (ap (λ (z : ℕ). symbol_at (part A a m) z / 2 ^ (15 - i % 16)) q ∙ ap (λ (z : ℕ). z / 2 ^ (15 - i % 16)) (sym ex)
+          same_bit m n i
+          (ap (λ (z : ℕ). symbol_at m z / 2 ^ (15 - i % 16)) q ∙ ap (λ (z : ℕ). z / 2 ^ (15 - i % 16)) (sym ex)
           ∙ t.above (i % 16) (omega arith)
-          ∙ ap (λ (z : ℕ). z / 2 ^ (15 - i % 16)) ey ∙ ap (λ (z : ℕ). symbol_at (part A b n) z / 2 ^ (15 - i % 16)) (sym q))
+          ∙ ap (λ (z : ℕ). z / 2 ^ (15 - i % 16)) ey ∙ ap (λ (z : ℕ). symbol_at n z / 2 ^ (15 - i % 16)) (sym q))
     ]
 
-    differ_there : bit_at (part A a m) (p * 16 + k) ≡ bit_at (part A b n) (p * 16 + k) → ⊥
+    differ_there : bit_at m (p * 16 + k) ≡ bit_at n (p * 16 + k) → ⊥
     differ_there e =
         let q : (p * 16 + k) / 16 ≡ p = omega (arith, t.small) in
         let r : (p * 16 + k) % 16 ≡ k = omega (arith, t.small) in
         t.differ (odd_same (x / 2 ^ (15 - k) % 2) (y / 2 ^ (15 - k) % 2) (omega arith) (omega arith)
-        (sym (bit_is (part A a m) (p * 16 + k) p k x q r ex) ∙ e ∙ bit_is (part A b n) (p * 16 + k) p k y q r ey))
+        (sym (bit_is m (p * 16 + k) p k x q r ex) ∙ e ∙ bit_is n (p * 16 + k) p k y q r ey))
 
-    pub names_part : p < 67108864 → Critical (part A a m) (part A b n) (p * 16 + k)
+    pub names_part : p < 67108864 → Critical m n (p * 16 + k)
     names_part l = record { agree = agree_below; differ = differ_there; small = omega (arith, t.small) }

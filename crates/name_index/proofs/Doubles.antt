@@ -24,17 +24,6 @@ use Rattle.name_index.specs.Slots.{place}
 
 -- ---- has_entry
 
-pub short_table : (T : Bytes) (row : ℕ) → length T < table_bytes → false ≡ has_entry T row
-short_table T row h = rw (lt-leb table_bytes (length T) h)
-
-pub row_zero : (T : Bytes) (row : ℕ) → table_bytes ≤ length T → row ≡ 0 → false ≡ has_entry T row
-row_zero T row h e = rw (le-leb table_bytes (length T) h, e)
-
-pub row_above : (T : Bytes) (row : ℕ) → table_bytes ≤ length T → (row ≡ 0 → ⊥) → leb row max_values ≡ has_entry T row
-row_above T row h n =
-    let l : 0 < row = omega arith in
-    rw (le-leb table_bytes (length T) h, lt-ltb 0 row l)
-
 -- A table that has an entry is long enough for it.
 pub record Entered (T : Bytes) (row : ℕ) : Type 0 where
   pub long : table_bytes ≤ length T
@@ -72,28 +61,27 @@ put_is T T' row far at e p w = rw (e) (w ∙ ap (λ (x : ℕ). sets T x (word fa
 
 -- ---- link
 
-pub link_last : (T : Bytes) (row far left : ℕ) → left ≡ 1 → link_from T row far left ≡ put_double T row far
-unfolding link_from
-link_last T row far left e = rw (e)
-
 pub link_none : (T : Bytes) (row far left : ℕ) → left ≡ 0 → link_from T row far left ≡ T
 unfolding link_from
 link_none T row far left e = rw (e)
 
 pub link_step :
-    (T : Bytes) (row far left : ℕ) → 2 ≤ left
+    (T : Bytes) (row far left : ℕ) → 1 ≤ left
     → link_from T row far left
     ≡ link_from (put_double T row far) (next_row (put_double T row far) row) (next_row (put_double T row far) (next_row (put_double T row far) far)) (left - 2)
 unfolding link_from
 link_step T row far zero h = absurd (omega arith)
-link_step T row far (suc zero) h = absurd (omega arith)
+link_step T row far (suc zero) h =
+    let e : 0 ≡ suc zero - 2 = omega arith in
+    let T' = put_double T row far in
+    ap (link_from T' (next_row T' row) (next_row T' (next_row T' far))) e
 link_step T row far (suc (suc n)) h =
     let e : n ≡ suc (suc n) - 2 = omega arith in
     let T' = put_double T row far in
     ap (link_from T' (next_row T' row) (next_row T' (next_row T' far))) e
 
 pub link_again :
-    (T T' : Bytes) (row far left row' odd far' : ℕ) → T' ≡ put_double T row far → 2 ≤ left → row' ≡ next_row T' row → odd ≡ next_row T' far → far' ≡ next_row T' odd
+    (T T' : Bytes) (row far left row' odd far' : ℕ) → T' ≡ put_double T row far → 1 ≤ left → row' ≡ next_row T' row → odd ≡ next_row T' far → far' ≡ next_row T' odd
     → link_from T' row' far' (left - 2) ≡ link_from T row far left
 link_again T T' row far left row' odd far' t l r o f = rw (f, o, r, t) (sym (link_step T row far left l))
 
@@ -191,11 +179,6 @@ rows_step T row zero h = absurd (omega arith)
 rows_step T row (suc n) h =
     let e : n ≡ suc n - 1 = omega arith in
     ap (link_rows (link_node T row (node_at T row)) (row + 1)) e
-
-pub rows_first : (T : Bytes) (rows : ℕ) → link_rows T 0 (rows - 0) ≡ link_rows T 0 rows
-rows_first T rows =
-    let e : rows - 0 ≡ rows = omega arith in
-    ap (link_rows T 0) e
 
 pub rows_none : (T : Bytes) (row left : ℕ) → left ≡ 0 → link_rows T row left ≡ T
 unfolding link_rows

@@ -1,4 +1,5 @@
 -- Laws of the steps of `enter`, over plain values.
+use Rattle.std.specs.Prelude.{Option, None, Some}
 use mathlib.Core.Path.{◌≡◌, refl, sym, ap, ap₂, ◌∙◌, subst}
 use mathlib.Core.Bool.{Bool, true, false}
 use mathlib.Core.List.{[]}
@@ -9,44 +10,57 @@ use native.Mathlib.Nat.{add-zero}
 use lib.ListN.{length}
 use Rattle.model.specs.Bytes.{Bytes}
 use Rattle.area.specs.Words.{word_at}
-use Rattle.syntax.specs.Layout.{row_bytes, entry_bytes}
-use Rattle.name_index.specs.declared.Compared.{Compared}
-use Rattle.name_index.specs.declared.Compared.TheVariants.{Same, Differ}
-use Rattle.name_index.specs.Bits.{part, bit_at}
+use Rattle.model.specs.Limits.{max_values}
+use Rattle.table.specs.declared.row.Span.{Span}
+use Rattle.table.specs.Node.{name_at}
+use Rattle.table.specs.declared.row.Row.{Row}
+use Rattle.table.specs.Row.{row_at, numbers_at, span}
+use Rattle.table.specs.Strings.{bytes_of}
+use borrow.Author.Tests.{lt-ltb}
+use lib.Dec.{ltb}
+use Rattle.syntax.specs.Layout.{row_bytes, entry_bytes, table_bytes}
+use Rattle.name_index.specs.Bits.{bit_at}
 use Rattle.name_index.specs.Trie.{Trie, leaf, node, Node, Ordered, Walk, here, Ends}
 use Rattle.name_index.specs.Slots.{name_start, name_length, place, entry, side, link_in, rank_in, link_at, Holds}
 use Rattle.name_index.specs.Laws.Slots.{entry_word}
-use Rattle.name_index.specs.Inner.{Told, Ranked, ToldOf, Reached, Stopped, NoNode, IsNode}
+use Rattle.name_index.specs.Inner.{Told, Ranked, ToldOf, Reached, Stopped, NoNode, IsNode, NodeOf}
 use Rattle.name_index.proofs.Trie.{walk_more, walk_node}
 use Rattle.name_index.proofs.Table.{side_small}
 
 -- ---- comparing with the name of a leaf's row
 
-module _ (T A : Bytes) (link row : ℕ) (n : Bytes) where
-  half : (q : ℕ) → link ≡ q * 2 → link / 2 ≡ q
-  half q e = omega arith
+-- Where the name of the member in a slot lies.
+pub name_there : (T : Bytes) (q : ℕ) → table_bytes ≤ length T → q < max_values → name_at T (q + 1) ≡ span (name_start T q) (name_length T q)
+unfolding row_at max_values row_bytes entry_bytes
+name_there T q t l =
+    let here : ltb (q + 1) (length T / 16) ≡ true = lt-ltb _ _ (omega arith) in
+    let a : (q + 1) * 16 + 4 ≡ q * 16 + 20 = omega arith in
+    let b : (q + 1) * 16 ≡ q * 16 + 16 = omega arith in
+    let there : row_at T (q + 1) ≡ numbers_at T (q + 1) = rw here in
+    ap (λ (r : Row). r.name) there ∙ (λ i. span (word_at T (a i)) (word_at T (b i) / 256))
 
-  pub told_none : (r : Compared) → row ≤ link / 2 → ToldOf T A link row n r
-  told_none r h q e l i = absurd (omega (arith, half q e))
+pub told_leaf : (T A : Bytes) (link : ℕ) (n : Bytes) {p : Span} {s : Bytes} (r : Option ℕ) → table_bytes ≤ length T → p ≡ name_at T (link / 2 + 1) → s ≡ bytes_of A p → Told n s r → ToldOf T A link max_values n r
+told_leaf T A link n {p} {s} r t ep es told q e l i =
+    let h : link / 2 ≡ q = omega arith in
+    let here : p ≡ span (name_start T q) (name_length T q) = ep ∙ ap (λ (k : ℕ). name_at T (k + 1)) h ∙ name_there T q t l in
+    subst (λ (z : Bytes). Told n z r) (es ∙ ap (bytes_of A) here) told
 
-  module _ (x y : ℕ) (ex : x ≡ word_at T (link / 2 * 16 + 16)) (ey : y ≡ word_at T (link / 2 * 16 + 20)) (r : Compared) where
-    pub told_outside : length A < y + x / 256 → ToldOf T A link row n r
-    told_outside h q e l i =
-        let a : x / 256 ≡ name_length T q = ap (λ (z : ℕ). z / 256) (ex ∙ ap (λ (z : ℕ). word_at T (z * 16 + 16)) (half q e)) in
-        let b : y ≡ name_start T q = ey ∙ ap (λ (z : ℕ). word_at T (z * 16 + 20)) (half q e) in
-        absurd (omega (arith, a, b))
+pub told_below : (T A : Bytes) (link row : ℕ) (n : Bytes) (r : Option ℕ) → row < max_values → ToldOf T A link max_values n r → ToldOf T A link row n r
+told_below T A link row n r b f q e l i = f q e (omega arith) i
 
-    pub told_is : Told n (part A y (x / 256)) r → ToldOf T A link row n r
-    told_is h q e l i =
-        let a : x / 256 ≡ name_length T q = ap (λ (z : ℕ). z / 256) (ex ∙ ap (λ (z : ℕ). word_at T (z * 16 + 16)) (half q e)) in
-        let b : y ≡ name_start T q = ey ∙ ap (λ (z : ℕ). word_at T (z * 16 + 20)) (half q e) in
-        subst (λ (z : ℕ). Told n (part A z (name_length T q)) r) b (subst (λ (z : ℕ). Told n (part A y z) r) a h)
-
-pub told_ranked : (m n : Bytes) (r : Compared) → Told m n r → Ranked r
-told_ranked m n Same t = tt
-told_ranked m n (Differ c) t = t.small
+pub told_ranked : (m n : Bytes) (r : Option ℕ) → Told m n r → Ranked r
+told_ranked m n None t = tt
+told_ranked m n (Some c) t = t.small
 
 -- ---- going down
+
+-- A link to no node, and to one.
+pub no_node : (link first row : ℕ) (r : Option ℕ) → NodeOf link first row r → ((k : ℕ) → r ≡ Some k → ⊥) → NoNode link first row
+no_node link first row None n h = n
+no_node link first row (Some k) n h = absurd (h k refl)
+
+pub a_node : (link first row k : ℕ) {r : Option ℕ} → NodeOf link first row r → r ≡ Some k → IsNode link first row k
+a_node link first row k n e = subst (NodeOf link first row) e n
 
 -- The rank in the entry at a place.
 abbrev pub rank_of : Bytes → ℕ → ℕ
@@ -208,7 +222,3 @@ module _ (T n : Bytes) (first row stop at from x : ℕ) (g : Going T n first row
   going_left k a p ep y b less z x' ez eo ex =
       subst (λ (i : ℕ). Going T n first row stop i (y + 1) x') (add-zero p)
       (going_side k a p ep y b less z 0 x' ez eo (ex ∙ ap (λ (i : ℕ). link_in (word_at T i)) (sym (add-zero p))))
-
-pub turn_right : (b : Bool) (z : ℕ) → z ≡ side b → (z ≡ 0 → ⊥) → z ≡ 4
-turn_right false z e h = absurd (h e)
-turn_right true z e h = e

@@ -1,4 +1,5 @@
 -- What `enter` promises, from what its steps do. Over plain values.
+use Rattle.std.specs.Prelude.{Option, None, Some}
 use mathlib.Core.Path.{◌≡◌, refl, sym, ap, ◌∙◌, subst}
 use mathlib.Core.Bool.{Bool, true, false}
 use mathlib.Core.List.{List, [], ◌∷◌, ◌++◌}
@@ -15,10 +16,8 @@ use Rattle.model.proofs.Laws.Logic.{clash}
 use Rattle.syntax.specs.Layout.{row_bytes, entry_bytes, table_bytes}
 use Rattle.area.specs.Words.{word, word_at}
 use Rattle.area.specs.Laws.{take_sets_before, length_word, word_read}
-use Rattle.name_index.specs.declared.Compared.{Compared}
-use Rattle.name_index.specs.declared.Compared.TheVariants.{Same, Differ}
 use Rattle.name_index.specs.declared.Ended.{Ended}
-use Rattle.name_index.specs.Bits.{part, bit_at, Critical}
+use Rattle.name_index.specs.Bits.{bit_at, Critical}
 use Rattle.name_index.specs.Trie.{Trie, leaf, node, Leaf, Node, Ordered, Ends}
 use Rattle.name_index.specs.Slots.{Has, names, among, Named, Within, place, entry, side, link_in, Holds, Tree, Indexed, Room, Entered}
 use Rattle.name_index.specs.Inner.{Told, ToldOf, Reached, Descended, Stopped, noded, relinked, forked, Forked}
@@ -104,13 +103,13 @@ module _ (T n : Bytes) (first row p : ℕ) (e : row ≡ first) (ep : p ≡ place
       ap (λ (z : ℕ). entry (sets T z (word (row * 2))) k) (ep ∙ sym (add-zero (place first)))
       ∙ entry_other T (word (row * 2)) first 0 k (rw length_word (omega arith)) (λ g. h (g ∙ sym e))
 
-entered : (T A : Bytes) (first row start len : ℕ) (b : Bool) (T' : Bytes) → Framed T first row T'
+entered : (T A : Bytes) (first row : ℕ) (new : Bytes) (b : Bool) (T' : Bytes) → Framed T first row T'
     → ((ms : List (ℕ × Bytes)) → Indexed T first ms → Named T A ms → Within first row ms
     → (k : ℕ) → ((n : Bytes) → Has ms k n → ⊥) → (k ≡ row → ⊥) → entry T' k ≡ entry T k)
     → ((ms : List (ℕ × Bytes)) → Indexed T first ms → Named T A ms → Within first row ms
-    → (b ≡ among (part A start len) (names ms)) × (b ≡ false → Indexed T' first (ms ++ ((row, part A start len) ∷ []))))
-    → Entered T A first row start len b T'
-entered T A first row start len b T' f o g = record {
+    → (b ≡ among new (names ms)) × (b ≡ false → Indexed T' first (ms ++ ((row, new) ∷ []))))
+    → Entered T A first row new b T'
+entered T A first row new b T' f o g = record {
   size = f.size;
   rows = f.rows;
   kept = f.kept;
@@ -119,18 +118,18 @@ entered T A first row start len b T' f o g = record {
   run = g;
 }
 
-pub first_entered : (T A : Bytes) (first row start len p : ℕ) (T' : Bytes) → Room T A first row start len → row ≡ first → p ≡ place first
-    → T' ≡ sets T p (word (row * 2)) → Entered T A first row start len false T'
+pub first_entered : (T A : Bytes) (first row : ℕ) (new : Bytes) (p : ℕ) (T' : Bytes) → Room T first row new → row ≡ first → p ≡ place first
+    → T' ≡ sets T p (word (row * 2)) → Entered T A first row new false T'
 unfolding first_table Indexed
-first_entered T A first row start len p T' room e ep s =
-    entered T A first row start len false T'
-    (subst (Framed T first row) (sym s) (first_framed T (part A start len) first row p e ep room.below room.table))
-    (λ ms i n w k f h. ap (λ (t : Bytes). entry t k) s ∙ first_others T (part A start len) first row p e ep room.below room.table k h)
-    (λ ms i n w. subst (λ (l : List (ℕ × Bytes)). (false ≡ among (part A start len) (names l)) × (false ≡ false → Indexed T' first (l ++ ((row, part A start len) ∷ []))))
+first_entered T A first row new p T' room e ep s =
+    entered T A first row new false T'
+    (subst (Framed T first row) (sym s) (first_framed T new first row p e ep room.below room.table))
+    (λ ms i n w k f h. ap (λ (t : Bytes). entry t k) s ∙ first_others T new first row p e ep room.below room.table k h)
+    (λ ms i n w. subst (λ (l : List (ℕ × Bytes)). (false ≡ among new (names l)) × (false ≡ false → Indexed T' first (l ++ ((row, new) ∷ []))))
     (sym (w.none e)) (
       refl,
-      λ h. subst (λ (t : Bytes). Tree t first ((row, part A start len) ∷ [])) (sym s)
-          (first_tree T (part A start len) first row p e ep room.below room.table),
+      λ h. subst (λ (t : Bytes). Tree t first ((row, new) ∷ [])) (sym s)
+          (first_tree T new first row p e ep room.below room.table),
     ))
 
 -- ---- any other member
@@ -171,7 +170,7 @@ module _ (T A new : Bytes) (first row : ℕ) (less : first < row) (ms : List (�
       go j s (node m c u) p from o e h = absurd (omega (arith, o.1))
 
   -- How the new name compares with the one there.
-  compared : (x : ℕ) (r : Compared) → x ≡ (found new t.trie).0 * 2 → ToldOf T A x row new r → Told new (found new t.trie).1 r
+  compared : (x : ℕ) (r : Option ℕ) → x ≡ (found new t.trie).0 * 2 → ToldOf T A x row new r → Told new (found new t.trie).1 r
   compared x r e f =
       subst (λ (m : Bytes). Told new m r) (sym (named.name (found new t.trie).0 (found new t.trie).1 has_there))
       (f (found new t.trie).0 e (within.rows (found new t.trie).0 (found new t.trie).1 has_there).1
@@ -253,36 +252,36 @@ module _ (T A new : Bytes) (first row : ℕ) (less : first < row) (ms : List (�
           old_node : (k : ℕ) → Node k t.trie → (first < k) × (n : Bytes) × Has (ms ++ ((row, new) ∷ [])) k n
           old_node k h = let g = t.nodes k h in (g.0, g.1, has_old ms (row, new) k g.1 g.2)
 
-module _ (T A : Bytes) (first row start len : ℕ) (room : Room T A first row start len) (other : row ≡ first → ⊥) (end : Ended)
-    (stopped : Stopped T (part A start len) first row 1073741824 end) where
+module _ (T A : Bytes) (first row : ℕ) (new : Bytes) (room : Room T first row new) (other : row ≡ first → ⊥) (end : Ended)
+    (stopped : Stopped T new first row 1073741824 end) where
   less : first < row
   less = omega (arith, room.order)
 
-  down : Descended T (part A start len) first row 1073741824 end.at
+  down : Descended T new first row 1073741824 end.at
   down = stopped.all 1073741824 stopped.least (λ h. h)
 
-  pub same_entered : ToldOf T A end.link row (part A start len) Same → Entered T A first row start len true T
+  pub same_entered : ToldOf T A end.link row new None → Entered T A first row new true T
   same_entered told =
-      entered T A first row start len true T (framed_none T first row) (λ ms i n w k f h. refl)
+      entered T A first row new true T (framed_none T first row) (λ ms i n w k f h. refl)
       (λ ms i n w.
       let t = tree_of T first row ms w other i in (
-        known T A (part A start len) first row less ms t n w
-            (compared T A (part A start len) first row less ms t n w end.link Same (found_link T A (part A start len) first row less ms t n w end.at end.link down stopped.link) told),
+        known T A new first row less ms t n w
+            (compared T A new first row less ms t n w end.link None (found_link T A new first row less ms t n w end.at end.link down stopped.link) told),
         λ e. clash cc,
       ))
 
-  pub fork_entered : (c at turn : ℕ) (T' : Bytes) → ToldOf T A end.link row (part A start len) (Differ c) → Descended T (part A start len) first row c at
-      → turn ≡ side (bit_at (part A start len) c) → Forked T at row c turn T' → Entered T A first row start len false T'
+  pub fork_entered : (c at turn : ℕ) (T' : Bytes) → ToldOf T A end.link row new (Some c) → Descended T new first row c at
+      → turn ≡ side (bit_at new c) → Forked T at row c turn T' → Entered T A first row new false T'
   fork_entered c at turn T' told d et f =
-      entered T A first row start len false T' (framed_forked T T' first row at c turn f room.order d.low d.high (bit_at (part A start len) c) et)
+      entered T A first row new false T' (framed_forked T T' first row at c turn f room.order d.low d.high (bit_at new c) et)
       (λ ms i n w k g h.
       let t = tree_of T first row ms w other i in
-      let crit = compared T A (part A start len) first row less ms t n w end.link (Differ c) (found_link T A (part A start len) first row less ms t n w end.at end.link down stopped.link) told in
-      others T A (part A start len) first row less ms t n w c crit at turn T' d et f room.below room.table k g h)
+      let crit = compared T A new first row less ms t n w end.link (Some c) (found_link T A new first row less ms t n w end.at end.link down stopped.link) told in
+      others T A new first row less ms t n w c crit at turn T' d et f room.below room.table k g h)
       (λ ms i n w.
       let t = tree_of T first row ms w other i in
-      let crit = compared T A (part A start len) first row less ms t n w end.link (Differ c) (found_link T A (part A start len) first row less ms t n w end.at end.link down stopped.link) told in (
-        unknown T A (part A start len) first row less ms t n w c crit,
-        λ e. indexed_of T' first (ms ++ ((row, part A start len) ∷ []))
-            (grown T A (part A start len) first row less ms t n w c crit at turn T' d et f room.below room.table),
+      let crit = compared T A new first row less ms t n w end.link (Some c) (found_link T A new first row less ms t n w end.at end.link down stopped.link) told in (
+        unknown T A new first row less ms t n w c crit,
+        λ e. indexed_of T' first (ms ++ ((row, new) ∷ []))
+            (grown T A new first row less ms t n w c crit at turn T' d et f room.below room.table),
       ))

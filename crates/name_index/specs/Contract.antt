@@ -1,12 +1,10 @@
 -- Contract: what `enter` asks and promises, and what `find` promises, by the rows of members. That the index is a trie (specs/Trie.antt, specs/Slots.antt) is no concern of its callers.
-use Rattle.std.specs.Prelude.{◌≡◌, Bool, false, cond, List, [], ◌∷◌, ◌++◌, ◌⊎◌, ℕ, ◌+◌, ◌*◌, ◌-◌, ◌/◌, ◌≤◌, ◌<◌, length, take, drop}
+use Rattle.std.specs.Prelude.{◌≡◌, Bool, false, cond, List, [], ◌∷◌, ◌++◌, ◌⊎◌, ℕ, ◌+◌, ◌*◌, ◌-◌, ◌/◌, ◌≤◌, ◌<◌, length, take, drop, Option, None, Some}
 use Rattle.area.specs.Words.{word_at}
 use Rattle.model.specs.Bytes.{Bytes, same_bytes}
 use Rattle.model.specs.Limits.{max_values, max_text_bytes}
 use Rattle.model.specs.Lists.{any}
 use Rattle.syntax.specs.Layout.{table_bytes}
-use Rattle.name_index.specs.declared.find.Found.{Found}
-use Rattle.name_index.specs.declared.find.Found.TheVariants.{Nowhere, At}
 use Rattle.name_index.specs.Slots as Slots
 
 -- n bytes of an area from x on
@@ -74,12 +72,12 @@ pub record Entered (T A : Bytes) (first row start len : ℕ) (b : Bool) (T' : By
       → (b ≡ any (same_bytes (part A start len)) (names_of es)) × (b ≡ false → Indexed T' first (es ++ (record { row = row; name = part A start len } ∷ [])))
 
 -- Where the first member of a name stands.
-abbrev pub first_named : Bytes → List Entry → Found
-first_named n [] = Nowhere
-first_named n (e ∷ es) = cond (same_bytes n e.name) (At e.row) (first_named n es)
+abbrev pub first_named : Bytes → List Entry → Option ℕ
+first_named n [] = None
+first_named n (e ∷ es) = cond (same_bytes n e.name) (Some e.row) (first_named n es)
 
--- What `find(table, strings, first, name) -> Found` promises: that member, of those that the table's entries index.
-pub record Finds (T A : Bytes) (first : ℕ) (n : Bytes) (r : Found) : Type 0 where
+-- What `find(table, strings, first, name) -> Option<usize>` promises: that member, of those that the table's entries index.
+pub record Finds (T A : Bytes) (first : ℕ) (n : Bytes) (r : Option ℕ) : Type 0 where
   pub is :
       (es : List Entry) → 1 ≤ first → table_bytes ≤ length T → Indexed T first es → Named T A es → Between first max_values es → (es ≡ [] → ⊥)
       → r ≡ first_named n es

@@ -1,14 +1,10 @@
 -- Inner: what the functions below `enter` promise.
-use Rattle.std.specs.Prelude.{◌≡◌, Bool, true, false, cond, [], ◌++◌, ℕ, ◌+◌, ◌*◌, ◌-◌, ◌/◌, ◌%◌, ◌^◌, ◌<◌, ◌≤◌, length, get_or}
+use Rattle.std.specs.Prelude.{◌≡◌, Bool, true, false, cond, [], ◌++◌, ℕ, ◌+◌, ◌*◌, ◌-◌, ◌/◌, ◌%◌, ◌^◌, ◌<◌, ◌≤◌, length, get_or, Option, None, Some}
 use Rattle.std.proofs.lemmas.List.Edits.{sets}
 use Rattle.model.specs.Bytes.{Bytes, same_bytes}
 use Rattle.model.specs.Limits.{max_values}
 use Rattle.area.specs.Words.{word, word_at}
-use Rattle.name_index.specs.declared.Compared.{Compared}
-use Rattle.name_index.specs.declared.Compared.TheVariants.{Same, Differ}
 use Rattle.name_index.specs.declared.Ended.{Ended}
-use Rattle.name_index.specs.declared.find.Found.{Found}
-use Rattle.name_index.specs.declared.find.Found.TheVariants.{Nowhere, At}
 use Rattle.name_index.specs.Bits.{part, Critical}
 use Rattle.name_index.specs.Trie.{Trie, Node, Ordered, Walk, Ends}
 use Rattle.syntax.specs.Layout.{table_bytes}
@@ -16,12 +12,12 @@ use Rattle.name_index.specs.Slots.{name_start, name_length, place, side, link_in
 
 -- ---- comparing names
 
--- The first place at which the m bytes at a and the n bytes at b part, or at which one of them ends.
-pub record Common (A : Bytes) (a m b n p : ℕ) : Type 0 where
-  pub left : p ≤ m
-  pub right : p ≤ n
-  pub same : (i : ℕ) → i < p → get_or A (a + i) 0 ≡ get_or A (b + i) 0
-  pub parts : p < m → p < n → get_or A (a + p) 0 ≡ get_or A (b + p) 0 → ⊥
+-- The first place at which two names part, or at which one of them ends.
+pub record Common (m n : Bytes) (p : ℕ) : Type 0 where
+  pub left : p ≤ length m
+  pub right : p ≤ length n
+  pub same : (i : ℕ) → i < p → get_or m i 0 ≡ get_or n i 0
+  pub parts : p < length m → p < length n → get_or m p 0 ≡ get_or n p 0 → ⊥
 
 -- The highest of the sixteen bits of two numbers in which they differ, counted from the highest.
 pub record Highest (x y r : ℕ) : Type 0 where
@@ -30,29 +26,28 @@ pub record Highest (x y r : ℕ) : Type 0 where
   pub differ : x / 2 ^ (15 - r) % 2 ≡ y / 2 ^ (15 - r) % 2 → ⊥
 
 -- How two names compare.
-abbrev pub Told : Bytes → Bytes → Compared → Type 0
-Told m n Same = m ≡ n
-Told m n (Differ c) = Critical m n c
+abbrev pub Told : Bytes → Bytes → Option ℕ → Type 0
+Told m n None = m ≡ n
+Told m n (Some c) = Critical m n c
 
 -- The rank in which two names differ has room in an entry.
-abbrev pub Ranked : Compared → Type 0
-Ranked Same = Unit {0}
-Ranked (Differ c) = c < 1073741824
+abbrev pub Ranked : Option ℕ → Type 0
+Ranked None = Unit {0}
+Ranked (Some c) = c < 1073741824
 
 -- How a name compares with that of the row of a leaf.
-abbrev pub ToldOf : Bytes → Bytes → ℕ → ℕ → Bytes → Compared → Type 0
+abbrev pub ToldOf : Bytes → Bytes → ℕ → ℕ → Bytes → Option ℕ → Type 0
 ToldOf T A link row n r =
     (q : ℕ) → link ≡ q * 2 → q < row → name_start T q + name_length T q ≤ length A
     → Told n (part A (name_start T q) (name_length T q)) r
 
 -- ---- going down
 
--- A name of `len` bytes at `start` may lead through the entries from `first` up to `row`.
-pub record WalkRoom (T A : Bytes) (first row start len : ℕ) : Type 0 where
+-- A name may lead through the entries from `first` up to `row`.
+pub record WalkRoom (T : Bytes) (first row : ℕ) : Type 0 where
   pub table : table_bytes ≤ length T
   pub order : first < row
   pub below : row < max_values
-  pub inside : start + len ≤ length A
 
 -- The link at which a walk in a trie ends.
 pub record Reached (T n : Bytes) (stop first : ℕ) (t : Trie) (at : ℕ) : Type 0 where
@@ -85,6 +80,10 @@ NoNode link first row = first < link / 2 → link / 2 < row → link % 2 ≡ 0
 abbrev pub IsNode : ℕ → ℕ → ℕ → ℕ → Type 0
 IsNode link first row k = (k ≡ link / 2) × (link % 2 ≡ 0 → ⊥) × (first < k) × (k < row)
 
+abbrev pub NodeOf : ℕ → ℕ → ℕ → Option ℕ → Type 0
+NodeOf link first row None = NoNode link first row
+NodeOf link first row (Some k) = IsNode link first row k
+
 -- The number w as a rank r from `from` up to `stop`; not below `stop` if it is none.
 abbrev pub RankOf : ℕ → ℕ → ℕ → ℕ → Type 0
 RankOf w from stop r = (r < stop → (r ≡ w) × (from ≤ r) × (r < 1073741824)) × (stop ≤ r → from ≤ w → stop ≤ w)
@@ -111,7 +110,7 @@ pub record Forked (T : Bytes) (at row rank turn : ℕ) (T' : Bytes) : Type 0 whe
 -- ---- finding a member
 
 -- The row of a slot, if the name in it is this one.
-pub record NamedSlot (T A : Bytes) (slot : ℕ) (n : Bytes) (r : Found) : Type 0 where
+pub record NamedSlot (T A : Bytes) (slot : ℕ) (n : Bytes) (r : Option ℕ) : Type 0 where
   pub is :
       slot + 1 < max_values → name_start T slot + name_length T slot ≤ length A
-      → r ≡ cond (same_bytes n (part A (name_start T slot) (name_length T slot))) (At (slot + 1)) Nowhere
+      → r ≡ cond (same_bytes n (part A (name_start T slot) (name_length T slot))) (Some (slot + 1)) None

@@ -89,18 +89,17 @@ unfoldable pub Indexed : Bytes → ℕ → List (ℕ × Bytes) → Type 0
 Indexed T first [] = Unit {0}
 Indexed T first (m ∷ ms) = Tree T first (m ∷ ms)
 
--- ---- entering the name of `len` bytes at `start`, for the member in the slot `row` of the object whose first is in `first`
+-- ---- entering a name for the member in the slot `row` of the object whose first is in `first`
 
-pub record Room (T A : Bytes) (first row start len : ℕ) : Type 0 where
+pub record Room (T : Bytes) (first row : ℕ) (name : Bytes) : Type 0 where
   pub table : table_bytes ≤ length T
   pub order : first ≤ row
   pub below : row < max_values
-  pub inside : start + len ≤ length A
-  pub short : start + len ≤ max_text_bytes
+  pub short : length name ≤ max_text_bytes
 
 -- Rows stay as they are, and so do the entries before `first`, behind `row`, and of slots that are no member's. The answer tells whether the name is
 -- among those of the members so far; if it is not, the index is then that of these and the new one.
-pub record Entered (T A : Bytes) (first row start len : ℕ) (b : Bool) (T' : Bytes) : Type 0 where
+pub record Entered (T A : Bytes) (first row : ℕ) (name : Bytes) (b : Bool) (T' : Bytes) : Type 0 where
   pub size : length T' ≡ length T
   pub rows : take (max_values * 16) T' ≡ take (max_values * 16) T
   pub kept : (k : ℕ) → k < first → entry T' k ≡ entry T k
@@ -108,4 +107,4 @@ pub record Entered (T A : Bytes) (first row start len : ℕ) (b : Bool) (T' : By
   pub others : (ms : List (ℕ × Bytes)) → Indexed T first ms → Named T A ms → Within first row ms
       → (k : ℕ) → ((n : Bytes) → Has ms k n → ⊥) → (k ≡ row → ⊥) → entry T' k ≡ entry T k
   pub run : (ms : List (ℕ × Bytes)) → Indexed T first ms → Named T A ms → Within first row ms
-      → (b ≡ among (part A start len) (names ms)) × (b ≡ false → Indexed T' first (ms ++ ((row, part A start len) ∷ [])))
+      → (b ≡ among name (names ms)) × (b ≡ false → Indexed T' first (ms ++ ((row, name) ∷ [])))

@@ -13,19 +13,14 @@ use table::node::{Node, Rows, next_row, node_at};
 const FEW: usize = 24;
 
 // A table has an entry for each row but row 0.
+#[tactic(auto, unfolding(model::specs::Limits::max_values, syntax::specs::Layout::row_bytes, syntax::specs::Layout::entry_bytes))]
 fn has_entry(table: &[u8], row: usize) -> bool
     ensures { result ≡ has_entry table.now row }
 {
-    if table.len() < TABLE_BYTES {
-        return false;
-    }
-    if row == 0 {
-        return false;
-    }
-    row <= MAX_VALUES
+    TABLE_BYTES <= table.len() && 0 < row && row <= MAX_VALUES
 }
 
-// The row of the item twice as far as the one in a row; 0 where there is no entry.
+// The row of the item twice as far as the one in a row; 0, and no `None`, where there is no entry: it stands for no item, and a search goes on from it (must-fail: no_entry_gives_the_row).
 fn double_at(table: &[u8], row: usize) -> usize
     ensures { result ≡ double_at table.now row }
 {
@@ -49,16 +44,11 @@ fn link(table: &mut [u8], q: Rows)
 {
     let mut row = q.first;
     let mut far = q.first;
-    let mut left = q.count;
-    while left > 0 {
+    for _ in 0..q.count / 2 + q.count % 2 {
         put_double(table, row, far);
-        if left == 1 {
-            return;
-        }
         row = next_row(table, row);
         let odd = next_row(table, far);
         far = next_row(table, odd);
-        left = left - 2;
     }
 }
 
@@ -67,24 +57,14 @@ fn link(table: &mut [u8], q: Rows)
 pub fn has_index(table: &[u8], row: usize, q: Rows) -> bool
     ensures { result ≡ has_index table.now row q }
 {
-    if q.count <= FEW {
-        return false;
-    }
-    let end = next_row(table, row);
-    if end < q.first {
-        return true;
-    }
-    end - q.first != q.count
+    q.count > FEW && next_row(table, row).checked_sub(q.first) != Some(q.count)
 }
 
 // Whether an array stands in a row.
 fn is_array(table: &[u8], row: usize) -> bool
     ensures { result ≡ false → is_array (node_at table.now row) ≡ 0 }
 {
-    if row >= table.len() / ROW_BYTES {
-        return false;
-    }
-    get_word(table, row * ROW_BYTES) % 256 == ARRAY_ROW
+    row < table.len() / ROW_BYTES && get_word(table, row * ROW_BYTES) % 256 == ARRAY_ROW
 }
 
 // Enters the items of an array in a row, if it is to have an index.
@@ -95,13 +75,10 @@ fn link_row(table: &mut [u8], row: usize)
     if !is_array(table, row) {
         return;
     }
-    match node_at(table, row) {
-        Node::Array(q) => {
-            if has_index(table, row, q) {
-                link(table, q);
-            }
+    if let Node::Array(q) = node_at(table, row) {
+        if has_index(table, row, q) {
+            link(table, q);
         }
-        _ => {}
     }
 }
 
@@ -109,10 +86,8 @@ fn link_row(table: &mut [u8], row: usize)
 fn link_rows(table: &mut [u8], rows: usize)
     ensures { table.new ≡ link_rows table.old 0 rows }
 {
-    let mut row = 0;
-    while row < rows {
+    for row in 0..rows {
         link_row(table, row);
-        row = row + 1;
     }
 }
 
@@ -120,13 +95,12 @@ fn link_rows(table: &mut [u8], rows: usize)
 pub fn link_items(table: &mut [u8], rows: usize)
     ensures { table.new ≡ link_items table.old rows }
 {
-    if rows <= FEW + 2 {
-        return;
+    if rows > FEW + 2 {
+        link_rows(table, rows);
     }
-    link_rows(table, rows);
 }
 
-// The row of the item so many after the first, in an array that has an index.
+// The row of the item so many after the first, in an array that has an index. The loop goes by the digit itself, which is compared and taken off.
 pub fn item_row(table: &[u8], first: usize, at: usize) -> usize
     ensures { result ≡ item_row table.now first at }
 {
@@ -137,9 +111,9 @@ pub fn item_row(table: &[u8], first: usize, at: usize) -> usize
         row = double_at(table, row);
         if digit <= rest {
             row = next_row(table, row);
-            rest = rest - digit;
+            rest -= digit;
         }
-        digit = digit / 2;
+        digit /= 2;
     }
     row
 }

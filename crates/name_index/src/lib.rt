@@ -3,20 +3,23 @@
 
 ghost use Rattle.std.specs.Prelude.{◌≡◌, ◌+◌, ◌*◌, ◌≤◌, ◌<◌, length};
 ghost use Rattle.model.specs.Limits.{max_values, max_text_bytes};
-ghost use Rattle.name_index.specs.Bits.{part, symbol_at, bit_at};
+ghost use Rattle.name_index.specs.Bits.{symbol_at, bit_at};
 ghost use Rattle.name_index.specs.Contract.{EnterRoom};
 ghost use Rattle.name_index.specs.Contract as index;
 ghost use Rattle.syntax.specs.Layout.{table_bytes};
 ghost use Rattle.name_index.specs.Slots.{place, side, link_in, rank_in, Room, Entered};
-ghost use Rattle.name_index.specs.Inner.{Common, Highest, Told, Ranked, ToldOf, WalkRoom, Descended, Stopped, NoNode, IsNode, RankOf, noded, Forked};
+ghost use Rattle.name_index.specs.Inner.{Common, Highest, Told, Ranked, ToldOf, WalkRoom, Descended, Stopped, NodeOf, RankOf, noded, Forked};
 ghost use Rattle.area.specs.Words.{word_at};
 
 pub mod find;
 pub mod items;
+pub mod text;
 
 use area::{get_word, put_word};
 use model::MAX_VALUES;
 use syntax::{ENTRY_BYTES, ROW_BYTES};
+use table::node::name_at;
+use table::string::bytes_of;
 
 // A link is below this; a word of an entry has one, and a part of a rank above it.
 const LINKS: usize = 131072;
@@ -26,13 +29,6 @@ const LOW_RANKS: usize = 32768;
 
 // Above every rank.
 const NO_STOP: usize = 1073741824;
-
-// How two names compare: the first rank in which they differ.
-#[derive(Clone, Copy)]
-enum Compared {
-    Same,
-    Differ(usize),
-}
 
 // Where a way down ends: the last link and where it lies. The ranks of the nodes passed are below `from`.
 #[derive(Clone, Copy)]
@@ -55,33 +51,26 @@ pub fn enter(
     requires { EnterRoom table.old strings.now first row start len }
     ensures { index.Entered table.old strings.now first row start len result table.new }
 {
-    enter_slot(table, strings, first - 1, row - 1, start, len)
+    let name = &strings[start..start + len];
+    enter_slot(table, strings, first - 1, row - 1, name)
 }
 
 // The same by slots: the slot of a member is the number of its row, less one.
-fn enter_slot(
-    table: &mut [u8],
-    strings: &[u8],
-    first: usize,
-    row: usize,
-    start: usize,
-    len: usize,
-) -> bool
-    requires { Room table.old strings.now first row start len }
-    ensures { Entered table.old strings.now first row start len result table.new }
+fn enter_slot(table: &mut [u8], strings: &[u8], first: usize, row: usize, name: &[u8]) -> bool
+    requires { Room table.old first row name.now }
+    ensures { Entered table.old strings.now first row name.now result table.new }
 {
     if row == first {
         put_word(table, entry_at(first), row * 2);
         return false;
     }
-    let end = descend(table, strings, first, row, start, len, NO_STOP);
-    let told = compare(table, strings, end.link, row, start, len);
-    match told {
-        Compared::Same => true,
-        Compared::Differ(rank) => {
-            let at = slot(table, strings, first, row, start, len, rank, end);
-            let side = turn(strings, start, len, rank);
-            fork(table, at, row, rank, side);
+    let end = descend(table, name, first, row, NO_STOP);
+    match compare(table, strings, end.link, name) {
+        None => true,
+        Some(rank) => {
+            let at = slot(table, name, first, row, rank, end);
+            let right = turn(name, rank);
+            fork(table, at, row, rank, right);
             false
         }
     }
@@ -96,55 +85,37 @@ fn entry_at(row: usize) -> usize
 }
 
 // Where the node of a rank belongs, after the way down that no rank stopped: at its end, if only lower ranks were passed.
-fn slot(
-    table: &[u8],
-    strings: &[u8],
-    first: usize,
-    row: usize,
-    start: usize,
-    len: usize,
-    rank: usize,
-    end: Ended,
-) -> usize
-    requires { Room table.now strings.now first row start len × (first < row) × Stopped table.now (part strings.now start len) first row 1073741824 end }
-    ensures { Descended table.now (part strings.now start len) first row rank result }
+fn slot(table: &[u8], name: &[u8], first: usize, row: usize, rank: usize, end: Ended) -> usize
+    requires { WalkRoom table.now first row × Stopped table.now name.now first row 1073741824 end }
+    ensures { Descended table.now name.now first row rank result }
 {
     if end.from <= rank {
         return end.at;
     }
-    let again = descend(table, strings, first, row, start, len, rank);
+    let again = descend(table, name, first, row, rank);
     again.at
 }
 
 // Follows the bits of a name from the root through nodes of ranks below `stop`. That the left way asks for a leaf at once
 // keeps the compiler from making one load of the two: a processor that foresees the way need not wait for the name's byte.
-fn descend(
-    table: &[u8],
-    strings: &[u8],
-    first: usize,
-    row: usize,
-    start: usize,
-    len: usize,
-    stop: usize,
-) -> Ended
-    requires { WalkRoom table.now strings.now first row start len }
-    ensures { Stopped table.now (part strings.now start len) first row stop result }
+fn descend(table: &[u8], name: &[u8], first: usize, row: usize, stop: usize) -> Ended
+    requires { WalkRoom table.now first row }
+    ensures { Stopped table.now name.now first row stop result }
 {
     let mut at = entry_at(first);
     let mut link = link_at(table, at);
     let mut from = 0;
     loop {
-        let node = node_of(link, first, row);
-        if node == 0 {
+        let Some(node) = node_of(link, first, row) else {
             return Ended { at, from, link };
-        }
+        };
         let entry = entry_at(node);
         let rank = rank_of(table, entry, from, stop);
         if stop <= rank {
             return Ended { at, from, link };
         }
         from = rank + 1;
-        if turn(strings, start, len, rank) == 0 {
+        if !turn(name, rank) {
             at = entry;
             link = link_at(table, at);
             if link % 2 == 0 {
@@ -157,21 +128,15 @@ fn descend(
     }
 }
 
-// The row of the node to which a link leads, between two others; 0 if there is none.
-fn node_of(link: usize, first: usize, row: usize) -> usize
-    ensures { (result ≡ 0 → NoNode link first row) × ((result ≡ 0 → ⊥) → IsNode link first row result) }
+// The row of the node to which a link leads, between two others.
+fn node_of(link: usize, first: usize, row: usize) -> Option<usize>
+    ensures { NodeOf link first row result }
 {
     let node = link / 2;
-    if link % 2 == 0 {
-        return 0;
+    if link % 2 == 0 || node <= first || row <= node {
+        return None;
     }
-    if node <= first {
-        return 0;
-    }
-    if row <= node {
-        return 0;
-    }
-    node
+    Some(node)
 }
 
 // The link in a word of an entry.
@@ -182,7 +147,7 @@ fn link_at(table: &[u8], at: usize) -> usize
     get_word(table, at) % LINKS
 }
 
-// The rank in an entry; `stop` if it is below `from`.
+// The rank in an entry; `stop` if it is below `from`, and no `None`: so the search asks once, of both.
 fn rank_of(table: &[u8], entry: usize, from: usize, stop: usize) -> usize
     requires { entry + 8 ≤ length table.now }
     ensures { RankOf (rank_in (word_at table.now entry) (word_at table.now (entry + 4))) from stop result }
@@ -196,80 +161,59 @@ fn rank_of(table: &[u8], entry: usize, from: usize, stop: usize) -> usize
     rank
 }
 
-// Where in a node's entry the word of the link lies that a name takes: 0 or 4.
-fn turn(strings: &[u8], start: usize, len: usize, rank: usize) -> usize
-    requires { start + len ≤ length strings.now }
-    ensures { result ≡ side (bit_at (part strings.now start len) rank) }
+// Whether a name goes right at a node: its bit of the node's rank.
+#[tactic(auto, unfolding(crate::specs::Bits::bit_at))]
+fn turn(name: &[u8], rank: usize) -> bool
+    ensures { result ≡ bit_at name.now rank }
 {
-    let s = symbol(strings, start, len, rank / 16);
-    (s >> (15 - rank % 16)) % 2 * 4
+    let s = symbol(name, rank / 16);
+    (s >> (15 - rank % 16)) % 2 == 1
 }
 
 // The byte at a place of a name, and 256; 0 past its end.
-fn symbol(strings: &[u8], start: usize, len: usize, p: usize) -> usize
-    requires { start + len ≤ length strings.now }
-    ensures { (result ≡ symbol_at (part strings.now start len) p) × (result < 512) }
+#[tactic(auto, using(crate::proofs::Bits::symbol_past, crate::proofs::Bits::symbol_in))]
+fn symbol(name: &[u8], p: usize) -> usize
+    ensures { (result ≡ symbol_at name.now p) × (result < 512) }
 {
-    if len <= p {
+    if name.len() <= p {
         return 0;
     }
-    256 + strings[start + p] as usize
+    256 + usize::from(name[p])
 }
 
-// Compares a name with that of the row of a leaf.
-fn compare(
-    table: &[u8],
-    strings: &[u8],
-    link: usize,
-    row: usize,
-    start: usize,
-    len: usize,
-) -> Compared
-    requires { (table_bytes ≤ length table.now) × (row < max_values) × (start + len ≤ length strings.now) × (start + len ≤ max_text_bytes) }
-    ensures { ToldOf table.now strings.now link row (part strings.now start len) result × Ranked result }
+// The first rank in which a name differs from that of the row of a leaf; none if the two are the same.
+fn compare(table: &[u8], strings: &[u8], link: usize, name: &[u8]) -> Option<usize>
+    requires { (table_bytes ≤ length table.now) × (length name.now ≤ max_text_bytes) }
+    ensures { ToldOf table.now strings.now link max_values name.now result × Ranked result }
 {
-    let other = link / 2;
-    if row <= other {
-        return Compared::Same;
-    }
-    let n = get_word(table, other * 16 + 16) / 256;
-    let b = get_word(table, other * 16 + 20);
-    if strings.len() < b + n {
-        return Compared::Same;
-    }
-    critical(strings, start, len, b, n)
+    let row = link / 2 + 1;
+    critical(name, bytes_of(strings, name_at(table, row)))
 }
 
-// Compares the m bytes at a with the n bytes at b.
-fn critical(strings: &[u8], a: usize, m: usize, b: usize, n: usize) -> Compared
-    requires { (a + m ≤ length strings.now) × (b + n ≤ length strings.now) × (m ≤ max_text_bytes) }
-    ensures { Told (part strings.now a m) (part strings.now b n) result }
+// The first rank in which two names differ.
+fn critical(a: &[u8], b: &[u8]) -> Option<usize>
+    requires { length a.now ≤ max_text_bytes }
+    ensures { Told a.now b.now result }
 {
-    let p = common(strings, a, m, b, n);
-    let x = symbol(strings, a, m, p);
-    let y = symbol(strings, b, n, p);
+    let p = common(a, b);
+    let x = symbol(a, p);
+    let y = symbol(b, p);
     if x == y {
-        return Compared::Same;
+        return None;
     }
-    Compared::Differ(p * 16 + high(x, y))
+    Some(p * 16 + high(x, y))
 }
 
-// How many bytes at a and at b are the same.
-fn common(strings: &[u8], a: usize, m: usize, b: usize, n: usize) -> usize
-    requires { (a + m ≤ length strings.now) × (b + n ≤ length strings.now) }
-    ensures { Common strings.now a m b n result }
+// How many bytes at the front of two names are the same.
+fn common(a: &[u8], b: &[u8]) -> usize
+    ensures { Common a.now b.now result }
 {
-    let mut p = 0;
-    while p < m {
-        if n <= p {
+    for (p, byte) in a.iter().enumerate() {
+        if b.len() <= p || *byte != b[p] {
             return p;
         }
-        if strings[a + p] != strings[b + p] {
-            return p;
-        }
-        p += 1;
     }
-    p
+    a.len()
 }
 
 // The highest of sixteen bits in which two symbols differ, counted from the highest.
@@ -281,18 +225,18 @@ fn high(x: usize, y: usize) -> usize
 }
 
 // Puts the node of `row` at a link: the new leaf on its side, what hung there on the other.
-fn fork(table: &mut [u8], at: usize, row: usize, rank: usize, side: usize)
+fn fork(table: &mut [u8], at: usize, row: usize, rank: usize, right: bool)
     requires { (table_bytes ≤ length table.old) × (row < max_values) × (at + 4 ≤ length table.old) × (rank < 1073741824) }
-    ensures { Forked table.old at row rank side table.new }
+    ensures { Forked table.old at row rank (side right) table.new }
 {
     let word = get_word(table, at);
     let old = word % LINKS;
     put_word(table, at, word - old + (row * 2 + 1));
-    if side == 0 {
+    if right {
+        put_node(table, row, rank, old, row * 2);
+    } else {
         put_node(table, row, rank, row * 2, old);
-        return;
     }
-    put_node(table, row, rank, old, row * 2);
 }
 
 // The entry of a node: its links and its rank.

@@ -1,4 +1,1 @@
-pub mod Bytewise
-pub mod Fragments
 pub mod Paths
-pub mod Search

@@ -2,19 +2,16 @@
 use mathlib.Core.Path.{◌≡◌, refl, sym, ap, ◌∙◌}
 use mathlib.Core.Bool.{Bool, true, false, ◌&&◌, not, cond}
 use mathlib.Core.List.{List, [], ◌∷◌}
-use mathlib.Core.Option.{some}
-use Prim.Native.Nat.{ℕ, ◌+◌, ◌≤◌, ◌<◌}
-use native.Mathlib.Numerals.{add-one}
+use Rattle.std.specs.Prelude.{Some}
+use Prim.Native.Nat.{ℕ, ◌≤◌}
 use native.Mathlib.Omega.{arith}
 use lib.Dec.{eqb}
-use lib.ListN.{length, drop, drop_of_length-le, get_or}
-use lib.Seq.{drop-cons}
+use lib.ListN.{length}
 use Rattle.model.specs.Bytes.{Bytes, byte, cons_head, split_on}
 use Rattle.model.specs.Lists.{all}
 use Rattle.model.specs.Option.{is_some, when}
 use Rattle.model.specs.Path.{path_of}
 use Rattle.octets.specs.Inner.{fragments}
-use Rattle.octets.specs.Laws.Fragment.{eqb_sym}
 
 -- ---- paths
 -- The fragments from the first or from the second on, by whether the first one may be empty.
@@ -46,7 +43,7 @@ module _ (full : Bytes → Bool) (none-full : full [] ≡ false) (some-full : (x
       go k false true = k false ∙ sym (cons_all x (dots s))
       go k false false = k false ∙ ap (all full) (sym (cons_from x (dots s)))
 
-when_some : {A : Type 0} (b : Bool) (a : A) → is_some (when b (some a)) ≡ b
+when_some : {A : Type 0} (b : Bool) (a : A) → is_some (when b (Some a)) ≡ b
 when_some true a = refl
 when_some false a = refl
 
@@ -57,20 +54,3 @@ path_fragments (x ∷ s) n = when_some _ _ ∙ sym (fragments_are _ refl (λ y t
 pub no_path : (s : Bytes) → length s ≡ 0 → is_some (path_of s) ≡ true
 no_path [] e = refl
 no_path (x ∷ s) e = absurd (omega arith)
-
--- ---- byte by byte
-module _ (s : Bytes) (i : ℕ) where
-  fragments_on : (empty : Bool) → i < length s → fragments empty (drop i s) ≡ cond (eqb (byte ".") (get_or s i 0)) (not empty && fragments true (drop (i + 1) s)) (fragments false (drop (i + 1) s))
-  fragments_on empty h = rw (add-one, drop-cons s i 0 h)
-
-  pub fragments_end : (empty : Bool) → length s ≤ i → fragments empty (drop i s) ≡ not empty
-  fragments_end empty h = rw (drop_of_length-le s h)
-
-  pub stops : (empty : Bool) → i < length s → eqb (get_or s i 0) (byte ".") ≡ true → empty ≡ true → fragments empty (drop i s) ≡ false
-  stops empty h d e = fragments_on empty h ∙ rw (eqb_sym (byte ".") (get_or s i 0), d, e)
-
-  pub goes_on_dot : (empty : Bool) → i < length s → eqb (get_or s i 0) (byte ".") ≡ true → empty ≡ false → fragments empty (drop i s) ≡ fragments (eqb (get_or s i 0) (byte ".")) (drop (i + 1) s)
-  goes_on_dot empty h d e = fragments_on empty h ∙ rw (eqb_sym (byte ".") (get_or s i 0), d, e)
-
-  pub goes_on : (empty : Bool) → i < length s → eqb (get_or s i 0) (byte ".") ≡ false → fragments empty (drop i s) ≡ fragments (eqb (get_or s i 0) (byte ".")) (drop (i + 1) s)
-  goes_on empty h d = fragments_on empty h ∙ rw (eqb_sym (byte ".") (get_or s i 0), d)

@@ -4,29 +4,21 @@ ghost use Rattle.octets.specs.Contract.{place_from};
 
 use crate::same;
 
-#[derive(Clone, Copy)]
-pub enum Position {
-    Nowhere,
-    At(usize),
-}
-
 // The first place of a name among others. Each of them has a space after it; `sizes` has the length of each.
-pub fn position_of(names: &[u8], sizes: &[u8], name: &[u8]) -> Position
+// The two stay apart, and are no list of names: what is told where the names end before the sizes do is promised too (must-fail: place_past_the_names).
+pub fn position_of(names: &[u8], sizes: &[u8], name: &[u8]) -> Option<usize>
     ensures { result ≡ place_from 0 name.now names.now sizes.now }
 {
-    let mut at: usize = 0;
-    let mut i: usize = 0;
-    while i < sizes.len() {
-        let size = sizes[i] as usize;
-        if names.len() - at <= size {
-            return Position::Nowhere;
+    let mut rest = names;
+    for (i, size) in sizes.iter().enumerate() {
+        let size = usize::from(*size);
+        if rest.len() <= size {
+            return None;
         }
-        let end = at + size;
-        if same(name, &names[at..end]) {
-            return Position::At(i);
+        if same(name, &rest[..size]) {
+            return Some(i);
         }
-        at = end + 1;
-        i = i + 1;
+        rest = &rest[size + 1..];
     }
-    Position::Nowhere
+    None
 }

@@ -10,15 +10,13 @@ ghost use Rattle.model.specs.Path.{path_of};
 fn has_fragments(text: &[u8]) -> bool
     ensures { result ≡ fragments true text.now }
 {
-    let mut i = 0;
     let mut empty = true;
-    while i < text.len() {
-        let dot = text[i] == b'.';
+    for b in text {
+        let dot = *b == b'.';
         if dot && empty {
             return false;
         }
         empty = dot;
-        i = i + 1;
     }
     !empty
 }
@@ -28,37 +26,25 @@ fn has_fragments(text: &[u8]) -> bool
 pub fn is_path(text: &[u8]) -> bool
     ensures { result ≡ is_some (path_of text.now) }
 {
-    if text.len() == 0 {
-        return true;
-    }
-    has_fragments(text)
+    text.is_empty() || has_fragments(text)
 }
 
 // Whether a byte is one of these.
 fn is_one_of(x: u8, bytes: &[u8]) -> bool
     ensures { result ≡ any (eqb x) bytes.now }
 {
-    let mut i = 0;
-    while i < bytes.len() {
-        if x == bytes[i] {
-            return true;
-        }
-        i = i + 1;
-    }
-    false
+    bytes.contains(&x)
 }
 
 // Where the fragment that begins at `at` ends: at a separator, or with the text.
-#[tactic(auto, using(crate::proofs::Fragments::length_stops, crate::proofs::Fragments::length_on, crate::proofs::Fragments::length_ends))]
+#[tactic(auto, unfolding(crate::specs::Fragment::fragment_length))]
 pub fn fragment_end(text: &[u8], at: usize, separators: &[u8]) -> usize
     ensures { result ≡ at + fragment_length separators.now (drop at text.now) }
 {
-    let mut end = at;
-    while end < text.len() {
-        if is_one_of(text[end], separators) {
-            return end;
+    for i in at..text.len() {
+        if is_one_of(text[i], separators) {
+            return i;
         }
-        end = end + 1;
     }
-    end
+    at.max(text.len())
 }

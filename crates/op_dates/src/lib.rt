@@ -6,12 +6,13 @@ ghost use Rattle.model.specs.Result.{ok};
 ghost use Rattle.op_dates.specs.Inner.{operated, Moves, Unbiased};
 ghost use Rattle.op_dates.specs.Contract.{Born, Shifts};
 
-use calendar::instant::{DateAnswer, Instant, InstantAnswer};
+use calendar::instant::Instant;
 use dates::{read_date, read_day};
 use heap::handle::Handle;
 use heap::string::bytes;
 use instants::shift::shift;
 use model::TimeUnit;
+use model::refusal::Fault;
 use op_result::Operated;
 use syntax::BIAS;
 
@@ -19,7 +20,7 @@ use syntax::BIAS;
 fn instant(t: Instant) -> Operated
     ensures { result ≡ operated (ok t.ms) }
 {
-    Operated::Value(Handle::Instant(t.since_year_0()))
+    Ok(Handle::Instant(t.since_year_0()))
 }
 
 // The integer to which 2^53 was added.
@@ -33,13 +34,12 @@ fn signed(biased: u64) -> i64
 fn moved(t: Instant, amount: u64, unit: TimeUnit) -> Operated
     ensures { Moves t.ms amount unit result }
 {
-    match shift(t, signed(amount), unit) {
-        InstantAnswer::At(u) => instant(u),
-        InstantAnswer::OutOfRange => Operated::OutOfRange,
-    }
+    let shifted = shift(t, signed(amount), unit)?;
+    instant(shifted)
 }
 
 // 2^53 was added to the amount.
+#[tactic(auto, using(crate::proofs::Instants::shifts_no_string))]
 pub fn plus_time<'a>(
     rule_strings: &'a [u8],
     record_strings: &'a [u8],
@@ -50,24 +50,18 @@ pub fn plus_time<'a>(
     ensures { Shifts rule_strings.now record_strings.now amount unit h result }
 {
     let Handle::String(s) = h else {
-        return Operated::WrongKind;
+        return Err(Fault::WrongKind);
     };
-    match read_date(bytes(rule_strings, record_strings, s)) {
-        DateAnswer::At(t) => moved(t, amount, unit),
-        DateAnswer::BadDate => Operated::BadDate,
-        DateAnswer::OutOfRange => Operated::OutOfRange,
-    }
+    let t = read_date(bytes(rule_strings, record_strings, s))?;
+    moved(t, amount, unit)
 }
 
+#[tactic(auto, using(crate::proofs::Instants::born_no_string))]
 pub fn date_of_birth<'a>(rule_strings: &'a [u8], record_strings: &'a [u8], h: Handle) -> Operated
     ensures { Born rule_strings.now record_strings.now h result }
 {
     let Handle::String(s) = h else {
-        return Operated::WrongKind;
+        return Err(Fault::WrongKind);
     };
-    match read_day(bytes(rule_strings, record_strings, s)) {
-        DateAnswer::At(t) => instant(t),
-        DateAnswer::BadDate => Operated::BadDate,
-        DateAnswer::OutOfRange => Operated::OutOfRange,
-    }
+    instant(read_day(bytes(rule_strings, record_strings, s))?)
 }

@@ -1,5 +1,5 @@
 -- Contract: what `value_at` promises: the handle of the value at a path.
-use Rattle.std.proofs.Math.Option.{some}
+use Rattle.std.specs.Prelude.{Some}
 use Rattle.std.specs.Prelude.{◌≡◌, ℕ, ◌≤◌}
 use Rattle.model.specs.Bytes.{Bytes}
 use Rattle.model.specs.Limits.{heap_cells}
@@ -13,7 +13,7 @@ use Rattle.heap.specs.Unfold.{areas}
 pub record Leads (s B T C : Bytes) (context r : Handle) : Type 0 where
   pub leads :
       (A : Bytes) (top : ℕ) (q : Path) (c : Value)
-      → path_of s ≡ some q
+      → path_of s ≡ Some q
       → top ≤ heap_cells
       → Means (areas A B T C) top c context
       → Means (areas A B T C) top (value_at q c) r

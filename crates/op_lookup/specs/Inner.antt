@@ -1,11 +1,12 @@
 -- Inner: what the private functions do.
-use Rattle.std.specs.Prelude.{cond, ◌≡◌, ℕ, ◌+◌, ◌≤◌}
+use Rattle.std.specs.Prelude.{Option, None, Some, cond, ◌≡◌, ℕ, ◌+◌, ◌≤◌}
 use Rattle.model.specs.Bytes.{Bytes, same_bytes}
 use Rattle.model.specs.Eval.{current, accumulator}
 use Rattle.model.specs.Limits.{heap_cells}
 use Rattle.model.specs.Option.{◌>>=◌}
 use Rattle.model.specs.Path.{index_of, item_at, part}
 use Rattle.model.specs.Value.{Value, array, Values}
+use Rattle.table.specs.declared.node.Node.{Node}
 use Rattle.table.specs.declared.node.Node.TheVariants as nodes
 use Rattle.table.specs.declared.node.Rows.{Rows}
 use Rattle.table.specs.Node.{rows}
@@ -18,24 +19,22 @@ use Rattle.heap.specs.declared.handle.Parts.{Parts}
 use Rattle.heap.specs.Cells.{cell_handle}
 use Rattle.heap.specs.Means.{Means}
 use Rattle.heap.specs.Unfold.{areas}
-use Rattle.op_lookup.specs.declared.Place.{Place}
-use Rattle.op_lookup.specs.declared.Place.TheVariants.{Record, Cells}
 
 -- ---- where a value lies
 -- By what its parts are.
-abbrev pub place_by : Form → Rows → Place
-place_by Items q = Record (nodes.Array q)
-place_by Members q = Record (nodes.Object q)
-place_by List q = Cells
-place_by Context q = Cells
+abbrev pub place_by : Form → Rows → Option Node
+place_by Items q = Some (nodes.Array q)
+place_by Members q = Some (nodes.Object q)
+place_by List q = None
+place_by Context q = None
 
-abbrev pub place_of : Handle → Place
-place_of Null = Cells
-place_of False = Cells
-place_of True = Cells
-place_of (Integer n) = Cells
-place_of (Instant n) = Cells
-place_of (String s) = Cells
+abbrev pub place_of : Handle → Option Node
+place_of Null = None
+place_of False = None
+place_of True = None
+place_of (Integer n) = None
+place_of (Instant n) = None
+place_of (String s) = None
 place_of (Compound p) = place_by p.form (rows p.first p.count)
 
 -- ---- cells
@@ -61,6 +60,6 @@ pub record PartNamed (f C : Bytes) (h r : Handle) : Type 0 where
   pub means :
       (A B T : Bytes) (top : ℕ) (v : Value)
       → top ≤ heap_cells
-      → place_of h ≡ Cells
+      → place_of h ≡ None
       → Means (areas A B T C) top v h
       → Means (areas A B T C) top (or_null (part f v)) r

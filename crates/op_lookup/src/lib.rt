@@ -3,55 +3,42 @@
 
 ghost use Rattle.std.specs.Prelude.{◌≡◌, ◌+◌};
 ghost use Rattle.heap.specs.Cells.{cell_handle};
-ghost use Rattle.name_index.specs.Table.{IndexedTable};
 ghost use Rattle.op_lookup.specs.Contract.{Leads};
 ghost use Rattle.op_lookup.specs.Inner.{place_of, member_of, ItemNamed, PartNamed};
 
-use heap::cell::{CELL_BYTES, get};
-use heap::handle::{Form, Handle, Parts, of_node};
+use heap::cell::get;
+use heap::handle::{Form, Handle, Parts};
+use name_index::text::IndexedText;
 use octets::path::fragment_end;
 use octets::same;
 use paths::find;
-use paths::index::{Index, read_index};
+use paths::index::read_index;
 use table::node::{Node, Rows};
 
-// Where a value lies: in the record, where its node is this; or in cells, if it has parts.
-#[derive(Clone, Copy)]
-enum Place {
-    Record(Node),
-    Cells,
-}
-
-// Where a value lies.
-fn place_of(h: Handle) -> Place
+// The node of a value that lies in the record; none of one that lies in cells, or has no parts.
+fn place_of(h: Handle) -> Option<Node>
     ensures { result ≡ place_of h }
 {
     let Handle::Compound(p) = h else {
-        return Place::Cells;
+        return None;
     };
-    let form = p.form;
-    let first = p.first;
-    let count = p.count;
+    let Parts { form, first, count } = p;
     match form {
-        Form::Items => Place::Record(Node::Array(Rows { first, count })),
-        Form::Members => Place::Record(Node::Object(Rows { first, count })),
-        Form::List => Place::Cells,
-        Form::Context => Place::Cells,
+        Form::Items => Some(Node::Array(Rows { first, count })),
+        Form::Members => Some(Node::Object(Rows { first, count })),
+        Form::List | Form::Context => None,
     }
 }
 
 // The handle so many cells after a cell; null where there is no such cell.
+#[tactic(auto, using(crate::proofs::Parts::no_cell))]
 fn cell_after(cells: &[u8], cell: usize, at: usize) -> Handle
     ensures { result ≡ cell_handle cells.now (cell + at) }
 {
-    let count = cells.len() / CELL_BYTES;
-    if cell >= count {
+    let Some(there) = cell.checked_add(at) else {
         return Handle::Null;
-    }
-    if at >= count - cell {
-        return Handle::Null;
-    }
-    get(cells, cell + at)
+    };
+    get(cells, there)
 }
 
 // The member of a context, which has `current` in a cell and `accumulator` in the next.
@@ -71,7 +58,7 @@ fn member(fragment: &[u8], cells: &[u8], cell: usize) -> Handle
 fn item_named(fragment: &[u8], cells: &[u8], p: Parts) -> Handle
     ensures { ItemNamed fragment.now cells.now p result }
 {
-    let Index::At(at) = read_index(fragment) else {
+    let Some(at) = read_index(fragment) else {
         return Handle::Null;
     };
     if at >= p.count {
@@ -85,44 +72,28 @@ fn part(fragment: &[u8], cells: &[u8], h: Handle) -> Handle
     ensures { PartNamed fragment.now cells.now h result }
 {
     match h {
-        Handle::Compound(p) => {
-            let form = p.form;
-            match form {
-                Form::List => item_named(fragment, cells, p),
-                Form::Context => member(fragment, cells, p.first),
-                Form::Items => Handle::Null,
-                Form::Members => Handle::Null,
-            }
-        }
+        Handle::Compound(p) => match p.form {
+            Form::List => item_named(fragment, cells, p),
+            Form::Context => member(fragment, cells, p.first),
+            Form::Items | Form::Members => Handle::Null,
+        },
         _ => Handle::Null,
     }
 }
 
 // The value at a path, which has the form that 01 wants of `var`, in a context; null where there is none.
-pub fn value_at(
-    path: &[u8],
-    record_strings: &[u8],
-    record_table: &[u8],
-    cells: &[u8],
-    context: Handle,
-) -> Handle
-    requires { IndexedTable record_table.now record_strings.now }
-    ensures { Leads path.now record_strings.now record_table.now cells.now context result }
+pub fn value_at(path: &[u8], text: IndexedText, cells: &[u8], context: Handle) -> Handle
+    ensures { Leads path.now text.entry.strings.now text.entry.table.now cells.now context result }
 {
     let mut h = context;
     let mut at: usize = 0;
     while at < path.len() {
-        let place = place_of(h);
-        match place {
-            Place::Record(n) => {
-                return of_node(find(&path[at..], record_table, record_strings, n));
-            }
-            Place::Cells => {
-                let end = fragment_end(path, at, b".");
-                h = part(&path[at..end], cells, h);
-                at = end + 1;
-            }
+        if let Some(n) = place_of(h) {
+            return Handle::from(find(&path[at..], text, n));
         }
+        let end = fragment_end(path, at, b".");
+        h = part(&path[at..end], cells, h);
+        at = end + 1;
     }
     h
 }

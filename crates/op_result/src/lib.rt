@@ -2,11 +2,6 @@
 #![tactic(auto)]
 
 use heap::handle::Handle;
+use model::refusal::Fault;
 
-#[derive(Clone, Copy)]
-pub enum Operated {
-    Value(Handle),
-    WrongKind,
-    BadDate,
-    OutOfRange,
-}
+pub type Operated = Result<Handle, Fault>;

@@ -1,5 +1,7 @@
 -- Sums: the sum of two integers from the numbers in their handles.
-use mathlib.Core.Path.{◌≡◌, ap, ◌∙◌}
+use Rattle.std.specs.Prelude.{Ok, Err}
+use mathlib.Core.Logic.{◌⊎◌, inl, inr}
+use mathlib.Core.Path.{◌≡◌, refl, ap, ◌∙◌}
 use mathlib.Core.Bool.{true, false, ◌&&◌}
 use Prim.Native.Nat.{ℕ, ◌+◌, ◌-◌, ◌≤◌, ◌<◌}
 use native.Mathlib.Omega.{arith}
@@ -8,7 +10,7 @@ use lib.Dec.{leb}
 use lib.IntN.{ℤ, ◌+ℤ◌}
 use Rattle.model.proofs.Laws.Logic.{true→t}
 use Rattle.model.specs.Operations as operations
-use Rattle.model.specs.Refusal.{out_of_range}
+use Rattle.model.specs.declared.refusal.Fault.TheVariants.{WrongKind, OutOfRange}
 use Rattle.model.specs.Result.{Result, ok, provided}
 use Rattle.model.specs.Value.{Value, scalar, integer, as_integer, within_limits}
 use Rattle.heap.specs.declared.handle.Handle.{Handle}
@@ -16,9 +18,7 @@ use Rattle.heap.specs.declared.handle.Handle.TheVariants.{Integer}
 use Rattle.syntax.proofs.Laws.Biased.{biased_small}
 use Rattle.heap.specs.Means.{Means, means_integer}
 use Rattle.heap.specs.Unfold.{Areas}
-use Rattle.op_result.specs.Contract.{Gives, gives_value, gives_out_of_range}
-use Rattle.op_result.specs.declared.Operated.{Operated}
-use Rattle.op_result.specs.declared.Operated.TheVariants as Operateds
+use Rattle.op_result.specs.Contract.{Answered, Gives, gives_value, gives_fault}
 use Rattle.op_scalars.specs.Contract.{Sum}
 use Rattle.op_scalars.specs.Inner.{Raised}
 use Rattle.op_scalars.proofs.Answers.{first_wrong, second_wrong}
@@ -27,21 +27,21 @@ use Rattle.op_scalars.proofs.Raised.{sum_raised, limits_raised, biased_raised, b
 
 -- An integer within the limits, or 9.
 abbrev limited : ℤ → Result Value
-limited z = provided (within_limits z) out_of_range (ok (scalar (integer z)))
+limited z = provided (within_limits z) OutOfRange (ok (scalar (integer z)))
 
 abbrev summed : ℤ → ℤ → Result Value
 summed y z = limited (y +ℤ z)
 
 -- ---- an operand of another kind
-pub sum_first : {x y : Handle} {r : Operated} → NotInteger x → r ≡ Operateds.WrongKind → Sum x y r
-sum_first k w = record { gives = λ a top v u m n. first_wrong summed (as_integer v) (as_integer u) (no_integer m k) w }
+pub sum_first : {x y : Handle} → NotInteger x → Sum x y (Err WrongKind)
+sum_first k = record { gives = λ a top v u m n. first_wrong summed (as_integer v) (as_integer u) (no_integer m k) }
 
-pub sum_second : {x y : Handle} {r : Operated} → NotInteger y → r ≡ Operateds.WrongKind → Sum x y r
-sum_second k w = record { gives = λ a top v u m n. second_wrong summed (as_integer v) (as_integer u) (no_integer n k) w }
+pub sum_second : {x y : Handle} → NotInteger y → Sum x y (Err WrongKind)
+sum_second k = record { gives = λ a top v u m n. second_wrong summed (as_integer v) (as_integer u) (no_integer n k) }
 
 -- ---- two integers
 -- What is shown of the sum by the numbers in their handles, which raise it twice as much, is shown of them.
-raised_sum : {m n : ℕ} {r : Operated}
+raised_sum : {m n : ℕ} {r : Answered}
     → ((a : Areas) (top : ℕ) (z : ℤ) → m ≤ 18014398509481983 → n ≤ 18014398509481983 → Raised 18014398509481984 z (m + n) → Gives a top (limited z) r)
     → Sum (Integer m) (Integer n) r
 raised_sum {m} {n} {r} k = record { gives = λ a top v u x y. go a top x y }
@@ -51,32 +51,26 @@ raised_sum {m} {n} {r} k = record { gives = λ a top v u x y. go a top x y }
         k a top (y +ℤ z) (rw e (biased_small y w)) (rw e' (biased_small z w')) (rw (e, e') (sum_raised (biased_raised y w) (biased_raised z w')))
 
 -- No integer is held so.
-pub sum_no_first : {m n : ℕ} {r : Operated} → 18014398509481983 < m → Sum (Integer m) (Integer n) r
-sum_no_first l = raised_sum (λ a top z i j s. absurd (omega arith))
-
-pub sum_no_second : {m n : ℕ} {r : Operated} → 18014398509481983 < n → Sum (Integer m) (Integer n) r
-sum_no_second l = raised_sum (λ a top z i j s. absurd (omega arith))
+pub sum_none : {m n : ℕ} {r : Answered} → (18014398509481983 < m) ⊎ (18014398509481983 < n) → Sum (Integer m) (Integer n) r
+sum_none l = raised_sum (λ a top z i j s. absurd (omega (arith, l)))
 
 -- The limits, raised twice as much.
 limits_twice : {z : ℤ} {n : ℕ} → Raised 18014398509481984 z n → within_limits z ≡ leb 9007199254740993 n && leb n 27021597764222975
 limits_twice s = limits_raised (omega arith) s
 
-refused : {a : Areas} {top : ℕ} (z : ℤ) {r : Operated} → within_limits z ≡ false → r ≡ Operateds.OutOfRange → Gives a top (limited z) r
-refused z e w = rw e (gives_out_of_range w)
-
-pub sum_below : {m n : ℕ} {r : Operated} → m + n ≤ 9007199254740992 → r ≡ Operateds.OutOfRange → Sum (Integer m) (Integer n) r
-sum_below {m} {n} l w =
-    raised_sum (λ a top z i j s. refused z (limits_twice s ∙ ap (λ b. b && leb (m + n) 27021597764222975) (lt-leb 9007199254740993 (m + n) (omega arith))) w)
-
 -- At or above the lower limit, only the upper one is left.
 not_below : {z : ℤ} {n : ℕ} → Raised 18014398509481984 z n → 9007199254740992 < n → within_limits z ≡ leb n 27021597764222975
 not_below {n = n} s l = limits_twice s ∙ ap (λ b. b && leb n 27021597764222975) (le-leb 9007199254740993 n (omega arith))
 
-pub sum_above : {m n : ℕ} {r : Operated} → 9007199254740992 < m + n → 27021597764222975 < m + n → r ≡ Operateds.OutOfRange → Sum (Integer m) (Integer n) r
-sum_above {m} {n} l h w = raised_sum (λ a top z i j s. refused z (not_below s l ∙ lt-leb (m + n) 27021597764222975 h) w)
+refused : {a : Areas} {top : ℕ} (z : ℤ) → within_limits z ≡ false → Gives a top (limited z) (Err OutOfRange)
+refused z e = rw e (gives_fault refl)
 
-given : {a : Areas} {top n : ℕ} (z : ℤ) {r : Operated} → within_limits z ≡ true → Raised 18014398509481984 z n → r ≡ Operateds.Value (Integer (n - 9007199254740992)) → Gives a top (limited z) r
-given z e s w = rw e (gives_value w (means_integer (true→t (within_limits z) e) (biased_over s)))
+pub sum_beyond : {m n : ℕ} → (m + n ≤ 9007199254740992) ⊎ (27021597764222975 < m + n) → Sum (Integer m) (Integer n) (Err OutOfRange)
+sum_beyond {m} {n} (inl l) = raised_sum (λ a top z i j s. refused z (limits_twice s ∙ ap (λ b. b && leb (m + n) 27021597764222975) (lt-leb 9007199254740993 (m + n) (omega arith))))
+sum_beyond {m} {n} (inr l) = raised_sum (λ a top z i j s. refused z (not_below s (omega arith) ∙ lt-leb (m + n) 27021597764222975 l))
 
-pub sum_within : {m n : ℕ} {r : Operated} → 9007199254740992 < m + n → m + n ≤ 27021597764222975 → r ≡ Operateds.Value (Integer (m + n - 9007199254740992)) → Sum (Integer m) (Integer n) r
-sum_within {m} {n} l h w = raised_sum (λ a top z i j s. given z (not_below s l ∙ le-leb (m + n) 27021597764222975 h) s w)
+given : {a : Areas} {top n : ℕ} (z : ℤ) → within_limits z ≡ true → Raised 18014398509481984 z n → Gives a top (limited z) (Ok (Integer (n - 9007199254740992)))
+given z e s = rw e (gives_value refl (means_integer (true→t (within_limits z) e) (biased_over s)))
+
+pub sum_within : {m n : ℕ} → 9007199254740992 < m + n → m + n ≤ 27021597764222975 → Sum (Integer m) (Integer n) (Ok (Integer (m + n - 9007199254740992)))
+sum_within {m} {n} l h = raised_sum (λ a top z i j s. given z (not_below s l ∙ le-leb (m + n) 27021597764222975 h) s)

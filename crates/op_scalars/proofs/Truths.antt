@@ -1,4 +1,5 @@
 -- Truths: the truth of a value from its handle.
+use Rattle.std.specs.Prelude.{Ok, Err}
 use mathlib.Core.Path.{◌≡◌, refl, ap, subst, ◌∙◌}
 use mathlib.Core.Bool.{true, false}
 use mathlib.Core.List.{[], ◌∷◌}
@@ -10,22 +11,21 @@ use lib.IntN.{ℤ, pos, negsuc}
 use lib.ListN.{length, drop, length-drop}
 use lib.Seq.{length-take-le}
 use Rattle.model.specs.Bytes.{Bytes}
+use Rattle.model.specs.declared.refusal.Fault.TheVariants.{WrongKind}
 use Rattle.model.specs.Operations as operations
 use Rattle.model.specs.Truth as truths
 use Rattle.model.specs.Value.{Value, scalar, integer, string, array, object, Values, no_items, item, Members, no_members, member, member_count}
 use Rattle.syntax.specs.Layout.{biased, item_count}
 use Rattle.heap.specs.declared.handle.Handle.{Handle}
-use Rattle.heap.specs.declared.handle.Handle.TheVariants.{Null, False, True, Integer, Instant, String, Compound}
+use Rattle.heap.specs.declared.handle.Handle.TheVariants.{False, True, Integer, String, Compound}
 use Rattle.heap.specs.declared.handle.Parts.{Parts}
 use Rattle.heap.specs.declared.handle.Span.{Span}
 use Rattle.table.specs.Denotes.{Lies}
-use Rattle.heap.specs.Means.{Means, means_null, means_false, means_true, means_integer, means_instant, means_string, means_items, means_members, means_list, means_context}
+use Rattle.heap.specs.Means.{Means, means_integer, means_string, means_items, means_members, means_list, means_context}
 use Rattle.heap.specs.Unfold.{Areas}
 use Rattle.op_scalars.specs.declared.truth.Truth.{Truth}
 use Rattle.op_scalars.specs.declared.truth.Truth.TheVariants.{Truthy, Falsy, Neither}
-use Rattle.op_result.specs.Contract.{Gives, gives_wrong_kind}
-use Rattle.op_result.specs.declared.Operated.{Operated}
-use Rattle.op_result.specs.declared.Operated.TheVariants as Operateds
+use Rattle.op_result.specs.Contract.{Answered, Gives, gives_fault}
 use Rattle.op_scalars.specs.Contract.{TruthIs, truth_of, Negated}
 use Rattle.op_scalars.specs.Inner.{truthy_unless}
 use Rattle.op_scalars.proofs.Answers.{gives_bool}
@@ -36,30 +36,6 @@ falsy_at m n e = rw (eq-eqb m n e)
 
 truthy_at : (m n : ℕ) → (m ≡ n → ⊥) → truth_of (truthy_unless (eqb m n)) ≡ truths.truthy
 truthy_at m n f = rw (ne_eqb m n f)
-
-pub null_truth : TruthIs Null Falsy
-null_truth = record { is = λ a top v m. go m }
-  where
-    go : {a : Areas} {top : ℕ} {v : Value} → Means a top v Null → truths.falsy ≡ truths.truth v
-    go means_null = refl
-
-pub false_truth : TruthIs False Falsy
-false_truth = record { is = λ a top v m. go m }
-  where
-    go : {a : Areas} {top : ℕ} {v : Value} → Means a top v False → truths.falsy ≡ truths.truth v
-    go means_false = refl
-
-pub true_truth : TruthIs True Truthy
-true_truth = record { is = λ a top v m. go m }
-  where
-    go : {a : Areas} {top : ℕ} {v : Value} → Means a top v True → truths.truthy ≡ truths.truth v
-    go means_true = refl
-
-pub instant_truth : (n : ℕ) → TruthIs (Instant n) Neither
-instant_truth n = record { is = λ a top v m. go m }
-  where
-    go : {a : Areas} {top : ℕ} {v : Value} → Means a top v (Instant n) → truths.neither ≡ truths.truth v
-    go (means_instant w e) = refl
 
 -- ---- integers
 biased_truth : (z : ℤ) → truth_of (truthy_unless (eqb (biased z) 9007199254740992)) ≡ truths.truth (scalar (integer z))
@@ -109,14 +85,14 @@ compound_truth p = record { is = λ a top v m. go m }
     go (means_context b i m n) = refl
 
 -- ---- `!`
-negated_is : {x : Handle} {t : Truth} {r : Operated} → TruthIs x t → ((a : Areas) (top : ℕ) → Gives a top (operations.negated (truth_of t)) r) → Negated x r
+negated_is : {x : Handle} {t : Truth} {r : Answered} → TruthIs x t → ((a : Areas) (top : ℕ) → Gives a top (operations.negated (truth_of t)) r) → Negated x r
 negated_is {r = r} k g = record { gives = λ a top v m. subst (λ u. Gives a top (operations.negated u) r) (k.is a top v m) (g a top) }
 
-pub negated_truthy : {x : Handle} {t : Truth} → TruthIs x t → t ≡ Truthy → Negated x (Operateds.Value False)
+pub negated_truthy : {x : Handle} {t : Truth} → TruthIs x t → t ≡ Truthy → Negated x (Ok False)
 negated_truthy k e = negated_is k (λ a top. rw e (gives_bool false refl))
 
-pub negated_falsy : {x : Handle} {t : Truth} → TruthIs x t → t ≡ Falsy → Negated x (Operateds.Value True)
+pub negated_falsy : {x : Handle} {t : Truth} → TruthIs x t → t ≡ Falsy → Negated x (Ok True)
 negated_falsy k e = negated_is k (λ a top. rw e (gives_bool true refl))
 
-pub negated_neither : {x : Handle} {t : Truth} → TruthIs x t → t ≡ Neither → Negated x Operateds.WrongKind
-negated_neither k e = negated_is k (λ a top. rw e (gives_wrong_kind refl))
+pub negated_neither : {x : Handle} {t : Truth} → TruthIs x t → t ≡ Neither → Negated x (Err WrongKind)
+negated_neither k e = negated_is k (λ a top. rw e (gives_fault refl))

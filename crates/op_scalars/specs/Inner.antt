@@ -1,18 +1,18 @@
 -- Inner: what the private functions say of handles.
 use Rattle.std.specs.Prelude.{◌≡◌, Bool, true, false, ◌||◌, ℕ, zero, suc, ◌+◌, leb, ltb, ℤ, pos, negsuc}
-use Rattle.std.proofs.Math.Option.{Option, none, some}
+use Rattle.std.specs.Prelude.{Option, None, Some, Result, Ok, Err}
 use Rattle.model.specs.Bytes.{Bytes}
 use Rattle.model.specs.Instant.{ms_before1970}
 use Rattle.model.specs.Operations.{as_number}
 use Rattle.model.specs.Option.{holds}
+use Rattle.model.specs.declared.refusal.Fault.{Fault}
+use Rattle.model.specs.declared.refusal.Fault.TheVariants.{WrongKind}
 use Rattle.model.specs.Value.{Value, Scalar, null, boolean, integer, string, same_scalar}
 use Rattle.model.specs.declared.Comparison.{Comparison}
 use Rattle.model.specs.declared.Comparison.TheVariants.{Greater, Less, GreaterOrEqual, LessOrEqual}
 use Rattle.model.specs.declared.Domain.{Domain}
 use Rattle.model.specs.declared.Domain.TheVariants.{OnIntegers, OnInstants}
 use Rattle.syntax.specs.Layout.{unbiased}
-use Rattle.heap.specs.declared.handle.Form.{Form}
-use Rattle.heap.specs.declared.handle.Form.TheVariants.{Items, Members, List, Context}
 use Rattle.heap.specs.declared.handle.Handle.{Handle}
 use Rattle.heap.specs.declared.handle.Handle.TheVariants.{Null, False, True, Integer, Instant, String, Compound}
 use Rattle.heap.specs.declared.handle.Parts.{Parts}
@@ -20,8 +20,6 @@ use Rattle.heap.specs.Means.{Means}
 use Rattle.heap.specs.Parts.{head_of, tail_of}
 use Rattle.heap.specs.Strings.{span_bytes}
 use Rattle.heap.specs.Unfold.{Areas}
-use Rattle.op_scalars.specs.declared.compare.Number.{Number}
-use Rattle.op_scalars.specs.declared.compare.Number.TheVariants.{Is, NotOne}
 use Rattle.op_scalars.specs.declared.truth.Truth.{Truth}
 use Rattle.op_scalars.specs.declared.truth.Truth.TheVariants.{Truthy, Falsy}
 
@@ -37,13 +35,13 @@ truthy_unless true = Falsy
 -- ---- scalars
 -- The scalar of a handle, with strings in A and B; none of an instant, an array or an object.
 abbrev pub scalar_of : Bytes → Bytes → Handle → Option Scalar
-scalar_of A B Null = some null
-scalar_of A B False = some (boolean false)
-scalar_of A B True = some (boolean true)
-scalar_of A B (Integer n) = some (integer (unbiased n))
-scalar_of A B (Instant n) = none
-scalar_of A B (String s) = some (string (span_bytes A B s))
-scalar_of A B (Compound p) = none
+scalar_of A B Null = Some null
+scalar_of A B False = Some (boolean false)
+scalar_of A B True = Some (boolean true)
+scalar_of A B (Integer n) = Some (integer (unbiased n))
+scalar_of A B (Instant n) = None
+scalar_of A B (String s) = Some (string (span_bytes A B s))
+scalar_of A B (Compound p) = None
 
 abbrev pub is_scalar : Handle → Bool
 is_scalar Null = true
@@ -67,12 +65,6 @@ unfoldable pub among_parts : Bytes → Bytes → Bytes → Bytes → Handle → 
 among_parts A B T C x zero p = false
 among_parts A B T C x (suc n) p = same_handles A B x (head_of T C p) || among_parts A B T C x n (tail_of T C p)
 
-abbrev pub is_array : Form → Bool
-is_array Items = true
-is_array Members = false
-is_array List = true
-is_array Context = false
-
 -- ---- numbers
 -- n is the integer z raised by k.
 pub data Raised (k : ℕ) : ℤ → ℕ → Type 0 where
@@ -84,12 +76,12 @@ abbrev pub zero_of : Domain → ℕ
 zero_of OnIntegers = 9007199254740992
 zero_of OnInstants = ms_before1970
 
--- A number of the domain, or that a value is of another kind.
-pub data NumberIs (d : Domain) : Option ℤ → Number → Type 0 where
-  is_number : {z : ℤ} {n : ℕ} {r : Number} → r ≡ Is n → Raised (zero_of d) z n → NumberIs d (some z) r
-  is_none : {r : Number} → r ≡ NotOne → NumberIs d none r
+-- A number of the domain, or 7 for a value of another kind.
+pub data NumberIs (d : Domain) : Option ℤ → Result ℕ Fault → Type 0 where
+  is_number : {z : ℤ} {n : ℕ} {r : Result ℕ Fault} → r ≡ Ok n → Raised (zero_of d) z n → NumberIs d (Some z) r
+  is_none : {r : Result ℕ Fault} → r ≡ Err WrongKind → NumberIs d None r
 
-pub record Numbered (d : Domain) (h : Handle) (r : Number) : Type 0 where
+pub record Numbered (d : Domain) (h : Handle) (r : Result ℕ Fault) : Type 0 where
   pub is : (a : Areas) (top : ℕ) (v : Value) → Means a top v h → NumberIs d (as_number d v) r
 
 abbrev pub ordered : Comparison → ℕ → ℕ → Bool

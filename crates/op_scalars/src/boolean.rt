@@ -1,15 +1,11 @@
-// A boolean as an answer.
+// A boolean as a handle.
 ghost use Rattle.std.specs.Prelude.{◌≡◌};
 ghost use Rattle.op_scalars.specs.Inner.{boolean_handle};
 
 use heap::handle::Handle;
-use op_result::Operated;
 
-pub fn boolean(b: bool) -> Operated
-    ensures { result ≡ Operated.Value (boolean_handle b) }
+pub fn boolean(b: bool) -> Handle
+    ensures { result ≡ boolean_handle b }
 {
-    if b {
-        return Operated::Value(Handle::True);
-    }
-    Operated::Value(Handle::False)
+    if b { Handle::True } else { Handle::False }
 }

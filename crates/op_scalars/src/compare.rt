@@ -1,36 +1,22 @@
 // The four signs and the four date words: one comparison over the numbers of its domain.
-ghost use Rattle.std.specs.Prelude.{◌≡◌, ◌&&◌};
+ghost use Rattle.std.specs.Prelude.{◌≡◌};
 ghost use Rattle.op_scalars.specs.Contract.{Compared, ComparedThree};
 ghost use Rattle.op_scalars.specs.Inner.{Numbered, ordered};
 
 use crate::boolean::boolean;
 use heap::handle::Handle;
+use model::refusal::Fault;
 use model::{Comparison, Domain};
 use op_result::Operated;
 
-// A number whose order is that of the integers, or of the instants; or none, of another kind.
-#[derive(Clone, Copy)]
-enum Number {
-    Is(u64),
-    NotOne,
-}
-
-fn as_number(domain: Domain, h: Handle) -> Number
+// A number whose order is that of the integers, or of the instants.
+fn as_number(domain: Domain, h: Handle) -> Result<u64, Fault>
     ensures { Numbered domain h result }
 {
-    match domain {
-        Domain::OnIntegers => {
-            let Handle::Integer(n) = h else {
-                return Number::NotOne;
-            };
-            Number::Is(n)
-        }
-        Domain::OnInstants => {
-            let Handle::Instant(n) = h else {
-                return Number::NotOne;
-            };
-            Number::Is(n)
-        }
+    match (domain, h) {
+        (Domain::OnIntegers, Handle::Integer(n)) => Ok(n),
+        (Domain::OnInstants, Handle::Instant(n)) => Ok(n),
+        _ => Err(Fault::WrongKind),
     }
 }
 
@@ -45,40 +31,21 @@ fn holds(c: Comparison, a: u64, b: u64) -> bool
     }
 }
 
-// "With three operands: both neighbouring pairs hold."
-fn both_hold(c: Comparison, l: u64, m: u64, n: u64) -> bool
-    ensures { result ≡ ordered c l m && ordered c m n }
-{
-    if !holds(c, l, m) {
-        return false;
-    }
-    holds(c, m, n)
-}
-
 pub fn compare(domain: Domain, c: Comparison, x: Handle, y: Handle) -> Operated
     ensures { Compared domain c x y result }
 {
-    let Number::Is(m) = as_number(domain, x) else {
-        return Operated::WrongKind;
-    };
-    let Number::Is(n) = as_number(domain, y) else {
-        return Operated::WrongKind;
-    };
-    boolean(holds(c, m, n))
+    let m = as_number(domain, x)?;
+    let n = as_number(domain, y)?;
+    Ok(boolean(holds(c, m, n)))
 }
 
-// Every kind is tested before a pair is compared.
+// Every kind is tested before a pair is compared. "With three operands: both neighbouring pairs hold." (One function over a slice of operands is
+// no plainer: they stand in cells, and would be gathered into an array of two or three first.)
 pub fn compare_three(domain: Domain, c: Comparison, x: Handle, y: Handle, z: Handle) -> Operated
     ensures { ComparedThree domain c x y z result }
 {
-    let Number::Is(l) = as_number(domain, x) else {
-        return Operated::WrongKind;
-    };
-    let Number::Is(m) = as_number(domain, y) else {
-        return Operated::WrongKind;
-    };
-    let Number::Is(n) = as_number(domain, z) else {
-        return Operated::WrongKind;
-    };
-    boolean(both_hold(c, l, m, n))
+    let l = as_number(domain, x)?;
+    let m = as_number(domain, y)?;
+    let n = as_number(domain, z)?;
+    Ok(boolean(holds(c, l, m) && holds(c, m, n)))
 }

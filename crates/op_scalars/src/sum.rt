@@ -1,8 +1,10 @@
 // `+`.
+ghost use Rattle.std.specs.Prelude.{Ok, Err};
 ghost use Rattle.op_scalars.specs.Contract.{Sum};
 
 use heap::handle::Handle;
 use model::MAX_INTEGER;
+use model::refusal::Fault;
 use op_result::Operated;
 use syntax::BIAS;
 
@@ -14,30 +16,21 @@ fn total(m: u64, n: u64) -> Operated
     ensures { Sum (Handle.Integer m) (Handle.Integer n) result }
 {
     // No integer is held so.
-    if m > LARGEST {
-        return Operated::OutOfRange;
-    }
-    if n > LARGEST {
-        return Operated::OutOfRange;
+    if m > LARGEST || n > LARGEST {
+        return Err(Fault::OutOfRange);
     }
     let s = m + n;
-    if s <= BIAS {
-        return Operated::OutOfRange;
+    if s <= BIAS || s > LARGEST + BIAS {
+        return Err(Fault::OutOfRange);
     }
-    if s > LARGEST + BIAS {
-        return Operated::OutOfRange;
-    }
-    Operated::Value(Handle::Integer(s - BIAS))
+    Ok(Handle::Integer(s - BIAS))
 }
 
 pub fn sum(x: Handle, y: Handle) -> Operated
     ensures { Sum x y result }
 {
-    let Handle::Integer(m) = x else {
-        return Operated::WrongKind;
-    };
-    let Handle::Integer(n) = y else {
-        return Operated::WrongKind;
-    };
-    total(m, n)
+    match (x, y) {
+        (Handle::Integer(m), Handle::Integer(n)) => total(m, n),
+        _ => Err(Fault::WrongKind),
+    }
 }

@@ -17,18 +17,14 @@ pub enum Truth {
 fn truthy_unless(falsy: bool) -> Truth
     ensures { result ≡ truthy_unless falsy }
 {
-    if falsy {
-        return Truth::Falsy;
-    }
-    Truth::Truthy
+    if falsy { Truth::Falsy } else { Truth::Truthy }
 }
 
 pub fn truth_of(h: Handle) -> Truth
     ensures { TruthIs h result }
 {
     match h {
-        Handle::Null => Truth::Falsy,
-        Handle::False => Truth::Falsy,
+        Handle::Null | Handle::False => Truth::Falsy,
         Handle::True => Truth::Truthy,
         Handle::Integer(n) => truthy_unless(n == BIAS),
         Handle::Instant(_) => Truth::Neither,

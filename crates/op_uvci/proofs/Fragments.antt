@@ -17,9 +17,9 @@ use Rattle.model.specs.Operations.{is_uvci_separator, nth_string}
 use Rattle.model.specs.Value.{Value}
 use Rattle.octets.specs.Laws.Fragment.{end_inside, others, first_fragment}
 use Rattle.table.specs.Strings.{part}
-use Rattle.op_uvci.specs.declared.Fragment.{Fragment}
-use Rattle.op_uvci.specs.declared.Fragment.TheVariants.{Absent, At}
-use Rattle.op_uvci.specs.Inner.{fragment_size, fragments_from, numbered, Ends, Finds, finds_none, finds_part}
+use Rattle.std.specs.Prelude.{Option, None}
+use Rattle.table.specs.declared.row.Span.{Span as Part}
+use Rattle.op_uvci.specs.Inner.{At, fragment_size, fragments_from, numbered, Ends, Finds, finds_none, finds_part}
 
 -- ---- the first fragment, and the others after its separator
 -- 01: "Split on / # :".
@@ -64,11 +64,11 @@ pub record Seeking (s : Bytes) (v : Value) (start left : ℕ) : Type 0 where
   pub is : nth_string (fragments_from s start) left ≡ v
 
 module _ {s : Bytes} {v : Value} {start left : ℕ} (g : Seeking s v start left) where
-  pub seek_past : {r : Fragment} → length s < start → r ≡ Absent → Finds s v r
+  pub seek_past : {r : Option Part} → length s < start → r ≡ None → Finds s v r
   seek_past h e = rw (← g.is, past s start h) (finds_none e)
 
   module _ {end : ℕ} (inside : start ≤ length s) (e : Ends s start end) where
-    pub seek_here : {r : Fragment} → left ≡ 0 → r ≡ At start (end - start) → Finds s v r
+    pub seek_here : {r : Option Part} → left ≡ 0 → r ≡ At start (end - start) → Finds s v r
     seek_here z f = rw (← g.is, first_from s start end inside e, z) (finds_part f (omega (arith, e.is, ends_inside s start end inside e)))
 
     pub seek_on : ¬ (left ≡ 0) → Seeking s v (end + 1) (left - 1)

@@ -7,11 +7,10 @@ use Rattle.syntax.specs.Layout.{biased}
 use Rattle.heap.specs.declared.handle.Handle.{Handle}
 use Rattle.heap.specs.Means.{Means}
 use Rattle.heap.specs.Unfold.{areas}
-use Rattle.op_result.specs.declared.Operated.{Operated}
-use Rattle.op_result.specs.Contract.{Gives}
+use Rattle.op_result.specs.Contract.{Answered, Gives}
 
 -- The index k is given with 2^53 added. A string lies in A or B, whatever the table and the cells hold.
-pub record Extracts (A B : Bytes) (index : ℕ) (h : Handle) (r : Operated) : Type 0 where
+pub record Extracts (A B : Bytes) (index : ℕ) (h : Handle) (r : Answered) : Type 0 where
   pub gives :
       (R C : Bytes) (top : ℕ) (k : ℤ) (v : Value)
       → T (within_limits k)

@@ -1,13 +1,12 @@
 -- Inner: what the private functions of this crate are about.
-use Rattle.std.specs.Prelude.{◌≡◌, cond, List, [], ℕ, ◌+◌, ◌≤◌, leb, length, drop}
+use Rattle.std.specs.Prelude.{◌≡◌, Option, None, Some, cond, List, [], ℕ, ◌+◌, ◌≤◌, leb, length, drop}
 use Rattle.model.specs.Bytes.{Bytes, ascii, split_on}
 use Rattle.model.specs.Operations.{drop_prefix, fragment, is_uvci_separator}
 use Rattle.model.specs.Value.{Value, scalar, null, string}
 use Rattle.syntax.specs.Layout.{unbiased}
 use Rattle.octets.specs.Fragment.{fragment_length}
 use Rattle.table.specs.Strings.{part}
-use Rattle.op_uvci.specs.declared.Fragment.{Fragment}
-use Rattle.op_uvci.specs.declared.Fragment.TheVariants.{Absent, At}
+use Rattle.table.specs.declared.row.Span.{Span}
 
 -- The bytes of a text before its first separator.
 abbrev pub fragment_size : Bytes → ℕ
@@ -28,7 +27,11 @@ numbered s = drop_prefix (split_on is_uvci_separator s)
 abbrev pub named : Bytes → ℕ → Value
 named s index = fragment (numbered s) (unbiased index)
 
+-- A fragment: the part of a text that begins at a place and has so many bytes.
+abbrev pub At : ℕ → ℕ → Option Span
+At start size = Some (record { start = start; size = size })
+
 -- The value is null and there is no fragment, or it is the fragment that lies there.
-pub data Finds (s : Bytes) : Value → Fragment → Type 0 where
-  finds_none : {r : Fragment} → r ≡ Absent → Finds s (scalar null) r
-  finds_part : {start size : ℕ} {r : Fragment} → r ≡ At start size → start + size ≤ length s → Finds s (scalar (string (part s start size))) r
+pub data Finds (s : Bytes) : Value → Option Span → Type 0 where
+  finds_none : {r : Option Span} → r ≡ None → Finds s (scalar null) r
+  finds_part : {start size : ℕ} {r : Option Span} → r ≡ At start size → start + size ≤ length s → Finds s (scalar (string (part s start size))) r

@@ -8,18 +8,13 @@ ghost use Rattle.op_uvci.specs.Contract.{Extracts};
 
 use heap::handle::{Handle, Span, string};
 use heap::string::bytes;
+use model::refusal::Fault;
 use octets::path::fragment_end;
 use octets::same;
 use op_result::Operated;
 use syntax::BIAS;
+use table::row::Span as Part;
 use table::string::part_of;
-
-// A fragment of a text, or that there is none.
-#[derive(Clone, Copy)]
-enum Fragment {
-    Absent,
-    At { start: usize, size: usize },
-}
 
 // Where the fragment that begins at `at` ends. 01: "Split on / # :".
 fn end_of(text: &[u8], at: usize) -> usize
@@ -30,7 +25,7 @@ fn end_of(text: &[u8], at: usize) -> usize
 
 // The fragment so many after the one that begins at `at`.
 #[tactic(auto, using(crate::proofs::Fragments::seek_here))]
-fn nth(text: &[u8], at: usize, index: u64) -> Fragment
+fn nth(text: &[u8], at: usize, index: u64) -> Option<Part>
     ensures { Finds text.now (nth_string (fragments_from text.now at) index) result }
 {
     let mut start = at;
@@ -38,15 +33,15 @@ fn nth(text: &[u8], at: usize, index: u64) -> Fragment
     while start <= text.len() {
         let end = end_of(text, start);
         if left == 0 {
-            return Fragment::At {
+            return Some(Part {
                 start,
                 size: end - start,
-            };
+            });
         }
-        left = left - 1;
+        left -= 1;
         start = end + 1;
     }
-    Fragment::Absent
+    None
 }
 
 // Where the fragments that are numbered begin. 01: "drop the first two fragments if they are URN and UVCI".
@@ -59,21 +54,18 @@ fn numbered_from(text: &[u8]) -> usize
     }
     let rest = first + 1;
     let second = end_of(text, rest);
-    if !same(part_of(text, 0, first), b"URN") {
-        return 0;
+    if same(part_of(text, 0, first), b"URN") && same(part_of(text, rest, second - rest), b"UVCI") {
+        return second + 1;
     }
-    if !same(part_of(text, rest, second - rest), b"UVCI") {
-        return 0;
-    }
-    second + 1
+    0
 }
 
 // The numbered fragment. 2^53 was added to the index.
-fn find(text: &[u8], index: u64) -> Fragment
+fn find(text: &[u8], index: u64) -> Option<Part>
     ensures { Finds text.now (named text.now index) result }
 {
     if index < BIAS {
-        return Fragment::Absent;
+        return None;
     }
     nth(text, numbered_from(text), index - BIAS)
 }
@@ -87,10 +79,9 @@ fn extract_part<'a>(
 ) -> Operated
     ensures { Extracts rule_strings.now record_strings.now index (Handle.String s) result }
 {
-    let area = s.area;
     match find(bytes(rule_strings, record_strings, s), index) {
-        Fragment::Absent => Operated::Value(Handle::Null),
-        Fragment::At { start, size } => Operated::Value(string(area, s.start + start, size)),
+        None => Ok(Handle::Null),
+        Some(part) => Ok(string(s.area, s.start + part.start, part.size)),
     }
 }
 
@@ -104,8 +95,8 @@ pub fn extract<'a>(
     ensures { Extracts rule_strings.now record_strings.now index h result }
 {
     match h {
-        Handle::Null => Operated::Value(Handle::Null),
+        Handle::Null => Ok(Handle::Null),
         Handle::String(s) => extract_part(rule_strings, record_strings, index, s),
-        _ => Operated::WrongKind,
+        _ => Err(Fault::WrongKind),
     }
 }

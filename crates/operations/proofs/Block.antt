@@ -8,7 +8,6 @@ use Rattle.model.specs.Bytes.{Bytes}
 use Rattle.heap.specs.declared.handle.Handle.{Handle}
 use Rattle.heap.specs.Blocks.{stored_from}
 use Rattle.heap.specs.Cells.{cell_handle, stored}
-use Rattle.heap.proofs.Laws.Made.{length_stored_from}
 use Rattle.operations.specs.Stack.{stack_cell, stacked_from, stacked}
 use Rattle.operations.specs.Laws.Stack.{stack_cell_lem, stacked_length, stacked_more, stored_from_after}
 
@@ -44,9 +43,3 @@ copy_next C bottom count top i {D} {D'} h room l c e f =
     ∙ sym (stored_more C top (stacked C bottom i) (stack_cell C bottom i))
     ∙ ap (stored_from C top) (sym (stacked_more C bottom 0 i ∙ ap (λ (k : ℕ). stacked C bottom i ++ (stack_cell C bottom k ∷ [])) from-0))
     ∙ ap (λ (n : ℕ). stored_from C top (stacked C bottom n)) (sym next)
-
-pub copy_ends : (C : Bytes) (bottom count top i : ℕ) {D : Bytes} → i ≤ count → count ≤ i → Copied C bottom top i D → D ≡ stored_from C top (stacked C bottom count)
-copy_ends C bottom count top i a b c = let e : i ≡ count = omega arith in c ∙ ap (λ (n : ℕ). stored_from C top (stacked C bottom n)) e
-
-pub copy_length : (C : Bytes) (bottom top i : ℕ) {D : Bytes} → Copied C bottom top i D → length D ≡ length C
-copy_length C bottom top i c = ap length c ∙ length_stored_from C top (stacked C bottom i)

@@ -17,8 +17,7 @@ use Rattle.heap.specs.Unfold.{Areas, areas}
 use Rattle.keywords.specs.declared.Op.{Op}
 use Rattle.keywords.specs.declared.Op.TheVariants as Ops
 use Rattle.keywords.specs.Contract.{Stands, stands_equal, stands_member_of, stands_plus, stands_not, stands_date_of_birth, stands_compare, stands_plus_time, stands_extract}
-use Rattle.op_result.specs.declared.Operated.{Operated}
-use Rattle.op_result.specs.Contract.{Gives}
+use Rattle.op_result.specs.Contract.{Answered, Gives}
 use Rattle.op_scalars.specs.Contract.{Negated, Equality, Membership, Sum, Compared, ComparedThree}
 use Rattle.op_uvci.specs.Contract.{Extracts}
 use Rattle.operations.specs.Inner.{Compares}
@@ -26,7 +25,7 @@ use Rattle.operations.specs.Laws.Stack.{first_cell_lem}
 use Rattle.operations.specs.Stack.{stack_cell, first_cell, stacked_from, stacked}
 
 -- What an operation gives on the values of the operands on the stack.
-pub record Operates (A B T C : Bytes) (op : Op) (bottom count : ℕ) (r : Operated) : Type 0 where
+pub record Operates (A B T C : Bytes) (op : Op) (bottom count : ℕ) (r : Answered) : Type 0 where
   pub gives :
       (top : ℕ) (o : Operation) (vs : Values)
       → Stands op o count
@@ -78,7 +77,7 @@ three C bottom n e m = go (rw e at m)
         record { first = u; second = v; third = w; is = refl; means_first = l; means_second = m; means_third = n }
 
 -- ---- comparisons
-module _ {C : Bytes} {d : Domain} {c : Comparison} {bottom count : ℕ} {x y : Handle} {r : Operated} (is_x : x ≡ stack_cell C bottom 0) (is_y : y ≡ stack_cell C bottom 1) where
+module _ {C : Bytes} {d : Domain} {c : Comparison} {bottom count : ℕ} {x y : Handle} {r : Answered} (is_x : x ≡ stack_cell C bottom 0) (is_y : y ≡ stack_cell C bottom 1) where
   pub compares_two : count ≡ 2 → Compared d c x y r → Compares C d c bottom count r
   compares_two e f = record { gives = λ a top vs l m n. let t = two C bottom count e n in rw t.is (f.gives a top t.first t.second (rw is_x t.means_first) (rw is_y t.means_second)) }
 
@@ -90,7 +89,7 @@ module _ {C : Bytes} {d : Domain} {c : Comparison} {bottom count : ℕ} {x y : H
   }
 
 -- ---- each operation
-module _ {A B T C : Bytes} {bottom count : ℕ} {r : Operated} where
+module _ {A B T C : Bytes} {bottom count : ℕ} {r : Answered} where
   pub of_comparison : {d : Domain} {c : Comparison} → Compares C d c bottom count r → Operates A B T C (Ops.Compare d c) bottom count r
   of_comparison {d} {c} f = record { gives = λ top o vs s m. go top vs s m }
     where

@@ -1,23 +1,21 @@
 -- Contract: what `apply` does. A and B are the rule's and the record's strings, R the record's table, C the cells before and C' after.
-use Rattle.std.specs.Prelude.{◌≡◌, ℕ, ◌+◌, ◌/◌, ◌≤◌, length}
+use Rattle.std.specs.Prelude.{◌≡◌, ℕ, ◌+◌, ◌/◌, ◌≤◌, length, Ok, Err}
 use Rattle.model.specs.Bytes.{Bytes}
 use Rattle.model.specs.EvalPlain.{lift}
 use Rattle.model.specs.Limits.{heap_cells}
 use Rattle.model.specs.Operations.{operate}
 use Rattle.model.specs.Rule.{Operation}
 use Rattle.model.specs.Value.{Values}
-use Rattle.heap.specs.declared.handle.Handle.{Handle}
 use Rattle.heap.specs.Blocks.{MeansEach}
 use Rattle.heap.specs.Cells.{cell_bytes}
 use Rattle.heap.specs.Unfold.{areas}
 use Rattle.keywords.specs.declared.Op.{Op}
 use Rattle.keywords.specs.Contract.{Stands}
-use Rattle.operations.specs.declared.ended.Ended.{Ended}
-use Rattle.operations.specs.declared.ended.Ended.TheVariants.{Gives, Denies}
-use Rattle.operations.specs.declared.ended.Fault.{Fault}
+use Rattle.operations.specs.declared.ended.Denied.{Denied}
+use Rattle.operations.specs.declared.ended.Given.{Given}
 use Rattle.operations.specs.declared.ended.State.{State}
 use Rattle.operations.specs.Cells.{Same}
-use Rattle.operations.specs.Ended.{EndsAs}
+use Rattle.operations.specs.Ended.{Ending, EndsAs}
 use Rattle.operations.specs.Stack.{stacked}
 
 -- The operands stand below the bottom, and between the heap's top and them is room for as many again.
@@ -27,16 +25,16 @@ pub record StackRoom (C : Bytes) (count : ℕ) (s : State) : Type 0 where
   pub enough : heap_cells ≤ length C / cell_bytes
 
 -- It takes no step; the heap grows by no more than a cell for each operand.
-pub record AppliesIn (count : ℕ) (s : State) (r : Ended) : Type 0 where
-  pub steps : (h : Handle) (t : State) → r ≡ Gives h t → t.left ≡ s.left
-  pub grows : (h : Handle) (t : State) → r ≡ Gives h t → s.top ≤ t.top
-  pub spends : (h : Handle) (t : State) → r ≡ Gives h t → t.top ≤ s.top + count
-  pub bottom : (h : Handle) (t : State) → r ≡ Gives h t → t.bottom ≡ s.bottom
-  pub deep : (h : Handle) (t : State) → r ≡ Gives h t → t.deep ≡ s.deep
-  pub stops : (e : Fault) (l : ℕ) → r ≡ Denies e l → l ≡ s.left
+pub record AppliesIn (count : ℕ) (s : State) (r : Ending) : Type 0 where
+  pub steps : (g : Given) → r ≡ Ok g → g.state.left ≡ s.left
+  pub grows : (g : Given) → r ≡ Ok g → s.top ≤ g.state.top
+  pub spends : (g : Given) → r ≡ Ok g → g.state.top ≤ s.top + count
+  pub bottom : (g : Given) → r ≡ Ok g → g.state.bottom ≡ s.bottom
+  pub deep : (g : Given) → r ≡ Ok g → g.state.deep ≡ s.deep
+  pub stops : (d : Denied) → r ≡ Err d → d.left ≡ s.left
 
 -- An operation on the values of the operands on the stack.
-pub record Applies (A B R C : Bytes) (op : Op) (count : ℕ) (s : State) (r : Ended) (C' : Bytes) : Type 0 where
+pub record Applies (A B R C : Bytes) (op : Op) (count : ℕ) (s : State) (r : Ending) (C' : Bytes) : Type 0 where
   pub same : Same C C' s.top s.bottom
   pub within : AppliesIn count s r
   pub gives :

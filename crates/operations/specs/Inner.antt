@@ -1,5 +1,5 @@
 -- Inner: what the private functions do.
-use Rattle.std.specs.Prelude.{ℕ, ◌+◌, ◌≤◌}
+use Rattle.std.specs.Prelude.{ℕ, ◌+◌, ◌≤◌, Ok}
 use Rattle.model.specs.Bytes.{Bytes}
 use Rattle.model.specs.Operations.{comparison}
 use Rattle.model.specs.Value.{Values}
@@ -10,16 +10,13 @@ use Rattle.heap.specs.declared.handle.Handle.TheVariants.{Compound}
 use Rattle.heap.specs.Blocks.{MeansEach}
 use Rattle.heap.specs.Handles.{parts}
 use Rattle.heap.specs.Unfold.{Areas}
-use Rattle.op_result.specs.declared.Operated.{Operated}
-use Rattle.op_result.specs.Contract.{Gives}
-use Rattle.operations.specs.declared.ended.Ended.{Ended}
-use Rattle.operations.specs.declared.ended.Ended.TheVariants as Ends
+use Rattle.op_result.specs.Contract.{Answered, Gives}
 use Rattle.operations.specs.declared.ended.State.{State}
-use Rattle.operations.specs.Ended.{state}
+use Rattle.operations.specs.Ended.{Ending, given, state}
 use Rattle.operations.specs.Stack.{stacked}
 
 -- A comparison of the values of the two or three operands on the stack.
-pub record Compares (C : Bytes) (d : Domain) (c : Comparison) (bottom count : ℕ) (r : Operated) : Type 0 where
+pub record Compares (C : Bytes) (d : Domain) (c : Comparison) (bottom count : ℕ) (r : Answered) : Type 0 where
   pub gives :
       (a : Areas) (top : ℕ) (vs : Values)
       → 2 ≤ count
@@ -28,5 +25,5 @@ pub record Compares (C : Bytes) (d : Domain) (c : Comparison) (bottom count : �
       → Gives a top (comparison d c vs) r
 
 -- The list of a block from the heap's top on, which is then above it.
-abbrev pub listed : ℕ → State → Ended
-listed count s = Ends.Gives (Compound (parts forms.List s.top count)) (state s.left (s.top + count) s.bottom s.deep)
+abbrev pub listed : ℕ → State → Ending
+listed count s = Ok (given (Compound (parts forms.List s.top count)) (state s.left (s.top + count) s.bottom s.deep))

@@ -8,10 +8,12 @@ ghost use Rattle.operations.specs.Ended.{operated_end};
 ghost use Rattle.operations.specs.Inner.{Compares, listed};
 ghost use Rattle.operations.specs.Stack.{stack_cell, first_cell, stacked};
 
-use crate::ended::{Ended, Fault, State};
+use crate::ended::{Denied, Ended, Given, State};
+use heap::areas::Areas;
 use heap::cell::{get, put};
 use heap::handle::{Form, Handle, compound};
 use keywords::Op;
+use model::refusal::EvalFault;
 use model::{Comparison, Domain};
 use op_dates::{date_of_birth, plus_time};
 use op_result::Operated;
@@ -23,13 +25,15 @@ use op_uvci::extract;
 pub mod ended;
 
 // The operand at a position; null where the stack has none.
+#[tactic(auto, unfolding(crate::specs::Stack::stack_cell))]
 fn operand(cells: &[u8], bottom: usize, position: usize) -> Handle
     ensures { result ≡ stack_cell cells.now bottom position }
 {
-    if bottom <= position {
-        return Handle::Null;
+    if position < bottom {
+        get(cells, bottom - position - 1)
+    } else {
+        Handle::Null
     }
-    get(cells, bottom - position - 1)
 }
 
 // The first of so many operands; null where there is none.
@@ -37,9 +41,10 @@ fn first(cells: &[u8], bottom: usize, count: usize) -> Handle
     ensures { result ≡ first_cell cells.now bottom count }
 {
     if count == 0 {
-        return Handle::Null;
+        Handle::Null
+    } else {
+        operand(cells, bottom, 0)
     }
-    operand(cells, bottom, 0)
 }
 
 // The operands as one block of cells, from the heap's top on.
@@ -47,11 +52,9 @@ fn copy(cells: &mut [u8], count: usize, s: State)
     requires { StackRoom cells.old count s }
     ensures { cells.new ≡ stored_from cells.old s.top (stacked cells.old s.bottom count) }
 {
-    let mut i: usize = 0;
-    while i < count {
+    for i in 0..count {
         let h = operand(cells, s.bottom, i);
         put(cells, s.top + i, h);
-        i += 1;
     }
 }
 
@@ -61,13 +64,13 @@ fn list(cells: &mut [u8], count: usize, s: State) -> Ended
     ensures { (result ≡ listed count s) × (cells.new ≡ stored_from cells.old s.top (stacked cells.old s.bottom count)) }
 {
     copy(cells, count, s);
-    let after = State {
-        left: s.left,
-        top: s.top + count,
-        bottom: s.bottom,
-        deep: s.deep,
-    };
-    Ended::Gives(compound(Form::List, s.top, count), after)
+    Ok(Given {
+        value: compound(Form::List, s.top, count),
+        state: State {
+            top: s.top + count,
+            ..s
+        },
+    })
 }
 
 // What an operation gave ends the rule that it stands in.
@@ -75,10 +78,11 @@ fn operated(r: Operated, s: State) -> Ended
     ensures { result ≡ operated_end r s }
 {
     match r {
-        Operated::Value(value) => Ended::Gives(value, s),
-        Operated::WrongKind => Ended::Denies(Fault::WrongKind, s.left),
-        Operated::BadDate => Ended::Denies(Fault::BadDate, s.left),
-        Operated::OutOfRange => Ended::Denies(Fault::OutOfRange, s.left),
+        Ok(value) => Ok(Given { value, state: s }),
+        Err(fault) => Err(Denied {
+            fault: EvalFault::from(fault),
+            left: s.left,
+        }),
     }
 }
 
@@ -88,9 +92,10 @@ fn compared(cells: &[u8], domain: Domain, c: Comparison, bottom: usize, count: u
     let x = operand(cells, bottom, 0);
     let y = operand(cells, bottom, 1);
     if count == 2 {
-        return compare(domain, c, x, y);
+        compare(domain, c, x, y)
+    } else {
+        compare_three(domain, c, x, y, operand(cells, bottom, 2))
     }
-    compare_three(domain, c, x, y, operand(cells, bottom, 2))
 }
 
 // An operation on so many operands below the state's bottom. It reads the cells of its own operands only: others may never have been written.
@@ -115,7 +120,13 @@ pub fn apply<'a>(
         }
         Op::MemberOf => {
             let y = operand(cells, s.bottom, 1);
-            let r = membership(rule_strings, record_strings, record_table, cells, x, y);
+            let areas = Areas {
+                rule_strings,
+                record_strings,
+                record_table,
+                cells,
+            };
+            let r = membership(areas, x, y);
             operated(r, s)
         }
         Op::Plus => operated(sum(x, operand(cells, s.bottom, 1)), s),

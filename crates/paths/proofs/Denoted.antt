@@ -1,7 +1,7 @@
 -- Denoted: the node that a path leads to denotes the value that it leads to.
 use mathlib.Core.Path.{◌≡◌, refl}
 use mathlib.Core.Bool.{Bool, true, false, cond}
-use mathlib.Core.Option.{Option, none, some}
+use Rattle.std.specs.Prelude.{Option, None, Some}
 use mathlib.Core.List.{[], ◌∷◌}
 use Prim.Native.Nat.{ℕ, zero, suc, ◌≤◌}
 use native.Mathlib.Omega.{arith}
@@ -17,14 +17,13 @@ use Rattle.table.specs.declared.node.Node.TheVariants.{Null}
 use Rattle.table.specs.declared.node.Rows.{Rows}
 use Rattle.table.specs.Denotes.{Denotes, denotes_null, denotes_false, denotes_true, denotes_integer, denotes_string, denotes_array, denotes_object, RowItems, no_row_items, row_item, RowMembers, no_row_members, row_member}
 use Rattle.table.specs.Node.{node_at, next_row}
-use Rattle.paths.specs.declared.index.Index.{Index}
 use Rattle.paths.specs.Contract.{limit, member_in, item_in, item_of, part_in, node_along, fragments, Leads}
 use Rattle.paths.specs.Inner.{or_null}
 use Rattle.paths.specs.Laws.Index.{IndexIs, inside, outside, index_is}
 use Rattle.paths.specs.Laws.Fragments.{path_fragments, value_on}
 
 -- No item stands so far.
-item_past : (vs : Values) (k : ℕ) → item_count vs ≤ k → item_at vs k ≡ none
+item_past : (vs : Values) (k : ℕ) → item_count vs ≤ k → item_at vs k ≡ None
 unfolding item_count
 item_past no_items k l = refl
 item_past (item v vs) zero l = absurd (omega arith)
@@ -38,7 +37,7 @@ module _ {T B : Bytes} where
   member_denotes f (suc n) e (row_member {row = row} {n = name} {v = v} {ms = ms} b t g d r) = rw (← g) (go (same_bytes f name) (member_denotes f {ms = ms} n (omega arith) r))
     where
       go : (x : Bool) → Denotes T B (or_null (member_named f ms)) (member_in T B f (next_row T row) n)
-          → Denotes T B (or_null (cond x (some v) (member_named f ms))) (cond x (node_at T row) (member_in T B f (next_row T row) n))
+          → Denotes T B (or_null (cond x (Some v) (member_named f ms))) (cond x (node_at T row) (member_in T B f (next_row T row) n))
       go true later = d
       go false later = later
 
@@ -50,14 +49,14 @@ module _ {T B : Bytes} where
   item_denotes (suc n) zero e (row_item b t d r) = d
   item_denotes (suc n) (suc k) e (row_item {v = v} {vs = vs} b t d r) = item_denotes {vs = vs} n k (omega arith) r
 
-  named_denotes : (f : Bytes) {vs : Values} {q : Rows} {i : Index} → IndexIs f i → q.count ≡ item_count vs → q.count ≤ max_values → RowItems T B q.first vs
+  named_denotes : (f : Bytes) {vs : Values} {q : Rows} {i : Option ℕ} → IndexIs f i → q.count ≡ item_count vs → q.count ≤ max_values → RowItems T B q.first vs
       → Denotes T B (or_null (index_of f >>= item_at vs)) (item_of T q i)
   named_denotes f (inside g) e m r = rw g (item_denotes _ _ e r)
   named_denotes f {vs} {q} (outside far) e m r = go (index_of f) far
     where
-      go : (o : Option ℕ) → ((k : ℕ) → o ≡ some k → limit ≤ k) → Denotes T B (or_null (o >>= item_at vs)) Null
-      go none l = denotes_null
-      go (some k) l = rw (item_past vs k (omega (arith, values_below, l k refl))) denotes_null
+      go : (o : Option ℕ) → ((k : ℕ) → o ≡ Some k → limit ≤ k) → Denotes T B (or_null (o >>= item_at vs)) Null
+      go None l = denotes_null
+      go (Some k) l = rw (item_past vs k (omega (arith, values_below, l k refl))) denotes_null
 
   part_denotes : (f : Bytes) {v : Value} {n : Node} → Denotes T B v n → Denotes T B (or_null (part f v)) (part_in T B f n)
   part_denotes f denotes_null = denotes_null

@@ -1,6 +1,9 @@
 -- Rows: the rows of members and items, and what a fragment names by rows.
-use mathlib.Core.Path.{◌≡◌, refl, sym, ap, ap₂, ◌∙◌}
+use Rattle.std.specs.Prelude.{Option, None, Some}
+use Rattle.std.proofs.Props.{props}
+use mathlib.Core.Path.{◌≡◌, refl, sym, ap, ◌∙◌}
 use mathlib.Core.Bool.{Bool, true, false, cond}
+use mathlib.Core.Logic.{∥∥₁_elim}
 use Prim.Native.Nat.{ℕ, zero, suc, ◌+◌, ◌-◌, ◌≤◌, ◌<◌}
 use native.Mathlib.Nat.{add-zero}
 use native.Mathlib.Omega.{arith}
@@ -9,11 +12,9 @@ use Rattle.model.specs.Limits.{max_values}
 use Rattle.table.specs.declared.node.Node.{Node}
 use Rattle.table.specs.declared.node.Node.TheVariants.{Null, False, True, Integer, String, Array, Object}
 use Rattle.table.specs.declared.node.Rows.{Rows}
-use Rattle.table.specs.Node.{node_at, next_row, name_at, tail_of}
+use Rattle.table.specs.Node.{node_at, next_row, name_at}
 use Rattle.table.specs.Placed.{Placed, row_after}
 use Rattle.table.specs.Strings.{bytes_of}
-use Rattle.name_index.specs.declared.find.Found.{Found}
-use Rattle.name_index.specs.declared.find.Found.TheVariants.{Nowhere, At}
 use Rattle.name_index.specs.Contract.{first_named, Finds}
 use Rattle.name_index.specs.Laws.Find.{found_first}
 use Rattle.name_index.specs.Table.{entries_at, IndexedTable}
@@ -21,61 +22,51 @@ use Rattle.paths.specs.Contract.{row_named, member_in, item_in, part_in}
 use Rattle.paths.specs.Inner.{AllOf, Flat}
 
 -- ---- the row of a name
-module _ (T B f : Bytes) (q : Rows) where
-  pub named_none : q.count ≡ 0 → Nowhere ≡ row_named T B f q.first q.count
-  named_none e = rw e
+pub named_none : (T B f : Bytes) (row n : ℕ) → n ≡ 0 → None ≡ row_named T B f row n
+named_none T B f row n e = rw e
 
-  module _ (more : 1 ≤ q.count) {name : Bytes} {b : Bool} (is_name : name ≡ bytes_of B (name_at T q.first)) (is-test : b ≡ same_bytes f name) where
-    pub named_first : b ≡ true → At q.first ≡ row_named T B f q.first q.count
-    named_first y = let n : q.count ≡ suc (q.count - 1) = omega arith in rw (n, ← is_name, ← is-test, y)
+module _ (T B f : Bytes) (row n m : ℕ) (more : n ≡ suc m) {b : Bool} (is-test : b ≡ same_bytes f (bytes_of B (name_at T row))) where
+  pub named_first : b ≡ true → Some row ≡ row_named T B f row n
+  named_first y = rw (more, ← is-test, y)
 
-    pub named_later : {t : Rows} → b ≡ false → t ≡ tail_of T q → row_named T B f t.first t.count ≡ row_named T B f q.first q.count
-    named_later y e =
-        let n : q.count ≡ suc (q.count - 1) = omega arith in
-        ap (λ (x : Rows). row_named T B f x.first x.count) e
-        ∙ sym (ap (row_named T B f q.first) n ∙ ap (λ (x : Bool). cond x (At q.first) (row_named T B f (next_row T q.first) (q.count - 1))) (ap (same_bytes f) (sym is_name) ∙ sym is-test ∙ y))
+  pub named_later : b ≡ false → row_named T B f row n ≡ row_named T B f (next_row T row) m
+  named_later y = rw (more, ← is-test, y)
 
 -- By the index of names.
 entries_named : (T B f : Bytes) (row n : ℕ) → first_named f (entries_at T B row n) ≡ row_named T B f row n
 entries_named T B f row zero = refl
-entries_named T B f row (suc n) = ap (cond (same_bytes f (bytes_of B (name_at T row))) (At row)) (entries_named T B f (next_row T row) n)
+entries_named T B f row (suc n) = ap (cond (same_bytes f (bytes_of B (name_at T row))) (Some row)) (entries_named T B f (next_row T row) n)
 
-pub named_indexed : {T B f : Bytes} {q : Rows} {r : Found} → IndexedTable T B → AllOf T q (Object q) → 0 < q.count → Finds T B q.first f r → r ≡ row_named T B f q.first q.count
-named_indexed {T} {B} {f} {q} i a l x =
-    found_first i.size (i.objects (q.first - 1) q (omega (arith, a.after, a.within)) a.is) a.after l x ∙ entries_named T B f q.first q.count
+pub named_indexed : {T B f : Bytes} {q : Rows} {r : Option ℕ} → ∥ IndexedTable T B ∥₁ → AllOf T q (Object q) → 0 < q.count → Finds T B q.first f r → r ≡ row_named T B f q.first q.count
+named_indexed {T} {B} {f} {q} {r} h a l x = ∥∥₁_elim h (Prim.hlevel props) by_index
+  where
+    by_index : IndexedTable T B → r ≡ row_named T B f q.first q.count
+    by_index i = found_first i.size (i.objects (q.first - 1) q (omega (arith, a.after, a.within)) a.is) a.after l x ∙ entries_named T B f q.first q.count
 
 -- The node of a row that was found.
-abbrev node_found : Bytes → Found → Node
-node_found T Nowhere = Null
-node_found T (At row) = node_at T row
+abbrev node_found : Bytes → Option ℕ → Node
+node_found T None = Null
+node_found T (Some row) = node_at T row
 
 member_row : (T B f : Bytes) (row n : ℕ) → node_found T (row_named T B f row n) ≡ member_in T B f row n
 member_row T B f row zero = refl
 member_row T B f row (suc n) = go (same_bytes f (bytes_of B (name_at T row))) (member_row T B f (next_row T row) n)
   where
     go : (b : Bool) → node_found T (row_named T B f (next_row T row) n) ≡ member_in T B f (next_row T row) n
-        → node_found T (cond b (At row) (row_named T B f (next_row T row) n)) ≡ cond b (node_at T row) (member_in T B f (next_row T row) n)
+        → node_found T (cond b (Some row) (row_named T B f (next_row T row) n)) ≡ cond b (node_at T row) (member_in T B f (next_row T row) n)
     go true e = refl
     go false e = e
 
-pub member_found : (T B f : Bytes) (q : Rows) {r : Found} → r ≡ row_named T B f q.first q.count → node_found T r ≡ member_in T B f q.first q.count
+pub member_found : (T B f : Bytes) (q : Rows) {r : Option ℕ} → r ≡ row_named T B f q.first q.count → node_found T r ≡ member_in T B f q.first q.count
 member_found T B f q e = ap (node_found T) e ∙ member_row T B f q.first q.count
 
 -- ---- items, row by row
-module _ (T : Bytes) (q : Rows) (k : ℕ) where
-  pub item_none : q.count ≡ 0 → Null ≡ item_in T q.first q.count k
-  item_none e = rw e
+pub after_none : (T : Bytes) (row n : ℕ) → n ≡ 0 → row_after T row n ≡ row
+after_none T row n e = rw e
 
-  pub item_first : 1 ≤ q.count → k ≡ 0 → node_at T q.first ≡ item_in T q.first q.count k
-  item_first l z = let n : q.count ≡ suc (q.count - 1) = omega arith in rw (n, z)
+pub after_more : (T : Bytes) (row n m : ℕ) → n ≡ suc m → row_after T row n ≡ row_after T (next_row T row) m
+after_more T row n m e = rw e
 
-  pub item_later : {t : Rows} → 1 ≤ q.count → 1 ≤ k → t ≡ tail_of T q → item_in T t.first t.count (k - 1) ≡ item_in T q.first q.count k
-  item_later l m e =
-      let n : q.count ≡ suc (q.count - 1) = omega arith in
-      let j : k ≡ suc (k - 1) = omega arith in
-      ap (λ (x : Rows). item_in T x.first x.count (k - 1)) e ∙ sym (ap₂ (item_in T q.first) n j)
-
--- ---- items of one row each
 item_row : (T : Bytes) (row n k : ℕ) → k < n → item_in T row n k ≡ node_at T (row_after T row k)
 item_row T row zero k l = absurd (omega arith)
 item_row T row (suc n) zero l = refl
@@ -86,6 +77,10 @@ item_past T row zero k l = refl
 item_past T row (suc n) zero l = absurd (omega arith)
 item_past T row (suc n) (suc k) l = item_past T (next_row T row) n k (omega arith)
 
+pub item_there : (T : Bytes) (q : Rows) {row : ℕ} (k : ℕ) → k < q.count → row ≡ row_after T q.first k → node_at T row ≡ item_in T q.first q.count k
+item_there T q k l e = ap (node_at T) e ∙ sym (item_row T q.first q.count k l)
+
+-- ---- items of one row each
 pub flat_past : (T : Bytes) (q : Rows) (k : ℕ) → q.count ≤ k → Null ≡ item_in T q.first q.count k
 flat_past T q k l = item_past T q.first q.count k l
 
@@ -124,6 +119,10 @@ module _ {T : Bytes} (placed : Placed T) where
 
   pub ends_after : {q : Rows} → AllOf T q (Array q) → q.first ≤ next_row T (q.first - 1)
   ends_after {q} a = omega (arith, a.after, a.within, placed.on (q.first - 1) (omega (arith, a.after, a.within)))
+
+-- The rows of an indexed text are placed.
+pub placed_of : {T B : Bytes} → ∥ IndexedTable T B ∥₁ → Placed T
+placed_of h = ∥∥₁_elim h (Prim.hlevel props) (λ i. i.placed)
 
 -- ---- a fragment names nothing in what is no array and no object
 pub no_part : (T B f : Bytes) (n : Node) → ((q : Rows) → n ≡ Array q → ⊥) → ((q : Rows) → n ≡ Object q → ⊥) → Null ≡ part_in T B f n

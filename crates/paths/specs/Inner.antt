@@ -1,6 +1,6 @@
 -- Inner: what the private functions do. What is not there gives null.
 use Rattle.std.specs.Prelude.{Bool, true, false, not, cond, [], ◌∷◌, ◌≡◌, ℕ, ◌+◌, ◌-◌, ◌≤◌, ◌<◌, eqb, ltb}
-use Rattle.std.proofs.Math.Option.{Option}
+use Rattle.std.specs.Prelude.{Option}
 use Rattle.model.specs.Bytes.{Bytes, byte}
 use Rattle.model.specs.Limits.{max_values}
 use Rattle.model.specs.Option.{or_else}

@@ -1,17 +1,16 @@
 -- Reading: a text read into its areas, and judged.
 use mathlib.Core.Bool.{Bool, true, false, cond}
-use mathlib.Core.Option.{Option, none, some}
+use Rattle.std.specs.Prelude.{Option, None, Some, Result, Ok, Err, ⊤}
 use mathlib.Core.Path.{◌≡◌, refl, sym, ap, ◌∙◌}
-use Prim.Native.Nat.{ℕ, ◌<◌}
-use native.Mathlib.Omega.{arith}
-use borrow.Author.Tests.{ne_eqb}
+use Prim.Native.Nat.{ℕ}
 use Rattle.json_reader.specs.Contract.{RowsRead, answer_of}
-use Rattle.json_reader.specs.declared.Answer as reading
+use Rattle.json_reader.specs.declared.NotRead.{NotRead}
 use Rattle.model.specs.Bytes.{Bytes}
 use Rattle.model.specs.Judgement.{Judged, done, refuses, or_refuse, rule_in, sheet_in}
 use Rattle.model.proofs.Laws.Logic.{clash}
 use Rattle.model.specs.Option.{is_some}
-use Rattle.model.specs.Refusal.{Refusal, number, invalid_argument, not_rule, not_sheet, reading as ofReading}
+use Rattle.model.specs.declared.refusal.Refusal.{Refusal}
+use Rattle.model.specs.declared.refusal.Refusal.TheVariants.{InvalidArgument, NotRule, NotSheet, Reading as ofReading}
 use Rattle.model.specs.Rule.{Rule}
 use Rattle.model.specs.Shape.{shape}
 use Rattle.model.specs.Sheet.{Sheet, sheet_of}
@@ -27,25 +26,23 @@ use Rattle.table.specs.Laws.Standing.{was_read_denotes}
 use Rattle.table.specs.Laws.WasRead.{SameRows, was_read_same}
 use Rattle.pipeline.specs.declared.text.Stop.{Stop}
 use Rattle.pipeline.specs.Areas.{TextAreas, text_areas, is_short, zeroed, holding, left_by, tidied, HoldsIndexed, HoldsMarked}
-use Rattle.pipeline.specs.Contract.{stop_of, lent, left_in, tidied_in, Reads, ReadsRule, ReadsSheet}
-use Rattle.pipeline.specs.Inner.{stopped, told_of}
-use Rattle.pipeline.specs.Laws.Stages.{number_some, text_held, read_held, left_holding}
+use Rattle.pipeline.specs.Contract.{stop, result_of, stop_of, lent, left_in, tidied_in, Reads, ReadsRule, ReadsSheet}
+use Rattle.pipeline.specs.Inner.{told_of}
+use Rattle.pipeline.specs.Laws.Stages.{text_held, read_held, left_holding}
 use Rattle.pipeline.specs.Laws.LongAreas.{Long, lent_long, left_long, tidied_long, lent_passed, ReadsLong, text_long}
 use Rattle.pipeline.specs.Laws.Tidied.{tidied_same, tidied_holding, tidied_zeroed}
 use Rattle.pipeline.specs.Stage.{Stage, passed, refused, as_read, read_as, rule_text, sheet_text}
 use Rattle.pipeline.specs.Texts.{TextRead, text_stage, rule_stage, sheet_stage}
 
 -- ---- areas that are too short, or not
-module _ {X : Type 0} (a : TextAreas) (which : ℕ) (x : Stage X) {r : Stop} (is : r ≡ stop_of (lent a which x)) where
+module _ {X : Type 0} (a : TextAreas) (which : ℕ) (x : Stage X) {r : Result ⊤ Stop} (is : r ≡ stop_of (lent a which x)) where
   -- What is not refused has areas that are long enough.
-  pub zero_long : r.refusal ≡ 0 → Long a
-  zero_long e = go (is_short a) refl
+  pub ok_long : r ≡ Ok tt → Long a
+  ok_long e = go (is_short a) refl
     where
       go : (b : Bool) → is_short a ≡ b → Long a
       go false f = record { long = f }
-      go true f =
-          let q : r ≡ record { refusal = number invalid_argument; which = which; place = 0 } = is ∙ rw f in
-          absurd (number_some invalid_argument (sym (ap (λ (y : Stop). y.refusal) q) ∙ e))
+      go true f = let q : r ≡ Err (stop InvalidArgument which 0) = is ∙ rw f in clash cc
 
   -- Refusal 1 of a stage is that of a stage that comes after it.
   pub onward : {Y : Type 0} (y : Stage Y) → (r ≡ stop_of x → r ≡ stop_of y) → r ≡ stop_of (lent a which y)
@@ -56,12 +53,12 @@ module _ {X : Type 0} (a : TextAreas) (which : ℕ) (x : Stage X) {r : Stop} (is
       go true f = is ∙ rw f
 
 -- ---- one text
-told_is : (which : ℕ) (b : Bool) (g : Read) → told_of which (answer_of b g) ≡ stop_of (cond b (refused invalid_argument which 0) (as_read which g))
+told_is : (which : ℕ) (b : Bool) (g : Read) → told_of which (answer_of b g) ≡ stop_of (cond b (refused InvalidArgument which 0) (as_read which g))
 told_is which true g = refl
 told_is which false (readings.done v) = refl
-told_is which false (readings.refuse k p) = rw (ne_eqb (number (ofReading k)) 0 (number_some (ofReading k)))
+told_is which false (readings.refuse k p) = refl
 
-pub text_read : (which : ℕ) {s T A T' A' : Bytes} {x : reading.Answer} {r : Stop} → RowsRead s T A x T' A' → r ≡ told_of which x → Reads which s (text_areas T A) r (text_areas T' A')
+pub text_read : (which : ℕ) {s T A T' A' : Bytes} {x : Result ℕ NotRead} {r : Result ⊤ Stop} → RowsRead s T A x T' A' → r ≡ told_of which x → Reads which s (text_areas T A) r (text_areas T' A')
 text_read which {s} {T} {A} {T'} {A'} {x} {r} h e = record {
   stop = e ∙ ap (told_of which) h.answer ∙ told_is which (too_short T A) (read s);
   areas = by_size (too_short T A) refl;
@@ -85,13 +82,13 @@ text_read which {s} {T} {A} {T'} {A'} {x} {r} h e = record {
     by_size false f = rw f (by_text (read s) f refl)
 
 -- ---- a text and what it has to be, with areas that are long enough
-module _ {X : Type 0} (which : ℕ) (judge : Value → Judged X) (s : Bytes) {r : Stop} (h : r ≡ stop_of (read_as which s)) where
+module _ {X : Type 0} (which : ℕ) (judge : Value → Judged X) (s : Bytes) {r : Result ⊤ Stop} (h : r ≡ stop_of (read_as which s)) where
   -- It does not read.
-  pub unread : (r.refusal ≡ 0 → ⊥) → r ≡ stop_of (text_stage which judge s)
-  unread n = go (read s) refl
+  pub unread : {q : Stop} → r ≡ Err q → r ≡ stop_of (text_stage which judge s)
+  unread {q} e = go (read s) refl
     where
       go : (g : Read) → read s ≡ g → r ≡ stop_of (text_stage which judge s)
-      go (readings.done v) f = absurd (n (ap (λ (x : Stop). x.refusal) h ∙ rw f))
+      go (readings.done v) f = let g : r ≡ Ok tt = h ∙ rw f in clash cc
       go (readings.refuse k p) f = h ∙ rw f
 
   -- It reads.
@@ -99,17 +96,15 @@ module _ {X : Type 0} (which : ℕ) (judge : Value → Judged X) (s : Bytes) {r 
     pub value : Value
     pub reads : read s ≡ readings.done value
 
-  pub reads_as : r.refusal ≡ 0 → ReadsAs
+  pub reads_as : r ≡ Ok tt → ReadsAs
   reads_as e = go (read s) refl
     where
       go : (g : Read) → read s ≡ g → ReadsAs
       go (readings.done v) f = record { value = v; reads = f }
-      go (readings.refuse k p) f =
-          let q : r ≡ stop_of (as_read which (readings.refuse k p)) = h ∙ rw f in
-          absurd (number_some (ofReading k) (sym (ap (λ (x : Stop). x.refusal) q) ∙ e))
+      go (readings.refuse k p) f = let q : r ≡ Err (stop (ofReading k) which p) = h ∙ rw f in clash cc
 
   -- And is not, or is, what it has to be.
-  pub refused_as : (v : Value) (e : Refusal) → read s ≡ readings.done v → judge v ≡ refuses e → stopped (number e) ≡ stop_of (text_stage which judge s)
+  pub refused_as : (v : Value) (e : Refusal) → read s ≡ readings.done v → judge v ≡ refuses e → Err (stop e 0 0) ≡ stop_of (text_stage which judge s)
   refused_as v e f g = rw (f, g)
 
   pub passed_as : (v : Value) (x : X) → read s ≡ readings.done v → judge v ≡ done x → r ≡ stop_of (text_stage which judge s)
@@ -121,8 +116,8 @@ module _ {X : Type 0} (e : Refusal) (o : Option X) where
   none_refused f = go o f
     where
       go : (p : Option X) → is_some p ≡ false → or_refuse e p ≡ refuses e
-      go none g = refl
-      go (some x) g = clash cc
+      go None g = refl
+      go (Some x) g = clash cc
 
   pub record Is : Type 0 where
     pub content : X
@@ -132,43 +127,40 @@ module _ {X : Type 0} (e : Refusal) (o : Option X) where
   some_done f = go o refl f
     where
       go : (p : Option X) → o ≡ p → is_some p ≡ true → Is
-      go none k g = clash cc
-      go (some x) k g = record { content = x; is = ap (or_refuse e) k }
+      go None k g = clash cc
+      go (Some x) k g = record { content = x; is = ap (or_refuse e) k }
 
-module _ {X : Type 0} (which : ℕ) (e : Refusal) (f : Value → Option X) (s : Bytes) {r : Stop} (h : r ≡ stop_of (read_as which s)) (zero : r.refusal ≡ 0) (b : Bool)
+module _ {X : Type 0} (which : ℕ) (e : Refusal) (f : Value → Option X) (s : Bytes) {r : Result ⊤ Stop} (h : r ≡ stop_of (read_as which s)) (is_ok : r ≡ Ok tt) (b : Bool)
     (tested : (v : Value) → read s ≡ readings.done v → b ≡ is_some (f v)) where
   abbrev judge : Value → Judged X
   judge v = or_refuse e (f v)
 
-  pub tested_not : b ≡ false → stopped (number e) ≡ stop_of (text_stage which judge s)
+  pub tested_not : b ≡ false → Err (stop e 0 0) ≡ stop_of (text_stage which judge s)
   tested_not g =
-      let w = reads_as which judge s h zero in
+      let w = reads_as which judge s h is_ok in
       refused_as which judge s h w.value e w.reads (none_refused e (f w.value) (sym (tested w.value w.reads) ∙ g))
 
   pub tested_is : b ≡ true → r ≡ stop_of (text_stage which judge s)
   tested_is g =
-      let w = reads_as which judge s h zero in
+      let w = reads_as which judge s h is_ok in
       let y = some_done e (f w.value) (sym (tested w.value w.reads) ∙ g) in
       passed_as which judge s h w.value y.content w.reads y.is
 
 -- A stage with a refusal is not passed.
-pub not_passed : {X : Type 0} {x : Stage X} {y : X} {r : Stop} → r ≡ stop_of x → (r.refusal ≡ 0 → ⊥) → x ≡ passed y → ⊥
-not_passed {X} is n e = n (ap (λ (w : Stop). w.refusal) is ∙ ap (λ (w : Stage X). (stop_of w).refusal) e)
-
-stopped_some : {k : ℕ} {x : Stop} → 0 < k → x ≡ stopped k → x.refusal ≡ 0 → ⊥
-stopped_some p e z = let f = ap (λ (w : Stop). w.refusal) e in omega (arith, p, z, f)
+pub not_passed : {A B : Type 0} (f : A → B) {x : Stage A} {y : A} {q : Stop} {r : Result B Stop} → r ≡ result_of f x → r ≡ Err q → x ≡ passed y → ⊥
+not_passed f {y = y} {r = r} is n e = let g : r ≡ Ok (f y) = is ∙ ap (result_of f) e in clash cc
 
 -- ---- a rule
-module _ {s T A T' A' : Bytes} {r : Stop} (h : Reads rule_text s (text_areas T A) r (text_areas T' A')) where
-  pub rule_unread : (r.refusal ≡ 0 → ⊥) → ReadsRule s (text_areas T A) r (text_areas T' A')
-  rule_unread n = record { stop = stop_is; areas = h.areas; holds = λ x e. absurd (not_passed stop_is n e) }
+module _ {s T A T' A' : Bytes} {r : Result ⊤ Stop} (h : Reads rule_text s (text_areas T A) r (text_areas T' A')) where
+  pub rule_unread : {q : Stop} {r' : Result ⊤ Stop} → r ≡ Err q → r' ≡ Err q → ReadsRule s (text_areas T A) r' (text_areas T' A')
+  rule_unread {r' = r'} n n' = record { stop = stop_is; areas = h.areas; holds = λ x e. absurd (not_passed _ stop_is n' e) }
     where
-      stop_is : r ≡ stop_of (lent (text_areas T A) rule_text (rule_stage s))
-      stop_is = onward (text_areas T A) rule_text (read_as rule_text s) h.stop (rule_stage s) (λ k. unread rule_text rule_in s k n)
+      stop_is : r' ≡ stop_of (lent (text_areas T A) rule_text (rule_stage s))
+      stop_is = n' ∙ sym n ∙ onward (text_areas T A) rule_text (read_as rule_text s) h.stop (rule_stage s) (λ k. unread rule_text rule_in s k n)
 
-  module _ (zero : r.refusal ≡ 0) (b : Bool) {T'' : Bytes} (c : Checks T' A' b T'') where
+  module _ (is_ok : r ≡ Ok tt) (b : Bool) {T'' : Bytes} (c : Checks T' A' b T'') where
     rule_areas_long : Long (text_areas T A)
-    rule_areas_long = zero_long (text_areas T A) rule_text (read_as rule_text s) h.stop zero
+    rule_areas_long = ok_long (text_areas T A) rule_text (read_as rule_text s) h.stop is_ok
 
     rule_read : ReadsLong HoldsIndexed (read_as rule_text s) s (text_areas T A) r (text_areas T' A')
     rule_read = text_long rule_areas_long h
@@ -186,17 +178,17 @@ module _ {s T A T' A' : Bytes} {r : Stop} (h : Reads rule_text s (text_areas T A
     rule_left : tidied_in (text_areas T A) (text_areas T'' A') ≡ left_in s (text_areas T A)
     rule_left = tidied_long (text_areas T'' A') rule_areas_long ∙ tidied_same A' same_rows ∙ rule_read.areas ∙ sym (left_long s rule_areas_long)
 
-    rule_stop : {x : Stop} → x ≡ stop_of (rule_stage s) → x ≡ stop_of (lent (text_areas T A) rule_text (rule_stage s))
+    rule_stop : {x : Result ⊤ Stop} → x ≡ stop_of (rule_stage s) → x ≡ stop_of (lent (text_areas T A) rule_text (rule_stage s))
     rule_stop e = e ∙ sym (ap stop_of (lent_long rule_text (rule_stage s) rule_areas_long))
 
-    pub no_rule : {x : Stop} → b ≡ false → x ≡ stopped 6 → ReadsRule s (text_areas T A) x (text_areas T'' A')
-    no_rule {x} e f = record { stop = stop_is; areas = rule_left; holds = λ y g. absurd (not_passed stop_is (stopped_some (omega arith) f) g) }
+    pub no_rule : {x : Stop} → b ≡ false → x ≡ stop NotRule 0 0 → ReadsRule s (text_areas T A) (Err x) (text_areas T'' A')
+    no_rule {x} e f = record { stop = stop_is; areas = rule_left; holds = λ y g. absurd (not_passed _ stop_is refl g) }
       where
-        stop_is : x ≡ stop_of (lent (text_areas T A) rule_text (rule_stage s))
-        stop_is = rule_stop (f ∙ tested_not rule_text not_rule shape s rule_read.stop zero b is_tested e)
+        stop_is : Err x ≡ stop_of (lent (text_areas T A) rule_text (rule_stage s))
+        stop_is = rule_stop (ap Err f ∙ tested_not rule_text NotRule shape s rule_read.stop is_ok b is_tested e)
 
-    pub a_rule : b ≡ true → ReadsRule s (text_areas T A) r (text_areas T'' A')
-    a_rule e = record { stop = rule_stop (tested_is rule_text not_rule shape s rule_read.stop zero b is_tested e); areas = rule_left; holds = held }
+    pub a_rule : b ≡ true → ReadsRule s (text_areas T A) (Ok tt) (text_areas T'' A')
+    a_rule e = record { stop = rule_stop (sym is_ok ∙ tested_is rule_text NotRule shape s rule_read.stop is_ok b is_tested e); areas = rule_left; holds = held }
       where
         held : (x : TextRead Rule) → lent (text_areas T A) rule_text (rule_stage s) ≡ passed x → HoldsMarked x.value (text_areas T'' A')
         held x f =
@@ -205,16 +197,16 @@ module _ {s T A T' A' : Bytes} {r : Stop} (h : Reads rule_text s (text_areas T A
             record { was_read = was_read_same w same_rows; marked = c.marked x.value w e }
 
 -- ---- a sheet
-module _ {s T A T' A' : Bytes} {r : Stop} (h : Reads sheet_text s (text_areas T A) r (text_areas T' A')) where
-  pub sheet_unread : (r.refusal ≡ 0 → ⊥) → ReadsSheet s (text_areas T A) r (text_areas T' A')
-  sheet_unread n = record { stop = stop_is; areas = h.areas; holds = λ x e. absurd (not_passed stop_is n e) }
+module _ {s T A T' A' : Bytes} {r : Result ⊤ Stop} (h : Reads sheet_text s (text_areas T A) r (text_areas T' A')) where
+  pub sheet_unread : {q : Stop} {r' : Result ⊤ Stop} → r ≡ Err q → r' ≡ Err q → ReadsSheet s (text_areas T A) r' (text_areas T' A')
+  sheet_unread {r' = r'} n n' = record { stop = stop_is; areas = h.areas; holds = λ x e. absurd (not_passed _ stop_is n' e) }
     where
-      stop_is : r ≡ stop_of (lent (text_areas T A) sheet_text (sheet_stage s))
-      stop_is = onward (text_areas T A) sheet_text (read_as sheet_text s) h.stop (sheet_stage s) (λ k. unread sheet_text sheet_in s k n)
+      stop_is : r' ≡ stop_of (lent (text_areas T A) sheet_text (sheet_stage s))
+      stop_is = n' ∙ sym n ∙ onward (text_areas T A) sheet_text (read_as sheet_text s) h.stop (sheet_stage s) (λ k. unread sheet_text sheet_in s k n)
 
-  module _ (zero : r.refusal ≡ 0) (b : Bool) (c : ChecksSheet T' A' b) where
+  module _ (is_ok : r ≡ Ok tt) (b : Bool) (c : ChecksSheet T' A' b) where
     sheet_areas_long : Long (text_areas T A)
-    sheet_areas_long = zero_long (text_areas T A) sheet_text (read_as sheet_text s) h.stop zero
+    sheet_areas_long = ok_long (text_areas T A) sheet_text (read_as sheet_text s) h.stop is_ok
 
     sheet_read : ReadsLong HoldsIndexed (read_as sheet_text s) s (text_areas T A) r (text_areas T' A')
     sheet_read = text_long sheet_areas_long h
@@ -225,17 +217,17 @@ module _ {s T A T' A' : Bytes} {r : Stop} (h : Reads sheet_text s (text_areas T 
     sheet_tested : (v : Value) → read s ≡ readings.done v → b ≡ is_some (sheet_of v)
     sheet_tested v e = c.is v (was_read_denotes (sheet_value v e).was_read)
 
-    sheet_stop : {x : Stop} → x ≡ stop_of (sheet_stage s) → x ≡ stop_of (lent (text_areas T A) sheet_text (sheet_stage s))
+    sheet_stop : {x : Result ⊤ Stop} → x ≡ stop_of (sheet_stage s) → x ≡ stop_of (lent (text_areas T A) sheet_text (sheet_stage s))
     sheet_stop e = e ∙ sym (ap stop_of (lent_long sheet_text (sheet_stage s) sheet_areas_long))
 
-    pub no_sheet : {x : Stop} → b ≡ false → x ≡ stopped 14 → ReadsSheet s (text_areas T A) x (text_areas T' A')
-    no_sheet {x} e f = record { stop = stop_is; areas = h.areas; holds = λ y g. absurd (not_passed stop_is (stopped_some (omega arith) f) g) }
+    pub no_sheet : {x : Stop} → b ≡ false → x ≡ stop NotSheet 0 0 → ReadsSheet s (text_areas T A) (Err x) (text_areas T' A')
+    no_sheet {x} e f = record { stop = stop_is; areas = h.areas; holds = λ y g. absurd (not_passed _ stop_is refl g) }
       where
-        stop_is : x ≡ stop_of (lent (text_areas T A) sheet_text (sheet_stage s))
-        stop_is = sheet_stop (f ∙ tested_not sheet_text not_sheet sheet_of s sheet_read.stop zero b sheet_tested e)
+        stop_is : Err x ≡ stop_of (lent (text_areas T A) sheet_text (sheet_stage s))
+        stop_is = sheet_stop (ap Err f ∙ tested_not sheet_text NotSheet sheet_of s sheet_read.stop is_ok b sheet_tested e)
 
-    pub a_sheet : b ≡ true → ReadsSheet s (text_areas T A) r (text_areas T' A')
-    a_sheet e = record { stop = sheet_stop (tested_is sheet_text not_sheet sheet_of s sheet_read.stop zero b sheet_tested e); areas = h.areas; holds = held }
+    pub a_sheet : b ≡ true → ReadsSheet s (text_areas T A) (Ok tt) (text_areas T' A')
+    a_sheet e = record { stop = sheet_stop (sym is_ok ∙ tested_is sheet_text NotSheet sheet_of s sheet_read.stop is_ok b sheet_tested e); areas = h.areas; holds = held }
       where
         held : (x : TextRead Sheet) → lent (text_areas T A) sheet_text (sheet_stage s) ≡ passed x → HoldsIndexed x.value (text_areas T' A')
         held x f =

@@ -2,7 +2,8 @@
 use Rattle.std.specs.Prelude.{ℕ}
 use Rattle.model.specs.Bytes.{Bytes}
 use Rattle.model.specs.Judgement.{Judged, done, refuses}
-use Rattle.model.specs.Refusal.{Refusal, reading}
+use Rattle.model.specs.declared.refusal.Refusal.{Refusal}
+use Rattle.model.specs.declared.refusal.Refusal.TheVariants.{Reading}
 use Rattle.model.specs.Value.{Value}
 use Rattle.syntax.specs.Read as readings
 use Rattle.syntax.specs.Read.{Read, read}
@@ -29,7 +30,7 @@ record_text = 3
 
 abbrev pub as_read : ℕ → Read → Stage Value
 as_read which (readings.done v) = passed v
-as_read which (readings.refuse k p) = refused (reading k) which p
+as_read which (readings.refuse k p) = refused (Reading k) which p
 
 abbrev pub read_as : ℕ → Bytes → Stage Value
 read_as which s = as_read which (read s)

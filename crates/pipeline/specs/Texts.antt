@@ -2,7 +2,7 @@
 use Rattle.std.specs.Prelude.{ℕ}
 use Rattle.model.specs.Bytes.{Bytes}
 use Rattle.model.specs.Judgement.{Judged, rule_in, sheet_in, or_refuse}
-use Rattle.model.specs.Refusal.{not_accepted}
+use Rattle.model.specs.declared.refusal.Refusal.TheVariants.{NotAccepted}
 use Rattle.model.specs.Rule.{Rule}
 use Rattle.model.specs.Sheet.{Sheet}
 use Rattle.model.specs.TypeCheck.{check}
@@ -39,7 +39,7 @@ abbrev pub check_stage : Bytes → Bytes → Stage TextsChecked
 check_stage rule sheet = do
   r ← rule_stage rule
   s ← sheet_stage sheet
-  ts ← as_judged (or_refuse not_accepted (check r.content s.content))
+  ts ← as_judged (or_refuse NotAccepted (check r.content s.content))
   passed (record { rule = r; sheet = s; types = ts })
 
 -- A sheet's text and a record's.

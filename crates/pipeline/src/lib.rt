@@ -3,6 +3,5 @@
 
 pub mod check;
 pub mod fit;
-mod number;
 mod sheet_text;
 pub mod text;

@@ -2,19 +2,19 @@
 use mathlib.Core.Path.{◌≡◌, refl, sym, ap, ◌∙◌}
 use mathlib.Core.Bool.{Bool, true, false}
 use mathlib.Core.List.{[], ◌∷◌, ◌++◌, append-nil, append_assoc}
-use Prim.Native.Nat.{ℕ, suc, ◌+◌, ◌-◌, ◌/◌, ◌%◌, ◌≤◌, ◌<◌}
+use Prim.Native.Nat.{ℕ, suc, ◌-◌, ◌/◌, ◌%◌, ◌≤◌, ◌<◌}
 use native.Mathlib.Nat.{div-div-eq-div-mul}
 use native.Mathlib.Omega.{arith}
 use borrow.Author.Tests.{ltb-true, ltb-false}
 use lib.Dec.{ltb}
 use lib.ListN.{length, take, drop, set, length-append, length-drop, length-set}
-use lib.Seq.{sets, take_all, drop-cons, drop-set-lt, get_or-set_same}
+use lib.Seq.{take_all, drop-cons, drop-set-lt, get_or-set_same}
 use Rattle.model.specs.Bytes.{Bytes, digit_byte}
 use Rattle.model.specs.Writing.{decimal}
 use Rattle.print.specs.declared.decimal.Digits.{Digits}
 use Rattle.print.specs.Contract.{Put}
 use Rattle.print.specs.Inner.{Ends}
-use Rattle.print.specs.Laws.{put_bytes_lem, put_end, put_as, decimal_digit, decimal_more, decimal_20}
+use Rattle.print.specs.Laws.{put_as, decimal_digit, decimal_more, decimal_20}
 
 -- A number has a digit, and one from ten on two.
 some_digit : (n : ℕ) (t : Bool) → ltb n 10 ≡ t → 1 ≤ length (decimal n)
@@ -97,8 +97,5 @@ module _ {n : ℕ} {bytes : Bytes} {i rest b a : ℕ} (w : Filling n bytes i res
       rw k at (filled (filling_more w h e) (omega arith) f)
 
 -- ---- the digits in the output
-pub put_digits : {n : ℕ} {r : Digits} {at : ℕ} {d d' : Bytes} → Ends n r → d' ≡ sets d at (take (20 - r.start) (drop r.start r.bytes))
-    → Put (decimal n) at d (at + (20 - r.start)) d'
-put_digits {n} {r} w e =
-    let l = length-drop r.start r.bytes in
-    put_end (put_as (put_bytes_lem (rw (take_all (20 - r.start) (drop r.start r.bytes) (omega arith)) at e)) w.text) (omega arith)
+pub put_digits : {n : ℕ} {t : Digits} {at r : ℕ} {d d' : Bytes} → Ends n t → Put (take (20 - t.start) (drop t.start t.bytes)) at d r d' → Put (decimal n) at d r d'
+put_digits {t = t} w p = put_as p (take_all (20 - t.start) (drop t.start t.bytes) (omega (arith, length-drop t.start t.bytes)) ∙ w.text)

@@ -1,7 +1,6 @@
 -- Laws over plain values that the proofs cite.
 pub mod Copy
 pub mod Digits
-pub mod Hex
 pub mod Escapes
 pub mod Runs
 pub mod Quoted

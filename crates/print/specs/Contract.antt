@@ -9,6 +9,11 @@ use Rattle.model.specs.Writing.{string_text}
 abbrev pub Near : ℕ → Type 0
 Near at = at ≤ max_text_bytes + 2
 
+-- How far an offset may be inside a string: far behind the end of any string that is written, which has six bytes for each of its bytes at most
+-- (also with the limits of 02, P12), and far from the end of the machine's numbers.
+abbrev pub farthest : ℕ
+farthest = 1073741824
+
 -- A text is written into the output d from `at` on, as far as it fits (`sets` leaves out what lies past the end); r is its end.
 pub record Put (text : Bytes) (at : ℕ) (d : Bytes) (r : ℕ) (d' : Bytes) : Type 0 where
   pub end : r ≡ at + length text

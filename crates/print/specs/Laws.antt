@@ -1,7 +1,7 @@
 -- Laws of texts that are written one after the other, and of the sizes of numbers and strings.
 use Rattle.std.specs.Prelude.{◌≡◌, refl, Bool, true, false, ◌&&◌, not, cond, [], ◌∷◌, ◌++◌, ℕ, zero, suc, ◌+◌, ◌*◌, ◌/◌, ◌^◌, ◌≤◌, ◌<◌, T, ltb, eqb, ℤ, length, set}
 use Rattle.std.proofs.Common.{sym, ap, ◌∙◌, subst, true≢false, append_assoc, arith, pow-suc, lt-ltb, le-ltb, ne_eqb, ltb-true, ltb-false, eqb-true, length-append}
-use Rattle.std.proofs.Math.Option.{Option, none, some}
+use Rattle.std.specs.Prelude.{Option, None, Some}
 use Rattle.std.proofs.lemmas.Bool.{eqb-false}
 use Rattle.std.proofs.lemmas.List.Edits.{sets}
 use Rattle.std.proofs.Math.Seq.{length-sets, set_out}
@@ -10,7 +10,7 @@ use Rattle.model.specs.Bytes.{Bytes, digit_byte}
 use Rattle.model.specs.InstantText.{instant_text}
 use Rattle.model.specs.Limits.{max_text_bytes}
 use Rattle.model.specs.Lists.{find, all}
-use Rattle.model.proofs.Laws.Logic.{and_l, and_r, T→true}
+use Rattle.model.proofs.Laws.Logic.{and_l, and_r, T→true, clash}
 use Rattle.model.specs.Option.{or_else}
 use Rattle.model.specs.Writing.{decimal_within, decimal, short_escapes, long_escape, escaped, escaped_all, string_text}
 use Rattle.print.specs.Contract.{Put, StringPut}
@@ -90,49 +90,49 @@ decimal_20 n h = decimal_length 19 n (omega arith)
 
 -- ---- strings
 -- The table of short escapes, beside that of their letters.
-data Short : Option Bytes → ℕ → Type 0 where
-  missing : Short none 0
-  letter : {l : ℕ} → 0 < l → Short (some (0x5c ∷ l ∷ [])) l
+data Short : Option Bytes → Option ℕ → Type 0 where
+  missing : Short None None
+  letter : (l : ℕ) → Short (Some (0x5c ∷ l ∷ [])) (Some l)
 
-short_or : (t : Bool) (k : ℕ) → 0 < k → {o : Option Bytes} {l : ℕ} → Short o l → Short (cond t (some (0x5c ∷ k ∷ [])) o) (cond t k l)
-short_or true k h p = letter h
-short_or false k h p = p
+short_or : (t : Bool) (k : ℕ) {o : Option Bytes} {l : Option ℕ} → Short o l → Short (cond t (Some (0x5c ∷ k ∷ [])) o) (cond t (Some k) l)
+short_or true k p = letter k
+short_or false k p = p
 
 short : (b : ℕ) → Short (find (eqb b) short_escapes) (letter_of b)
 short b =
-    short_or (eqb b 8) 98 (omega arith)
-    (short_or (eqb b 9) 116 (omega arith)
-    (short_or (eqb b 10) 110 (omega arith)
-    (short_or (eqb b 12) 102 (omega arith)
-    (short_or (eqb b 13) 114 (omega arith)
-    (short_or (eqb b 34) 34 (omega arith)
-    (short_or (eqb b 92) 92 (omega arith) missing))))))
+    short_or (eqb b 8) 98
+    (short_or (eqb b 9) 116
+    (short_or (eqb b 10) 110
+    (short_or (eqb b 12) 102
+    (short_or (eqb b 13) 114
+    (short_or (eqb b 34) 34
+    (short_or (eqb b 92) 92 missing))))))
 
 abbrev unlettered : ℕ → Bytes
 unlettered b = cond (ltb b 0x20) (long_escape b) (b ∷ [])
 
 -- A byte with a letter has the short escape; of the others, those below 32 the long one, and the rest stand as they are.
-pub escaped_short : (b : ℕ) → 0 < letter_of b → escaped b ≡ 0x5c ∷ letter_of b ∷ []
-escaped_short b = go (short b)
+pub escaped_short : (b c : ℕ) → letter_of b ≡ Some c → escaped b ≡ 0x5c ∷ c ∷ []
+escaped_short b c = go (short b)
   where
-    go : {o : Option Bytes} {l : ℕ} → Short o l → 0 < l → or_else o (unlettered b) ≡ 0x5c ∷ l ∷ []
-    go missing h = absurd (omega arith)
-    go (letter l) h = refl
+    go : {o : Option Bytes} {l : Option ℕ} → Short o l → l ≡ Some c → or_else o (unlettered b) ≡ 0x5c ∷ c ∷ []
+    go missing h = clash cc
+    go (letter l) h = cc
 
-escaped_other : (b : ℕ) → letter_of b ≡ 0 → escaped b ≡ unlettered b
+escaped_other : (b : ℕ) → letter_of b ≡ None → escaped b ≡ unlettered b
 escaped_other b = go (short b)
   where
-    go : {o : Option Bytes} {l : ℕ} → Short o l → l ≡ 0 → or_else o (unlettered b) ≡ unlettered b
+    go : {o : Option Bytes} {l : Option ℕ} → Short o l → l ≡ None → or_else o (unlettered b) ≡ unlettered b
     go missing h = refl
-    go (letter l) h = absurd (omega arith)
+    go (letter l) h = clash cc
 
-pub escaped_long : (b : ℕ) → plain b ≡ false → letter_of b ≡ 0 → escaped b ≡ long_escape b
+pub escaped_long : (b : ℕ) → plain b ≡ false → letter_of b ≡ None → escaped b ≡ long_escape b
 escaped_long b p h = escaped_other b h ∙ go (ltb b 0x20) (eqb b 0x22) (eqb b 0x5c) refl refl p
   where
     go : (t q s : Bool) → eqb b 0x22 ≡ q → eqb b 0x5c ≡ s → not t && (not q && not s) ≡ false → cond t (long_escape b) (b ∷ []) ≡ long_escape b
     go true q s e f p = refl
-    go false true s e f p = absurd (let k = ap letter_of (eqb-true b 0x22 e) in omega arith)
-    go false false true e f p = absurd (let k = ap letter_of (eqb-true b 0x5c f) in omega arith)
+    go false true s e f p = let k = ap letter_of (eqb-true b 0x22 e) in clash cc
+    go false false true e f p = let k = ap letter_of (eqb-true b 0x5c f) in clash cc
     go false false false e f p = absurd (true≢false p)
 
 -- What is known of a byte that stands as it is.
@@ -145,7 +145,7 @@ plain_byte b = go (ltb b 0x20) (eqb b 0x22) (eqb b 0x5c) refl refl refl
     go false false true d e f p = absurd (true≢false (sym p))
     go false false false d e f p = (ltb-false b 0x20 d, eqb-false b 0x22 e, eqb-false b 0x5c f)
 
-pub letter_none : (b : ℕ) → (b ≡ 8 → ⊥) → (b ≡ 9 → ⊥) → (b ≡ 10 → ⊥) → (b ≡ 12 → ⊥) → (b ≡ 13 → ⊥) → (b ≡ 0x22 → ⊥) → (b ≡ 0x5c → ⊥) → letter_of b ≡ 0
+pub letter_none : (b : ℕ) → (b ≡ 8 → ⊥) → (b ≡ 9 → ⊥) → (b ≡ 10 → ⊥) → (b ≡ 12 → ⊥) → (b ≡ 13 → ⊥) → (b ≡ 0x22 → ⊥) → (b ≡ 0x5c → ⊥) → letter_of b ≡ None
 letter_none b h8 h9 h10 h12 h13 h34 h92 = simp (ne_eqb b 8 h8, ne_eqb b 9 h9, ne_eqb b 10 h10, ne_eqb b 12 h12, ne_eqb b 13 h13, ne_eqb b 0x22 h34, ne_eqb b 0x5c h92)
 
 pub escaped_plain : (b : ℕ) → plain b ≡ true → escaped b ≡ b ∷ []
@@ -158,7 +158,7 @@ escaped_plain b p =
 pub escaped_length : (b : ℕ) → (1 ≤ length (escaped b)) × (length (escaped b) ≤ 6)
 escaped_length b = go (ltb b 0x20) (short b)
   where
-    go : (t : Bool) {o : Option Bytes} {l : ℕ} → Short o l → let x = or_else o (cond t (long_escape b) (b ∷ [])) in (1 ≤ length x) × (length x ≤ 6)
+    go : (t : Bool) {o : Option Bytes} {l : Option ℕ} → Short o l → let x = or_else o (cond t (long_escape b) (b ∷ [])) in (1 ≤ length x) × (length x ≤ 6)
     go true missing = (omega arith, omega arith)
     go false missing = (omega arith, omega arith)
     go t (letter l) = (omega arith, omega arith)

@@ -3,10 +3,10 @@ ghost use Rattle.model.specs.Writing.{decimal};
 ghost use Rattle.print.specs.Contract.{Near, Put};
 ghost use Rattle.print.specs.Inner.{Ends};
 
-use crate::put::put_bytes;
+use crate::put::put_text;
 use instants::text::digit;
 
-// The digits of a number: what stands in `bytes` from `start` on.
+// The digits of a number: what stands in `bytes` from `start` on. Their number is known only at run time, and there is no heap.
 #[derive(Clone, Copy)]
 pub struct Digits {
     pub bytes: [u8; 20],
@@ -24,7 +24,7 @@ fn digits_of(n: u64) -> Digits
         let pair = rest % 100;
         bytes[i - 1] = digit(pair);
         bytes[i - 2] = digit(pair / 10);
-        rest = rest / 100;
+        rest /= 100;
         i -= 2;
     }
     bytes[i - 1] = digit(rest);
@@ -41,13 +41,11 @@ fn digits_of(n: u64) -> Digits
     }
 }
 
+#[tactic(auto, unfolding(model::specs::Limits::max_text_bytes))]
 pub fn put_decimal(output: &mut [u8], at: usize, n: u64) -> usize
     requires { Near at }
     ensures { Put (decimal n) at output.old result output.new }
 {
-    let text = digits_of(n);
-    let bytes = text.bytes;
-    let start = text.start;
-    put_bytes(output, at, &bytes[start..]);
-    at + (20 - start)
+    let Digits { bytes, start } = digits_of(n);
+    put_text(output, at, &bytes[start..])
 }

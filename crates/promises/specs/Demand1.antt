@@ -5,7 +5,7 @@ use Rattle.std.specs.Prelude.{◌≡◌, ℕ, ℤ, length}
 use Rattle.model.specs.Bytes.{Bytes}
 use Rattle.syntax.specs.Entry.{read_entry}
 use Rattle.table.specs.declared.row.Span.{Span}
-use Rattle.viewer.specs.Answer.{Seen, seen_of, name_of, integer_of, string_of, place_of}
+use Rattle.viewer.specs.Answer.{Seen, seen_of, name_of, integer_of, string_of}
 use Rattle.viewer.specs.View.{row_seen, part_seen}
 use Rattle.jehvrukam.specs.Check.{CheckAreas, CheckNumbers, check_entry}
 use Rattle.jehvrukam.specs.Evaluate.{Areas, Numbers, evaluate_entry}
@@ -51,7 +51,7 @@ pub view_numbers : (T : Bytes) (place : ℕ) (m n : Seen) → SameTold (view_ent
 view_numbers T place = LengthsLaws.told_numbers (seen_of (row_seen T place))
 
 pub view_part_numbers : (T : Bytes) (place nth m n : ℕ) → SameTold (view_part_entry T place nth m) (view_part_entry T place nth n)
-view_part_numbers T place nth = LengthsLaws.told_numbers (place_of (part_seen T place nth))
+view_part_numbers T place nth = LengthsLaws.told_numbers (part_seen T place nth)
 
 pub view_integer_numbers : (T : Bytes) (place : ℕ) (m n : ℤ) → SameTold (view_integer_entry T place m) (view_integer_entry T place n)
 view_integer_numbers T place = LengthsLaws.told_numbers (integer_of (row_seen T place))

@@ -1,6 +1,6 @@
 -- Replacement: 01, Evaluation: "To put another in its place, the bytes of that one value give way to any text that reads and is a rule".
 use Rattle.std.specs.Prelude.{◌++◌, ◌≡◌, ℕ}
-use Rattle.std.proofs.Math.Option.{some}
+use Rattle.std.specs.Prelude.{Some}
 use Rattle.model.specs.Bytes.{Bytes}
 use Rattle.model.specs.Eval.{run, outcome}
 use Rattle.model.specs.Place.{subrule}
@@ -18,7 +18,7 @@ pub record Replacement (text record' : Bytes) (limit : ℕ) (before old after ne
   pub read_so : evaluate_stage text record' ≡ passed texts
   pub place : Place
   pub operand : Rule
-  pub is_operand : subrule place texts.rule.content ≡ some operand
+  pub is_operand : subrule place texts.rule.content ≡ Some operand
   pub stands : StandsAt text (positions_of place texts.rule.value) before old after
   pub never_begun : NeverBegins place (run texts.rule.content texts.«record» limit)
   pub new_rule : TextRead Rule

@@ -1,3 +1,2 @@
 -- Laws for the proofs of the crate rule.
-pub mod Marks
 pub mod Views

@@ -1,7 +1,7 @@
 -- Views: what the view of a row says of the rule that it holds; an object by its mark.
 use mathlib.Core.Path.{◌≡◌, refl, sym, ap, subst, ◌∙◌}
 use mathlib.Core.Bool.{Bool, true, false, cond}
-use mathlib.Core.Option.{Option, none, some}
+use Rattle.std.specs.Prelude.{Option, None, Some}
 use Prim.Native.Nat.{ℕ, ◌*◌, ◌-◌, ◌≤◌}
 use native.Mathlib.Omega.{arith}
 use borrow.Author.Tests.{eqb-true, eqb-false}
@@ -26,8 +26,6 @@ use Rattle.table.specs.Denotes.{Denotes, denotes_null, denotes_false, denotes_tr
 use Rattle.table.specs.Node.{node_at}
 use Rattle.table.specs.Strings.{bytes_of}
 use Rattle.table.specs.Laws.Denotes as DenotesLaws
-use Rattle.rule.specs.declared.view.Shape.{Shape as Seen}
-use Rattle.rule.specs.declared.view.Shape.TheVariants as Shapes
 use Rattle.rule.specs.declared.view.View.{View}
 use Rattle.rule.specs.declared.view.View.TheVariants as Views
 use Rattle.rule.specs.Holds.{HoldsAll}
@@ -40,10 +38,10 @@ use Rattle.rule.specs.Laws.Objects.{object_views}
 use Rattle.rule.specs.Laws.Rows.{RowsAgree, node_part, row_inside, same_part, part_same, same_denotes, table_rows}
 
 -- Nothing is seen where no nesting is left.
-bound_within : (deep : ℕ) (s : Seen) → nested (view_of s) ≤ 1 → nested (view_of (within deep s)) ≤ deep
+bound_within : (deep : ℕ) (s : Option View) → nested (view_of s) ≤ 1 → nested (view_of (within deep s)) ≤ deep
 bound_within deep s l = go (eqb deep 0) refl
   where
-    go : (b : Bool) → eqb deep 0 ≡ b → nested (view_of (cond b Shapes.NotRule s)) ≤ deep
+    go : (b : Bool) → eqb deep 0 ≡ b → nested (view_of (cond b None s)) ≤ deep
     go true e = omega arith
     go false e = let n = eqb-false deep 0 e in omega arith
 
@@ -61,33 +59,33 @@ node_bound T B deep False = omega arith
 node_bound T B deep True = omega arith
 node_bound T B deep (Integer n) = omega arith
 node_bound T B deep (String s) = omega arith
-node_bound T B deep (Array q) = bound_within deep (Shapes.Rule (Views.Apply Ops.Array q)) (omega arith)
+node_bound T B deep (Array q) = bound_within deep (Some (Views.Apply Ops.Array q)) (omega arith)
 node_bound T B deep (Object q) = bound_within deep (object_on T B q) (nested_small (view_of (object_on T B q)))
 
 -- ---- the rule that a row holds
 module _ {T B : Bytes} where
-  held : {v : Value} {w : View} {q : Rows} (o : Operates T B v w q) (deep : ℕ) {rs : Rules} → nesting v ≤ deep → rules_of (operands_of o.operands) ≡ some rs → HoldsAll T B (deep - 1) q rs
+  held : {v : Value} {w : View} {q : Rows} (o : Operates T B v w q) (deep : ℕ) {rs : Rules} → nesting v ≤ deep → rules_of (operands_of o.operands) ≡ Some rs → HoldsAll T B (deep - 1) q rs
   held o deep n e = record { values = o.operands; denotes = o.denotes; shaped = e; nests = omega (arith, o.nests) }
 
-  built_viewed : {v : Value} {w : View} {q : Rows} (o : Operates T B v w q) (deep : ℕ) {rs : Rules} {ρ : Rule} → nesting v ≤ deep → rules_of (operands_of o.operands) ≡ some rs → Built w q rs ρ → Viewed T B deep w ρ
+  built_viewed : {v : Value} {w : View} {q : Rows} (o : Operates T B v w q) (deep : ℕ) {rs : Rules} {ρ : Rule} → nesting v ≤ deep → rules_of (operands_of o.operands) ≡ Some rs → Built w q rs ρ → Viewed T B deep w ρ
   built_viewed o deep n e built_if = viewed_if (held o deep n e)
   built_viewed o deep n e built_and = viewed_and (held o deep n e)
   built_viewed o deep n e built_reduce = viewed_reduce (held o deep n e)
   built_viewed o deep {rs} n e (built_apply {op = op} {o = model} s) =
       viewed_apply (subst (Stands op model) (sym (DenotesLaws.array_count o.denotes ∙ rules_count o.operands rs e)) s) (held o deep n e)
 
-  operation_viewed : {v : Value} {w : View} {q : Rows} (o : Operates T B v w q) (deep : ℕ) {ρ : Rule} → nesting v ≤ deep → shape v ≡ some ρ → Viewed T B deep w ρ
+  operation_viewed : {v : Value} {w : View} {q : Rows} (o : Operates T B v w q) (deep : ℕ) {ρ : Rule} → nesting v ≤ deep → shape v ≡ Some ρ → Viewed T B deep w ρ
   operation_viewed {w = w} o deep {ρ} n e = go (rules_of (operands_of o.operands)) refl
     where
       go : (r : Option Rules) → rules_of (operands_of o.operands) ≡ r → Viewed T B deep w ρ
-      go none f = none_some (sym (o.refused f) ∙ e)
-      go (some rs) f =
+      go None f = none_some (sym (o.refused f) ∙ e)
+      go (Some rs) f =
           let b = o.builds rs f in
           let x = sym b.shaped ∙ e in
           let y : b.whole ≡ ρ = cc in
           subst (Viewed T B deep w) y (built_viewed o deep n f b.built)
 
-  shaped_viewed : {v : Value} {w : View} {ρ : Rule} (deep : ℕ) → Shaped T B v (Shapes.Rule w) → nesting v ≤ deep → shape v ≡ some ρ → Viewed T B deep w ρ
+  shaped_viewed : {v : Value} {w : View} {ρ : Rule} (deep : ℕ) → Shaped T B v (Some w) → nesting v ≤ deep → shape v ≡ Some ρ → Viewed T B deep w ρ
   shaped_viewed {ρ = ρ} deep (shaped_literal {g = g} {l = l} x f s) n e =
       let z = sym f ∙ e in
       let y : literal l ≡ ρ = cc in
@@ -97,11 +95,11 @@ module _ {T B : Bytes} where
       subst (Viewed T B deep (Views.Var p)) y (viewed_var g)
   shaped_viewed deep (shaped_operation o) n e = operation_viewed o deep n e
 
-  not_shaped : {v : Value} {ρ : Rule} → Shaped T B v Shapes.NotRule → shape v ≡ some ρ → ⊥
+  not_shaped : {v : Value} {ρ : Rule} → Shaped T B v None → shape v ≡ Some ρ → ⊥
   not_shaped (shaped_none f) e = none_some (sym f ∙ e)
 
   -- ---- arrays and objects
-  array_operates : {vs : Values} {q : Rows} → Denotes T B (array vs) (Array q) → Shaped T B (array vs) (Shapes.Rule (Views.Apply Ops.Array q))
+  array_operates : {vs : Values} {q : Rows} → Denotes T B (array vs) (Array q) → Shaped T B (array vs) (Some (Views.Apply Ops.Array q))
   unfolding shape nesting
   array_operates {vs} {q} m = shaped_operation {w = Views.Apply Ops.Array q} {q = q} record {
     has = has_apply;
@@ -111,14 +109,14 @@ module _ {T B : Bytes} where
     lists = lists_array;
     bare = refl;
     nests = omega arith;
-    refused = λ x. ap (λ (o : Option Rules). o >>= λ rs. some (apply Operation.array rs)) x;
-    builds = λ rs x. record { whole = apply Operation.array rs; shaped = ap (λ (o : Option Rules). o >>= λ rs. some (apply Operation.array rs)) x; built = built_apply stands_array };
+    refused = λ x. ap (λ (o : Option Rules). o >>= λ rs. Some (apply Operation.array rs)) x;
+    builds = λ rs x. record { whole = apply Operation.array rs; shaped = ap (λ (o : Option Rules). o >>= λ rs. Some (apply Operation.array rs)) x; built = built_apply stands_array };
   }
 
-  within_shaped : {v : Value} (deep : ℕ) {s : Seen} → (deep ≡ 0 → ⊥) → Shaped T B v s → Shaped T B v (within deep s)
+  within_shaped : {v : Value} (deep : ℕ) {s : Option View} → (deep ≡ 0 → ⊥) → Shaped T B v s → Shaped T B v (within deep s)
   within_shaped {v} deep {s} n h = go (eqb deep 0) refl
     where
-      go : (b : Bool) → eqb deep 0 ≡ b → Shaped T B v (cond b Shapes.NotRule s)
+      go : (b : Bool) → eqb deep 0 ≡ b → Shaped T B v (cond b None s)
       go true e = absurd (n (eqb-true deep 0 e))
       go false e = h
 
@@ -133,9 +131,9 @@ module _ {T B : Bytes} where
   node_shaped deep (denotes_array x f r) n = within_shaped deep (λ z. omega arith) (array_operates (denotes_array x f r))
   node_shaped deep (denotes_object x f r) n = within_shaped deep (λ z. omega arith) (object_views (denotes_object x f r))
 
-  shape_viewed : {v : Value} {ρ : Rule} (s : Seen) (deep : ℕ) → Shaped T B v s → nesting v ≤ deep → shape v ≡ some ρ → Viewed T B deep (view_of s) ρ
-  shape_viewed Shapes.NotRule deep h n e = absurd (not_shaped h e)
-  shape_viewed (Shapes.Rule w) deep h n e = shaped_viewed deep h n e
+  shape_viewed : {v : Value} {ρ : Rule} (s : Option View) (deep : ℕ) → Shaped T B v s → nesting v ≤ deep → shape v ≡ Some ρ → Viewed T B deep (view_of s) ρ
+  shape_viewed None deep h n e = absurd (not_shaped h e)
+  shape_viewed (Some w) deep h n e = shaped_viewed deep h n e
 
 -- The operands are those of the table.
 module _ {R T B : Bytes} (s : RowsAgree R T) where
@@ -176,6 +174,6 @@ module _ {T B : Bytes} (marked : Marked T B) where
       mark : mark_at T row ≡ shape_mark (object_on (rows_part T) B q)
       mark = let l = row_inside T size row e in marked.marks row q l (sym (node_part T size row l) ∙ e)
 
-      go : (b : Bool) → cond b unmarked (marked_view (rows_part T) (mark_at T row) (node_at (rows_part T) q.first)) ≡ view_of (cond b Shapes.NotRule (object_on (rows_part T) B q))
+      go : (b : Bool) → cond b unmarked (marked_view (rows_part T) (mark_at T row) (node_at (rows_part T) q.first)) ≡ view_of (cond b None (object_on (rows_part T) B q))
       go true = refl
       go false = ap (λ (m : ℕ). marked_view (rows_part T) m (node_at (rows_part T) q.first)) mark ∙ sym (object_told (rows_part T) B q)

@@ -1,6 +1,6 @@
 -- Contract: what stands at a row of a rule's table, and the rule of which that is the outermost part.
 use Rattle.std.specs.Prelude.{true, false, ◌≡◌, ℕ, suc, ◌-◌, ◌≤◌, ℤ}
-use Rattle.std.proofs.Math.Option.{none, some}
+use Rattle.std.specs.Prelude.{Option, None, Some}
 use Rattle.std.proofs.Math.Dec as dec
 use Rattle.model.specs.Bytes.{Bytes}
 use Rattle.model.specs.Option.{◌>>=◌, is_some}
@@ -19,8 +19,6 @@ use Rattle.table.specs.Denotes.{Denotes, Lies}
 use Rattle.table.specs.Strings.{bytes_of}
 use Rattle.rule.specs.declared.view.Literal.{Literal}
 use Rattle.rule.specs.declared.view.Literal.TheVariants as Literals
-use Rattle.rule.specs.declared.view.Shape.{Shape as Seen}
-use Rattle.rule.specs.declared.view.Shape.TheVariants as Shapes
 use Rattle.rule.specs.declared.view.View.{View}
 use Rattle.rule.specs.declared.view.View.TheVariants as Views
 use Rattle.rule.specs.Holds.{Holds, HoldsAll, rule_count}
@@ -36,7 +34,7 @@ pub data Spells (B : Bytes) : Literal → ModelLiteral → Type 0 where
 -- A view of the rule, which nests no deeper than `deep`: its operands nest less deep.
 pub data Viewed (T B : Bytes) (deep : ℕ) : View → Rule → Type 0 where
   viewed_literal : {g : Literal} {l : ModelLiteral} → Spells B g l → Viewed T B deep (Views.Literal g) (literal l)
-  viewed_var : {p : Span} {q : Path} → path_of (bytes_of B p) ≡ some q → Viewed T B deep (Views.Var p) (var q)
+  viewed_var : {p : Span} {q : Path} → path_of (bytes_of B p) ≡ Some q → Viewed T B deep (Views.Var p) (var q)
   viewed_if : {q : Rows} {r₀ r₁ r₂ : Rule} → HoldsAll T B (deep - 1) q (rule r₀ (rule r₁ (rule r₂ no_rules))) → Viewed T B deep (Views.If q) (if r₀ r₁ r₂)
   viewed_and : {q : Rows} {r : Rule} {rs : Rules} → HoldsAll T B (deep - 1) q (rule r rs) → Viewed T B deep (Views.And q) (and r rs)
   viewed_reduce : {q : Rows} {r₀ r₁ r₂ : Rule} → HoldsAll T B (deep - 1) q (rule r₀ (rule r₁ (rule r₂ no_rules))) → Viewed T B deep (Views.Reduce q) (reduce r₀ r₁ r₂)
@@ -67,7 +65,7 @@ pub data Built : View → Rows → Rules → Rule → Type 0 where
 
 pub record Builds (v : Value) (w : View) (q : Rows) (rs : Rules) : Type 0 where
   pub whole : Rule
-  pub shaped : shape v ≡ some whole
+  pub shaped : shape v ≡ Some whole
   pub built : Built w q rs whole
 
 -- The operands of a view.
@@ -91,12 +89,12 @@ pub record Operates (T B : Bytes) (v : Value) (w : View) (q : Rows) : Type 0 whe
   pub lists : Lists v listed
   pub bare : is_some (rules_of (operands_of listed)) ≡ is_some (rules_of (operands_of operands))
   pub nests : suc (items_nesting operands) ≤ nesting v
-  pub refused : rules_of (operands_of operands) ≡ none → shape v ≡ none
-  pub builds : (rs : Rules) → rules_of (operands_of operands) ≡ some rs → Builds v w q rs
+  pub refused : rules_of (operands_of operands) ≡ None → shape v ≡ None
+  pub builds : (rs : Rules) → rules_of (operands_of operands) ≡ Some rs → Builds v w q rs
 
 -- What a value has the shape of (Laws/Objects.antt: object_views).
-pub data Shaped (T B : Bytes) (v : Value) : Seen → Type 0 where
-  shaped_none : shape v ≡ none → Shaped T B v Shapes.NotRule
-  shaped_literal : {g : Literal} {l : ModelLiteral} {x : Scalar} → v ≡ scalar x → shape v ≡ some (literal l) → Spells B g l → Shaped T B v (Shapes.Rule (Views.Literal g))
-  shaped_var : {p : Span} {n s : Bytes} → v ≡ object (member n (scalar (string s)) no_members) → shape v ≡ (path_of (bytes_of B p) >>= λ q. some (var q)) → Shaped T B v (Shapes.Rule (Views.Var p))
-  shaped_operation : {w : View} {q : Rows} → Operates T B v w q → Shaped T B v (Shapes.Rule w)
+pub data Shaped (T B : Bytes) (v : Value) : Option View → Type 0 where
+  shaped_none : shape v ≡ None → Shaped T B v None
+  shaped_literal : {g : Literal} {l : ModelLiteral} {x : Scalar} → v ≡ scalar x → shape v ≡ Some (literal l) → Spells B g l → Shaped T B v (Some (Views.Literal g))
+  shaped_var : {p : Span} {n s : Bytes} → v ≡ object (member n (scalar (string s)) no_members) → shape v ≡ (path_of (bytes_of B p) >>= λ q. Some (var q)) → Shaped T B v (Some (Views.Var p))
+  shaped_operation : {w : View} {q : Rows} → Operates T B v w q → Shaped T B v (Some w)

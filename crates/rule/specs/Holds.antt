@@ -1,5 +1,5 @@
 -- Holds: the relation between a read table and the rule that it holds: one of its rows, and the rule that the value in it is.
-use Rattle.std.proofs.Math.Option.{some}
+use Rattle.std.specs.Prelude.{Some}
 use Rattle.std.specs.Prelude.{◌≡◌, ℕ, suc, ◌≤◌, ◌<◌}
 use Rattle.model.specs.Bytes.{Bytes}
 use Rattle.model.specs.Limits.{max_values}
@@ -17,14 +17,14 @@ pub record Holds (T B : Bytes) (deep row : ℕ) (r : Rule) : Type 0 where
   pub within : row < max_values
   pub value : Value
   pub denotes : Denotes T B value (node_at T row)
-  pub shaped : shape value ≡ some r
+  pub shaped : shape value ≡ Some r
   pub nests : nesting value ≤ deep
 
 -- The rules of operands in an array, one after the other.
 pub record HoldsAll (T B : Bytes) (deep : ℕ) (q : Rows) (rs : Rules) : Type 0 where
   pub values : Values
   pub denotes : Denotes T B (array values) (Array q)
-  pub shaped : rules_of (operands_of values) ≡ some rs
+  pub shaped : rules_of (operands_of values) ≡ Some rs
   pub nests : items_nesting values ≤ deep
 
 -- How many rules there are.

@@ -1,7 +1,9 @@
 -- Mark: what the shape check found each object of a rule's table T to be: a byte for each row, behind the rows.
+use Rattle.std.specs.Prelude.{Option, None, Some}
 use Rattle.std.specs.Prelude.{cond, List, [], ◌∷◌, ◌≡◌, ℕ, ◌+◌, ◌*◌, ◌≤◌, ◌<◌, eqb, length, get_or, set}
 use Rattle.model.specs.Bytes.{Bytes}
 use Rattle.model.specs.Limits.{max_values}
+use Rattle.model.specs.Option.{or_else}
 use Rattle.model.specs.declared.Comparison.{Comparison}
 use Rattle.model.specs.declared.Comparison.TheVariants.{Greater, Less, GreaterOrEqual, LessOrEqual}
 use Rattle.model.specs.declared.Domain.{Domain}
@@ -16,11 +18,9 @@ use Rattle.table.specs.declared.node.Node.TheVariants.{Null, False, True, Intege
 use Rattle.table.specs.declared.node.Rows.{Rows}
 use Rattle.table.specs.Node.{node_at, next_row}
 use Rattle.rule.specs.declared.view.Literal.TheVariants as Literals
-use Rattle.rule.specs.declared.view.Shape.{Shape}
-use Rattle.rule.specs.declared.view.Shape.TheVariants.{NotRule, Rule}
 use Rattle.rule.specs.declared.view.View.{View}
 use Rattle.rule.specs.declared.view.View.TheVariants.{Literal, Var, If, And, Reduce, Apply}
-use Rattle.rule.specs.View.{first_of, object_on}
+use Rattle.rule.specs.View.{first_of, integer_of, object_on}
 
 -- ---- where
 -- The marks begin where the rows end.
@@ -73,9 +73,9 @@ view_mark (Reduce q) = 4
 view_mark (Apply op q) = op_mark op
 
 -- What is no rule is marked 0.
-abbrev pub shape_mark : Shape → ℕ
-shape_mark NotRule = 0
-shape_mark (Rule w) = view_mark w
+abbrev pub shape_mark : Option View → ℕ
+shape_mark None = 0
+shape_mark (Some w) = view_mark w
 
 -- ---- and back
 -- What has no mark is viewed as the literal false.
@@ -83,17 +83,8 @@ abbrev pub unmarked : View
 unmarked = Literal Literals.False
 
 -- The integer behind the first operand of `plusTime` and `extractFromUVCI`; 0 where none stands there.
-abbrev pub integer_in : Node → ℕ
-integer_in Null = 0
-integer_in False = 0
-integer_in True = 0
-integer_in (Integer n) = n
-integer_in (String s) = 0
-integer_in (Array q) = 0
-integer_in (Object q) = 0
-
 abbrev pub bare_integer : Bytes → Rows → ℕ
-bare_integer R q = integer_in (node_at R (next_row R q.first))
+bare_integer R q = or_else (integer_of (node_at R (next_row R q.first))) 0
 
 abbrev pub compare_view : Domain → Comparison → Rows → View
 compare_view d c q = Apply (Ops.Compare d c) q

@@ -2,5 +2,7 @@
 #![tactic(auto)]
 
 pub mod mark;
+mod operand;
 pub mod operation;
+pub mod text;
 pub mod view;

@@ -1,11 +1,11 @@
 // Marks: what the shape check found each object of a rule's table to be, a byte for each row. They lie behind the rows.
-ghost use Rattle.std.specs.Prelude.{◌≡◌, ◌<◌};
+ghost use Rattle.std.specs.Prelude.{◌≡◌};
 ghost use Rattle.syntax.specs.Layout.{rows_part};
-ghost use Rattle.rule.specs.Mark.{mark_at, with_mark, comparison_mark, compare_mark, unit_mark, op_mark, view_mark};
+ghost use Rattle.rule.specs.Mark.{mark_at, with_mark, op_mark, view_mark};
 
 use crate::view::View;
 use keywords::Op;
-use model::{Comparison, Domain, MAX_VALUES, TimeUnit};
+use model::{Domain, MAX_VALUES};
 use syntax::ROW_BYTES;
 use table::string::part_of;
 
@@ -13,6 +13,7 @@ use table::string::part_of;
 const MARKS: usize = MAX_VALUES * ROW_BYTES;
 
 // The rows of a table, without what lies behind them.
+#[tactic(auto, unfolding(model::specs::Limits::max_values, syntax::specs::Layout::row_bytes, syntax::specs::Layout::rows_part))]
 pub fn rows_of(table: &[u8]) -> &[u8]
     ensures { result.now ≡ rows_part table.now }
 {
@@ -20,37 +21,6 @@ pub fn rows_of(table: &[u8]) -> &[u8]
 }
 
 // ---- numbers
-fn comparison_mark(c: Comparison) -> u8
-    ensures { (result ≡ comparison_mark c) × (result < 4) }
-{
-    match c {
-        Comparison::Greater => 0,
-        Comparison::Less => 1,
-        Comparison::GreaterOrEqual => 2,
-        Comparison::LessOrEqual => 3,
-    }
-}
-
-fn compare_mark(domain: Domain, comparison: Comparison) -> u8
-    ensures { result ≡ compare_mark domain comparison }
-{
-    match domain {
-        Domain::OnIntegers => 10 + comparison_mark(comparison),
-        Domain::OnInstants => 14 + comparison_mark(comparison),
-    }
-}
-
-fn unit_mark(unit: TimeUnit) -> u8
-    ensures { result ≡ unit_mark unit }
-{
-    match unit {
-        TimeUnit::Year => 18,
-        TimeUnit::Month => 19,
-        TimeUnit::Day => 20,
-        TimeUnit::Hour => 21,
-    }
-}
-
 fn op_mark(op: Op) -> u8
     ensures { result ≡ op_mark op }
 {
@@ -61,13 +31,20 @@ fn op_mark(op: Op) -> u8
         Op::Plus => 7,
         Op::Not => 8,
         Op::DateOfBirth => 9,
-        Op::Compare { domain, comparison } => compare_mark(domain, comparison),
-        Op::PlusTime { amount: _, unit } => unit_mark(unit),
+        Op::Compare {
+            domain: Domain::OnIntegers,
+            comparison,
+        } => 10 + comparison as u8,
+        Op::Compare {
+            domain: Domain::OnInstants,
+            comparison,
+        } => 14 + comparison as u8,
+        Op::PlusTime { unit, .. } => 18 + unit as u8,
         Op::ExtractFromUvci(_) => 22,
     }
 }
 
-// The mark of an object with this view.
+// The mark of an object with this view. The marks are numbers: they are bytes of the table that the host lends.
 pub fn mark_of(view: View) -> u8
     ensures { result ≡ view_mark view }
 {
@@ -83,28 +60,21 @@ pub fn mark_of(view: View) -> u8
 
 // ---- bytes
 // A table with a mark of a row; as it was where it ends before.
+#[tactic(auto, unfolding(model::specs::Limits::max_values, syntax::specs::Layout::row_bytes))]
 pub fn put_mark(table: &mut [u8], row: usize, mark: u8)
     ensures { table.new ≡ with_mark table.old row mark }
 {
-    let n = table.len();
-    if n <= MARKS {
-        return;
+    if row < table.len().saturating_sub(MARKS) {
+        table[MARKS + row] = mark;
     }
-    if n - MARKS <= row {
-        return;
-    }
-    table[MARKS + row] = mark;
 }
 
 // The mark of a row; 0 where the table ends before.
+#[tactic(auto, unfolding(model::specs::Limits::max_values, syntax::specs::Layout::row_bytes))]
 pub fn mark_at(table: &[u8], row: usize) -> u8
     ensures { result ≡ mark_at table.now row }
 {
-    let size = table.len();
-    if size <= MARKS {
-        return 0;
-    }
-    if size - MARKS <= row {
+    if table.len().saturating_sub(MARKS) <= row {
         return 0;
     }
     let at = MARKS + row;

@@ -1,10 +1,12 @@
 // What stands at a row of a rule's table: the model's six cases, with the rows of the operands. An object is viewed by its mark.
-ghost use Rattle.std.specs.Prelude.{[], ◌∷◌, ◌≡◌, get_or};
+ghost use Rattle.std.specs.Prelude.{[], ◌∷◌, ◌≡◌, Some, get_or};
 ghost use Rattle.rule.specs.View.{within, view_of};
-ghost use Rattle.rule.specs.Mark.{Marked, unmarked, integer_in, bare_integer, plus_time_view, extract_view, operands_views, marked_view, object_view};
+ghost use Rattle.rule.specs.Mark.{unmarked, bare_integer, plus_time_view, operands_views, marked_view, object_view};
 ghost use Rattle.rule.specs.Contract.{ViewsAs};
 
 use crate::mark::{mark_at, rows_of};
+use crate::operand::{first_of, integer_of};
+use crate::text::RuleText;
 use keywords::Op;
 use model::{Comparison, Domain, TimeUnit};
 use table::node::{Node, Rows, next_row, node_at};
@@ -30,48 +32,21 @@ pub enum View {
     Apply(Op, Rows),
 }
 
-// What a row has the shape of. The operands are not looked at.
-#[derive(Clone, Copy)]
-pub enum Shape {
-    NotRule,
-    Rule(View),
-}
-
-fn integer_in(n: Node) -> u64
-    ensures { result ≡ integer_in n }
-{
-    match n {
-        Node::Null => 0,
-        Node::False => 0,
-        Node::True => 0,
-        Node::Integer(n) => n,
-        Node::String(_) => 0,
-        Node::Array(_) => 0,
-        Node::Object(_) => 0,
-    }
-}
+// What a row that holds no rule, and an object that has no mark, is viewed as.
+const UNMARKED: View = View::Literal(Literal::False);
 
 // The integer behind the first operand of `plusTime` and `extractFromUVCI`; 0 where none stands there.
 fn bare_integer(rows: &[u8], q: Rows) -> u64
     ensures { result ≡ bare_integer rows.now q }
 {
-    integer_in(node_at(rows, next_row(rows, q.first)))
+    integer_of(node_at(rows, next_row(rows, q.first))).unwrap_or(0)
 }
 
 fn plus_time_view(rows: &[u8], unit: TimeUnit, q: Rows) -> View
     ensures { result ≡ plus_time_view rows.now unit q }
 {
     let amount = bare_integer(rows, q);
-    let first = q.first;
-    View::Apply(Op::PlusTime { amount, unit }, Rows { first, count: 1 })
-}
-
-fn extract_view(rows: &[u8], q: Rows) -> View
-    ensures { result ≡ extract_view rows.now q }
-{
-    let index = bare_integer(rows, q);
-    let first = q.first;
-    View::Apply(Op::ExtractFromUvci(index), Rows { first, count: 1 })
+    View::Apply(Op::PlusTime { amount, unit }, first_of(q))
 }
 
 fn compare_view(domain: Domain, comparison: Comparison, q: Rows) -> View
@@ -80,13 +55,11 @@ fn compare_view(domain: Domain, comparison: Comparison, q: Rows) -> View
     View::Apply(Op::Compare { domain, comparison }, q)
 }
 
-// The view of operands with this mark.
+// The view of operands with this mark. The table of `mark_of` read the other way: each way a `match` is plainest, since a mark tells no operands.
 fn operands_view(rows: &[u8], mark: u8, q: Rows) -> View
     ensures { result ≡ get_or (operands_views rows.now q) mark unmarked }
 {
     match mark {
-        0 => View::Literal(Literal::False),
-        1 => View::Literal(Literal::False),
         2 => View::If(q),
         3 => View::And(q),
         4 => View::Reduce(q),
@@ -107,8 +80,8 @@ fn operands_view(rows: &[u8], mark: u8, q: Rows) -> View
         19 => plus_time_view(rows, TimeUnit::Month, q),
         20 => plus_time_view(rows, TimeUnit::Day, q),
         21 => plus_time_view(rows, TimeUnit::Hour, q),
-        22 => extract_view(rows, q),
-        _ => View::Literal(Literal::False),
+        22 => View::Apply(Op::ExtractFromUvci(bare_integer(rows, q)), first_of(q)),
+        _ => UNMARKED,
     }
 }
 
@@ -117,9 +90,8 @@ fn path_view(mark: u8, s: Span) -> View
     ensures { result ≡ get_or (unmarked ∷ View.Var s ∷ []) mark unmarked }
 {
     match mark {
-        0 => View::Literal(Literal::False),
         1 => View::Var(s),
-        _ => View::Literal(Literal::False),
+        _ => UNMARKED,
     }
 }
 
@@ -128,22 +100,18 @@ fn marked_view(rows: &[u8], mark: u8, content: Node) -> View
     ensures { result ≡ marked_view rows.now mark content }
 {
     match content {
-        Node::Null => View::Literal(Literal::False),
-        Node::False => View::Literal(Literal::False),
-        Node::True => View::Literal(Literal::False),
-        Node::Integer(_) => View::Literal(Literal::False),
         Node::String(s) => path_view(mark, s),
         Node::Array(q) => operands_view(rows, mark, q),
-        Node::Object(_) => View::Literal(Literal::False),
+        _ => UNMARKED,
     }
 }
 
 // An array, where so many nestings are left.
 fn array_view(q: Rows, deep: usize) -> View
-    ensures { result ≡ view_of (within deep (Shape.Rule (View.Apply Op.Array q))) }
+    ensures { result ≡ view_of (within deep (Some (View.Apply Op.Array q))) }
 {
     if deep == 0 {
-        return View::Literal(Literal::False);
+        return UNMARKED;
     }
     View::Apply(Op::Array, q)
 }
@@ -153,7 +121,7 @@ fn object_view(rule_table: &[u8], row: usize, q: Rows, deep: usize) -> View
     ensures { result ≡ object_view rule_table.now row q deep }
 {
     if deep == 0 {
-        return View::Literal(Literal::False);
+        return UNMARKED;
     }
     let mark = mark_at(rule_table, row);
     let rows = rows_of(rule_table);
@@ -161,18 +129,17 @@ fn object_view(rule_table: &[u8], row: usize, q: Rows, deep: usize) -> View
 }
 
 // The view of the rule in a row, if it nests no deeper than `deep`. A row that holds no such rule is viewed as the literal false.
-pub fn view_at(rule_table: &[u8], rule_strings: &[u8], row: usize, deep: usize) -> View
-    requires { Marked rule_table.now rule_strings.now }
-    ensures { ViewsAs rule_table.now rule_strings.now row deep result }
+pub fn view_at(text: RuleText, row: usize, deep: usize) -> View
+    ensures { ViewsAs text.entry.table.now text.entry.strings.now row deep result }
 {
-    let node = node_at(rows_of(rule_table), row);
+    let node = node_at(rows_of(text.table), row);
     match node {
-        Node::Null => View::Literal(Literal::False),
+        Node::Null => UNMARKED,
         Node::False => View::Literal(Literal::False),
         Node::True => View::Literal(Literal::True),
         Node::Integer(n) => View::Literal(Literal::Integer(n)),
         Node::String(s) => View::Literal(Literal::String(s)),
         Node::Array(q) => array_view(q, deep),
-        Node::Object(q) => object_view(rule_table, row, q, deep),
+        Node::Object(q) => object_view(text.table, row, q, deep),
     }
 }

@@ -1,44 +1,20 @@
 -- What one byte decides.
-use mathlib.Core.Path.{◌≡◌, refl, sym, ap, ◌∙◌, subst⁻¹}
+use mathlib.Core.Path.{◌≡◌, refl, ◌∙◌, subst⁻¹}
 use mathlib.Core.Bool.{Bool, true, false, false≢true}
-use mathlib.Core.List.{[], ◌∷◌}
 use Prim.Native.Nat.{ℕ, ◌≤◌, ◌<◌}
-use denote.Enum.Declared.{tag_of}
-use types.Run.{OneOf, miss}
-use borrow.Author.Tests.{eq-eqb, ne_eqb, lt-ltb, le-ltb, le-leb, lt-leb, leb-false}
+use borrow.Author.Tests.{eq-eqb, ne_eqb, lt-ltb, le-ltb, leb-false}
 use lib.Dec.{eqb, leb}
 use lib.ListN.{length, get_or}
 use Rattle.model.specs.Bytes.{Bytes}
 use Rattle.model.specs.Limits.{max_values, max_nesting}
-use Rattle.syntax.specs.contracts.Start.{the_type}
 use Rattle.syntax.specs.declared.Start.{Start}
 use Rattle.syntax.specs.declared.Start.TheVariants.{NoValue, TooMuch, Literal, Minus, Digit, Quote, Bracket, Brace}
 use Rattle.syntax.specs.declared.Word.TheVariants.{TrueWord, FalseWord, NullWord}
 use Rattle.syntax.specs.declared.Separator.TheVariants.{Comma, Close, Neither}
-use Rattle.syntax.specs.Read.{is_part}
-use Rattle.syntax.specs.Tokens.{is_white, is_digit, is_point, is_e, counted, nested, start_of, separator_of}
+use Rattle.syntax.specs.Tokens.{is_digit, counted, nested, start_of, separator_of}
 use Rattle.scan.specs.Contract.{start_at, StartRoom, Started, separator_at, Separated, stands_at, Stands}
-use Rattle.scan.specs.Inner.{too_many, Begun}
-
-pub white_last : (b : ℕ) → (b ≡ 32 → ⊥) → (b ≡ 9 → ⊥) → (b ≡ 10 → ⊥) → eqb b 13 ≡ is_white b
-unfolding is_white
-white_last b p q r = rw (ne_eqb b 32 p, ne_eqb b 9 q, ne_eqb b 10 r)
-
-pub part_last : (b : ℕ) → (b ≡ 46 → ⊥) → (b ≡ 101 → ⊥) → eqb b 69 ≡ is_part b
-unfolding is_part is_point is_e
-part_last b p q = rw (ne_eqb b 46 p, ne_eqb b 101 q)
 
 -- ---- the start of a value
-module _ (row depth b : ℕ) (quote : b ≡ 34 → ⊥) (bracket : b ≡ 91 → ⊥) (brace : b ≡ 123 → ⊥) where
-  pub start_digit : is_digit b ≡ true → counted row Digit ≡ start_of row depth b
-  unfolding start_of
-  start_digit d = simp (start_of, ne_eqb b 34 quote, ne_eqb b 91 bracket, ne_eqb b 123 brace, d)
-
-  pub start_none : is_digit b ≡ false → (b ≡ 45 → ⊥) → (b ≡ 116 → ⊥) → (b ≡ 102 → ⊥) → (b ≡ 110 → ⊥) → NoValue ≡ start_of row depth b
-  unfolding start_of
-  start_none d minus t f n =
-      simp (start_of, ne_eqb b 34 quote, ne_eqb b 91 bracket, ne_eqb b 123 brace, d, ne_eqb b 45 minus, ne_eqb b 116 t, ne_eqb b 102 f, ne_eqb b 110 n)
-
 module _ (P : Start → Type 0) where
   either : (c : Bool) {x y : Start} → P x → P y → P (elim c [ true ↦ x | false ↦ y ])
   either true p q = p
@@ -59,31 +35,6 @@ module _ (P : Start → Type 0) where
       go : (c : Bool) → leb max_nesting depth ≡ c → P (elim c [ true ↦ TooMuch | false ↦ x ])
       go true e = z
       go false e = h (leb-false max_nesting depth e)
-
--- What begins a value is counted.
-pub begun : (depth b : ℕ) (x : Start) → too_many x ≡ TooMuch → ((row : ℕ) → start_of row depth b ≡ counted row x) → {r : Start} → r ≡ x → Begun depth b r
-unfolding counted
-begun depth b x value is e = record {
-  few = λ row l. e ∙ sym (is row ∙ simp (counted, lt-leb max_values row l));
-  many = λ row l. ap too_many e ∙ value ∙ sym (is row ∙ simp (counted, le-leb max_values row l));
-}
-
-pub nested_value : (depth : ℕ) (x : Start) → too_many x ≡ TooMuch → too_many (nested depth x) ≡ TooMuch
-nested_value depth x e = nested_room (λ (k : Start). too_many k ≡ TooMuch) depth x refl (λ l. e)
-
-pub begun_none : {depth b : ℕ} → ((row : ℕ) → NoValue ≡ start_of row depth b) → Begun depth b NoValue
-begun_none is = record { few = λ row l. is row; many = λ row l. is row }
-
--- Of those that are not NoValue.
-pub too_many_other : (k : Start) → OneOf (1 ∷ 2 ∷ 3 ∷ 4 ∷ 5 ∷ 6 ∷ 7 ∷ []) (tag_of the_type k) → TooMuch ≡ too_many k
-too_many_other NoValue h = absurd (miss (1 ∷ 2 ∷ 3 ∷ 4 ∷ 5 ∷ 6 ∷ 7 ∷ []) 0 tt h)
-too_many_other TooMuch h = refl
-too_many_other (Literal w) h = refl
-too_many_other Minus h = refl
-too_many_other Digit h = refl
-too_many_other Quote h = refl
-too_many_other Bracket h = refl
-too_many_other Brace h = refl
 
 module _ (s : Bytes) (row depth at : ℕ) where
   abbrev Room : Start → Type 0

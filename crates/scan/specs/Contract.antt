@@ -1,8 +1,8 @@
 -- What the functions of this crate promise: the tokens of specs/Read.antt of the crate syntax, read from a text s at an offset.
-use Rattle.std.specs.Prelude.{◌≡◌, Bool, true, false, [], ◌∷◌, ℕ, suc, ◌≤◌, ◌<◌, ltb, eqb, ℤ, length, get_or, drop}
+use Rattle.std.specs.Prelude.{◌≡◌, Bool, true, false, [], ◌∷◌, ℕ, suc, ◌≤◌, ◌<◌, ltb, eqb, ℤ, length, get_or, drop, Option, None, Some, Result, Ok, Err}
 use Rattle.model.specs.Bytes.{Bytes}
 use Rattle.model.specs.Limits.{max_values, max_nesting}
-use Rattle.model.specs.Refusal.{ReadFault, read_number}
+use Rattle.model.specs.declared.refusal.ReadFault.{ReadFault}
 use Rattle.model.specs.Value.{Value, scalar, null, boolean, integer}
 use Rattle.syntax.specs.declared.Start.{Start}
 use Rattle.syntax.specs.declared.Start.TheVariants.{NoValue, TooMuch, Literal, Minus, Digit, Quote, Bracket, Brace}
@@ -14,19 +14,11 @@ use Rattle.syntax.specs.Layout.{biased}
 use Rattle.syntax.specs.Read.{Parsed, ok, bad}
 use Rattle.syntax.specs.Tokens.{is_white, is_digit, digit_value, start_of, separator_of}
 use Rattle.scan.specs.declared.Fault.{Fault}
-use Rattle.scan.specs.declared.token.Decimal.{Decimal}
-use Rattle.scan.specs.declared.token.Decimal.TheVariants.{DecimalDigit, NoDecimal}
-use Rattle.scan.specs.declared.token.WordMatch.{WordMatch}
-use Rattle.scan.specs.declared.token.WordMatch.TheVariants.{Matched, Mismatch}
 use Rattle.scan.specs.declared.number.Numeral.{Numeral}
-use Rattle.scan.specs.declared.number.Numeral.TheVariants.{Integer, NoInteger}
 
--- A fault as the code has it, and that of a parser.
-abbrev pub fault_at : ℕ → ℕ → Fault
-fault_at number at = record { number = number; at = at }
-
+-- A parser's fault as the code has it.
 abbrev pub fault_of : ReadFault → ℕ → Fault
-fault_of k p = fault_at (read_number k) p
+fault_of k p = record { reason = k; at = p }
 
 -- ---- white space
 -- The offset after the white space with which t, at an offset, begins.
@@ -59,8 +51,8 @@ pub record Started (s : Bytes) (row depth at : ℕ) (r : Start) : Type 0 where
   pub room : StartRoom s row depth at r
 
 -- A digit's number, if the byte is one.
-unfoldable pub decimal_of : ℕ → Decimal
-decimal_of b = elim (is_digit b) [ true ↦ DecimalDigit (digit_value b) | false ↦ NoDecimal ]
+unfoldable pub decimal_of : ℕ → Option ℕ
+decimal_of b = elim (is_digit b) [ true ↦ Some (digit_value b) | false ↦ None ]
 
 unfoldable pub separator_at : Bytes → ℕ → ℕ → Separator
 separator_at s close at = elim (ltb at (length s)) [ true ↦ separator_of close (get_or s at 0) | false ↦ Neither ]
@@ -88,29 +80,32 @@ word_value FalseWord = scalar (boolean false)
 word_value NullWord = scalar null
 
 -- A literal that ends at q.
-pub record LiteralRead (s : Bytes) (at : ℕ) (w : Word) (v : Value) (u : Bytes) (q : ℕ) (r : WordMatch) : Type 0 where
-  pub answer : r ≡ Matched q
+pub record LiteralRead (s : Bytes) (at : ℕ) (w : Word) (v : Value) (u : Bytes) (q : ℕ) (r : Result ℕ Fault) : Type 0 where
+  pub answer : r ≡ Ok q
   pub is : v ≡ word_value w
   pub left : u ≡ drop q s
   pub on : at < q
   pub inside : q ≤ length s
 
 -- The answer, by what the parser gives.
-abbrev pub LiteralMeets : Bytes → ℕ → Word → Parsed Value → WordMatch → Type 0
+abbrev pub LiteralMeets : Bytes → ℕ → Word → Parsed Value → Result ℕ Fault → Type 0
 LiteralMeets s at w (ok v u q) r = LiteralRead s at w v u q r
-LiteralMeets s at w (bad k p) r = r ≡ Mismatch (fault_of k p)
+LiteralMeets s at w (bad k p) r = r ≡ Err (fault_of k p)
 
 -- ---- numbers
--- The integer z, which ends at q.
-pub record NumberRead (s : Bytes) (at : ℕ) (v : Value) (u : Bytes) (q : ℕ) (r : Numeral) : Type 0 where
+-- The integer z as the code has it, which ends at q.
+abbrev pub numeral : ℕ → ℤ → Numeral
+numeral q z = record { at = q; biased = biased z }
+
+pub record NumberRead (s : Bytes) (at : ℕ) (v : Value) (u : Bytes) (q : ℕ) (r : Result Numeral Fault) : Type 0 where
   pub z : ℤ
   pub is : v ≡ scalar (integer z)
-  pub answer : r ≡ Integer q (biased z)
+  pub answer : r ≡ Ok (numeral q z)
   pub left : u ≡ drop q s
   pub on : at < q
   pub inside : q ≤ length s
 
 -- The answer, by what the parser gives.
-abbrev pub NumberMeets : Bytes → ℕ → Parsed Value → Numeral → Type 0
+abbrev pub NumberMeets : Bytes → ℕ → Parsed Value → Result Numeral Fault → Type 0
 NumberMeets s at (ok v u q) r = NumberRead s at v u q r
-NumberMeets s at (bad k p) r = r ≡ NoInteger (fault_of k p)
+NumberMeets s at (bad k p) r = r ≡ Err (fault_of k p)

@@ -1,11 +1,11 @@
 -- Laws for the proofs of code that reads a text s: what the parsers give at an offset, where the bytes left are `drop at s`.
-use Rattle.std.specs.Prelude.{◌≡◌, refl, Bool, true, false, ◌&&◌, ℕ, zero, suc, ◌+◌, ◌≤◌, ◌<◌, eqb, leb, ltb, ℤ, length, get_or, drop}
+use Rattle.std.specs.Prelude.{◌≡◌, refl, Bool, true, false, ◌&&◌, ℕ, zero, suc, ◌+◌, ◌≤◌, ◌<◌, eqb, leb, ltb, ℤ, length, get_or, drop, Option, None, Some, Result, Ok, Err}
 use Rattle.std.proofs.Common.{sym, ap, ◌∙◌, subst, add-one, arith, drop_of_length-le, drop-cons, drop-drop}
 use Rattle.std.proofs.lemmas.Bool.{false≢true}
 use mathlib.Core.List.{List, [], ◌∷◌}
 use borrow.Author.Tests.{ltb-true, ltb-false, leb-true}
 use Rattle.model.specs.Bytes.{Bytes}
-use Rattle.model.specs.Refusal.{ReadFault, not_json}
+use Rattle.model.specs.declared.refusal.ReadFault.TheVariants.{NotJson}
 use Rattle.model.specs.Value.{Value, scalar, array, object, integer, string, no_items, no_members}
 use Rattle.model.proofs.Laws.Logic.{clash}
 use Rattle.syntax.specs.declared.Start.{Start}
@@ -16,14 +16,9 @@ use Rattle.syntax.specs.declared.Word.{Word}
 use Rattle.syntax.specs.Read.{Parsed, ok, bad, Parser, then, ◌>>=◌, give, fail, if, peek, eat, white, literal, int, quoted, name, on_start, on_separator, value, items, members, ended}
 use Rattle.syntax.specs.Layout.{biased}
 use Rattle.syntax.specs.Tokens.{within, is_white, is_digit, digit_value, start_of, separator_of}
-use Rattle.scan.specs.Contract.{fault_of, decimal_of, word_value, end_white, Skipped, start_at, StartRoom, Started, separator_at, SeparatorRoom, Separated, stands_at, Stands, LiteralMeets, NumberMeets}
+use Rattle.scan.specs.Contract.{fault_of, numeral, decimal_of, word_value, end_white, Skipped, start_at, StartRoom, Started, separator_at, SeparatorRoom, Separated, stands_at, Stands, LiteralMeets, NumberMeets}
 use Rattle.scan.specs.declared.Fault.{Fault}
-use Rattle.scan.specs.declared.token.Decimal.{Decimal}
-use Rattle.scan.specs.declared.token.Decimal.TheVariants.{DecimalDigit, NoDecimal}
-use Rattle.scan.specs.declared.token.WordMatch.{WordMatch}
-use Rattle.scan.specs.declared.token.WordMatch.TheVariants.{Matched, Mismatch}
 use Rattle.scan.specs.declared.number.Numeral.{Numeral}
-use Rattle.scan.specs.declared.number.Numeral.TheVariants.{Integer, NoInteger}
 
 -- ---- one byte
 pub drop_next : (s t : Bytes) (at b : ℕ) → drop at s ≡ b ∷ t → drop (suc at) s ≡ t
@@ -33,7 +28,7 @@ pub peek_in : (s : Bytes) (at : ℕ) → at < length s → peek (drop at s) at �
 unfolding peek
 peek_in s at l = rw (drop-cons s at 0 l)
 
-pub peek_end : (s : Bytes) (at : ℕ) → length s ≤ at → peek (drop at s) at ≡ bad not_json at
+pub peek_end : (s : Bytes) (at : ℕ) → length s ≤ at → peek (drop at s) at ≡ bad NotJson at
 unfolding peek
 peek_end s at l = rw (drop_of_length-le s l)
 
@@ -63,7 +58,7 @@ white_by m {s} {at} k = white_skip m s (drop at s) at refl ∙ ap (λ q. m (drop
 
 -- ---- decisions by the byte at an offset
 -- What a byte decides, and what its lack does.
-at_byte : {A B : Type 0} (g : ℕ → B) (z : B) (f : B → Parser A) (s : Bytes) (at : ℕ) → (length s ≤ at → f z (drop at s) at ≡ bad not_json at)
+at_byte : {A B : Type 0} (g : ℕ → B) (z : B) (f : B → Parser A) (s : Bytes) (at : ℕ) → (length s ≤ at → f z (drop at s) at ≡ bad NotJson at)
     → then (peek (drop at s) at) (λ b. f (g b)) ≡ f (elim (ltb at (length s)) [ true ↦ g (get_or s at 0) | false ↦ z ]) (drop at s) at
 unfolding then
 at_byte g z f s at h = go (ltb at (length s)) refl
@@ -110,37 +105,37 @@ pub separated_room : {s : Bytes} {close at : ℕ} {r x : Separator} → Separate
 separated_room {s} {close} {at} k e = subst (SeparatorRoom s at) e k.room
 
 -- One byte or another parser, which fails as `peek` does where no byte is left.
-pub stands_in : {A : Type 0} (x : ℕ) (m n : Parser A) (s : Bytes) (at : ℕ) → (length s ≤ at → n (drop at s) at ≡ bad not_json at)
+pub stands_in : {A : Type 0} (x : ℕ) (m n : Parser A) (s : Bytes) (at : ℕ) → (length s ≤ at → n (drop at s) at ≡ bad NotJson at)
     → (peek >>= λ b. if (eqb b x) m n) (drop at s) at ≡ if (stands_at s at x) m n (drop at s) at
 unfolding ◌>>=◌ stands_at if
 stands_in x m n s at h = at_byte (λ b. eqb b x) false (λ c. if c m n) s at h
 
-pub stands_by : {A : Type 0} (m n : Parser A) {s : Bytes} {at x : ℕ} {r : Bool} → Stands s at x r → (length s ≤ at → n (drop at s) at ≡ bad not_json at)
+pub stands_by : {A : Type 0} (m n : Parser A) {s : Bytes} {at x : ℕ} {r : Bool} → Stands s at x r → (length s ≤ at → n (drop at s) at ≡ bad NotJson at)
     → (peek >>= λ b. if (eqb b x) m n) (drop at s) at ≡ if r m n (drop at s) at
 stands_by m n {s} {at} {x} k h = stands_in x m n s at h ∙ ap (λ c. if c m n (drop at s) at) (sym k.is)
 
 -- One byte, which is to stand there.
 pub byte_by : {A : Type 0} (m : Parser A) {s : Bytes} {at x : ℕ} {r : Bool} → Stands s at x r
-    → (peek >>= λ b. if (eqb b x) m (fail not_json)) (drop at s) at ≡ if r m (fail not_json) (drop at s) at
+    → (peek >>= λ b. if (eqb b x) m (fail NotJson)) (drop at s) at ≡ if r m (fail NotJson) (drop at s) at
 unfolding fail
-byte_by m k = stands_by m (fail not_json) k (λ l. refl)
+byte_by m k = stands_by m (fail NotJson) k (λ l. refl)
 
 -- ---- where no byte is left
-pub value_end : (f row depth : ℕ) (s : Bytes) (at : ℕ) → length s ≤ at → value f row depth (drop at s) at ≡ bad not_json at
+pub value_end : (f row depth : ℕ) (s : Bytes) (at : ℕ) → length s ≤ at → value f row depth (drop at s) at ≡ bad NotJson at
 unfolding value then
 value_end zero row depth s at l = refl
 value_end (suc f) row depth s at l = ap (λ x. then x (λ b. value_by f row depth (start_of row depth b))) (peek_end s at l)
 
-pub items_end : (f row depth : ℕ) (s : Bytes) (at : ℕ) → length s ≤ at → items f row depth (drop at s) at ≡ bad not_json at
+pub items_end : (f row depth : ℕ) (s : Bytes) (at : ℕ) → length s ≤ at → items f row depth (drop at s) at ≡ bad NotJson at
 unfolding items then
 items_end zero row depth s at l = refl
 items_end (suc f) row depth s at l = rw (value_end f row depth s at l)
 
-pub name_end : (f : ℕ) (seen : List Bytes) (s : Bytes) (at : ℕ) → length s ≤ at → name f seen (drop at s) at ≡ bad not_json at
+pub name_end : (f : ℕ) (seen : List Bytes) (s : Bytes) (at : ℕ) → length s ≤ at → name f seen (drop at s) at ≡ bad NotJson at
 unfolding name ◌>>=◌ then
 name_end f seen s at l = rw (peek_end s at l)
 
-pub members_end : (f row depth : ℕ) (seen : List Bytes) (s : Bytes) (at : ℕ) → length s ≤ at → members f row depth seen (drop at s) at ≡ bad not_json at
+pub members_end : (f row depth : ℕ) (seen : List Bytes) (s : Bytes) (at : ℕ) → length s ≤ at → members f row depth seen (drop at s) at ≡ bad NotJson at
 unfolding members then
 members_end zero row depth seen s at l = refl
 members_end (suc f) row depth seen s at l = rw (name_end f seen s at l)
@@ -163,7 +158,7 @@ pub ended_end : (v : Value) (s : Bytes) (at : ℕ) → length s ≤ at → ended
 unfolding ended
 ended_end v s at l = rw (drop_of_length-le s l)
 
-pub ended_in : (v : Value) (s : Bytes) (at : ℕ) → at < length s → ended v (drop at s) at ≡ bad not_json at
+pub ended_in : (v : Value) (s : Bytes) (at : ℕ) → at < length s → ended v (drop at s) at ≡ bad NotJson at
 unfolding ended
 ended_in v s at l = rw (drop-cons s at 0 l)
 
@@ -182,25 +177,22 @@ module _ (b : ℕ) (e : is_digit b ≡ true) where
   digit_high = leb-true b 57 (both (leb 48 b) (leb b 57) e).1
 
 -- What the answer of `decimal_of` says of the byte.
-abbrev pub DecimalAs : ℕ → Decimal → Type 0
-DecimalAs b (DecimalDigit d) = (is_digit b ≡ true) × (d ≡ digit_value b) × (d ≤ 9)
-DecimalAs b NoDecimal = is_digit b ≡ false
+abbrev pub DecimalAs : ℕ → Option ℕ → Type 0
+DecimalAs b (Some d) = (is_digit b ≡ true) × (d ≡ digit_value b) × (d ≤ 9)
+DecimalAs b None = is_digit b ≡ false
 
-pub decimal_as : (b : ℕ) {r x : Decimal} → r ≡ decimal_of b → r ≡ x → DecimalAs b x
+pub decimal_as : (b : ℕ) {r x : Option ℕ} → r ≡ decimal_of b → r ≡ x → DecimalAs b x
 unfolding decimal_of
 decimal_as b e q = subst (DecimalAs b) (sym e ∙ q) (go (is_digit b) refl)
   where
-    go : (c : Bool) → is_digit b ≡ c → DecimalAs b (elim c [ true ↦ DecimalDigit (digit_value b) | false ↦ NoDecimal ])
+    go : (c : Bool) → is_digit b ≡ c → DecimalAs b (elim c [ true ↦ Some (digit_value b) | false ↦ None ])
     go true h = (h, refl, omega (arith, digit_high b h))
     go false h = h
 
 -- ---- what a call says by its answer
 -- A parser that refuses, with the fault f.
 pub record Gone {A : Type 0} (m : Parsed A) (f : Fault) : Type 0 where
-  pub k : ReadFault
-  pub p : ℕ
-  pub is : m ≡ bad k p
-  pub fault : f ≡ fault_of k p
+  pub is : m ≡ bad f.reason f.at
 
 -- A parser that reads a literal up to e.
 pub record Spelled (s : Bytes) (at : ℕ) (w : Word) (m : Parsed Value) (e : ℕ) : Type 0 where
@@ -208,38 +200,38 @@ pub record Spelled (s : Bytes) (at : ℕ) (w : Word) (m : Parsed Value) (e : ℕ
   pub on : at < e
   pub inside : e ≤ length s
 
--- A parser that reads an integer up to e, b being that plus 2^53.
-pub record Counted (s : Bytes) (at : ℕ) (m : Parsed Value) (e b : ℕ) : Type 0 where
+-- A parser that reads an integer, up to the end of the numeral n.
+pub record Counted (s : Bytes) (at : ℕ) (m : Parsed Value) (n : Numeral) : Type 0 where
   pub z : ℤ
-  pub is : m ≡ ok (scalar (integer z)) (drop e s) e
-  pub content : b ≡ biased z
-  pub on : at < e
-  pub inside : e ≤ length s
+  pub is : m ≡ ok (scalar (integer z)) (drop n.at s) n.at
+  pub content : n.biased ≡ biased z
+  pub on : at < n.at
+  pub inside : n.at ≤ length s
 
 module _ (s : Bytes) (at : ℕ) where
-  pub literal_whole : (w : Word) (m : Parsed Value) {r : WordMatch} (e : ℕ) → LiteralMeets s at w m r → r ≡ Matched e → Spelled s at w m e
+  pub literal_whole : (w : Word) (m : Parsed Value) {r : Result ℕ Fault} (e : ℕ) → LiteralMeets s at w m r → r ≡ Ok e → Spelled s at w m e
   literal_whole w (ok v u q) e k h =
       let i : q ≡ e = cc k.answer in
       record { is = (λ j. ok (k.is j) (k.left j) q) ∙ (λ j. ok (word_value w) (drop (i j) s) (i j)); on = omega (arith, k.on); inside = omega (arith, k.inside) }
   literal_whole w (bad x p) e k h = clash cc
 
-  pub literal_wrong : (w : Word) (m : Parsed Value) {r : WordMatch} (f : Fault) → LiteralMeets s at w m r → r ≡ Mismatch f → Gone m f
+  pub literal_wrong : (w : Word) (m : Parsed Value) {r : Result ℕ Fault} (f : Fault) → LiteralMeets s at w m r → r ≡ Err f → Gone m f
   literal_wrong w (ok v u q) f k h = clash (cc k.answer)
-  literal_wrong w (bad x p) f k h = record { k = x; p = p; is = refl; fault = cc }
+  literal_wrong w (bad x p) f k h = let e : fault_of x p ≡ f = cc in record { is = ap (λ (g : Fault). bad g.reason g.at) e }
 
-  pub number_whole : (m : Parsed Value) {r : Numeral} (e b : ℕ) → NumberMeets s at m r → r ≡ Integer e b → Counted s at m e b
-  number_whole (ok v u q) e b k h =
-      let i : q ≡ e = cc k.answer in
-      let c : b ≡ biased k.z = cc k.answer in
+  pub number_whole : (m : Parsed Value) {r : Result Numeral Fault} (n : Numeral) → NumberMeets s at m r → r ≡ Ok n → Counted s at m n
+  number_whole (ok v u q) n k h =
+      let e : numeral q k.z ≡ n = cc k.answer in
+      let i : q ≡ n.at = ap (λ (x : Numeral). x.at) e in
       record {
         z = k.z;
         is = (λ j. ok (k.is j) (k.left j) q) ∙ (λ j. ok (scalar (integer k.z)) (drop (i j) s) (i j));
-        content = c;
+        content = ap (λ (x : Numeral). x.biased) (sym e);
         on = omega (arith, k.on);
         inside = omega (arith, k.inside);
       }
-  number_whole (bad x p) e b k h = clash cc
+  number_whole (bad x p) n k h = clash cc
 
-  pub number_wrong : (m : Parsed Value) {r : Numeral} (f : Fault) → NumberMeets s at m r → r ≡ NoInteger f → Gone m f
+  pub number_wrong : (m : Parsed Value) {r : Result Numeral Fault} (f : Fault) → NumberMeets s at m r → r ≡ Err f → Gone m f
   number_wrong (ok v u q) f k h = clash (cc k.answer)
-  number_wrong (bad x p) f k h = record { k = x; p = p; is = refl; fault = cc }
+  number_wrong (bad x p) f k h = let e : fault_of x p ≡ f = cc in record { is = ap (λ (g : Fault). bad g.reason g.at) e }

@@ -1,12 +1,14 @@
 // The tokens of a text: white space, the decisions by one byte, literals, numbers.
 #![tactic(auto)]
 
+use model::refusal::ReadFault;
+
 pub mod number;
 pub mod token;
 
-// A text is refused: with which number, and at which offset.
+// A text is refused: why, and at which offset.
 #[derive(Clone, Copy)]
 pub struct Fault {
-    pub number: usize,
+    pub reason: ReadFault,
     pub at: usize,
 }

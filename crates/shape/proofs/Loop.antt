@@ -1,4 +1,5 @@
 -- Loop: the rows before one are no faults and are marked; what remains proved of the others proves the whole.
+use Rattle.std.specs.Prelude.{Option, None, Some}
 use mathlib.Core.Path.{◌≡◌, refl, sym, ap, ◌∙◌}
 use mathlib.Core.Bool.{Bool, true, false, ◌&&◌, cond}
 use Prim.Native.Nat.{ℕ, suc, ◌+◌, ◌-◌, ◌≤◌, ◌<◌}
@@ -8,10 +9,8 @@ use Rattle.model.specs.Bytes.{Bytes}
 use Rattle.syntax.specs.Layout.{rows_part}
 use Rattle.table.specs.Node.{node_at, next_row}
 use Rattle.table.specs.declared.node.Node.{Node}
-use Rattle.table.specs.declared.node.Node.TheVariants.{Object}
+use Rattle.table.specs.declared.node.Node.TheVariants.{Null, False, True, Integer, String, Array, Object}
 use Rattle.table.specs.declared.node.Rows.{Rows}
-use Rattle.rule.specs.declared.view.Shape.{Shape}
-use Rattle.rule.specs.declared.view.Shape.TheVariants.{NotRule, Rule}
 use Rattle.rule.specs.declared.view.View.{View}
 use Rattle.rule.specs.Mark.{view_mark, with_mark}
 use Rattle.rule.specs.View.{object_on}
@@ -23,16 +22,26 @@ use Rattle.shape.specs.Laws.Values.{read_rules, read_marked}
 
 -- ---- one row
 module _ {T B : Bytes} {row : ℕ} where
-  pub object_none : {q : Rows} {s : Shape} → s ≡ object_on (rows_part T) B q → s ≡ NotRule → ObjectChecked T B row q false T
+  pub object_none : {q : Rows} {s : Option View} → s ≡ object_on (rows_part T) B q → s ≡ None → ObjectChecked T B row q false T
   object_none e f = record { is = ap (shape_is_rule B) (sym f ∙ e); marks = ap (mark_shape T row) (sym f ∙ e) }
 
-  pub object_some : {q : Rows} {s : Shape} {w : View} {m : ℕ} {r : Bool} {T' : Bytes} → s ≡ object_on (rows_part T) B q → s ≡ Rule w → r ≡ view_is_rule B w → T' ≡ with_mark T row m → m ≡ view_mark w
+  pub object_some : {q : Rows} {s : Option View} {w : View} {m : ℕ} {r : Bool} {T' : Bytes} → s ≡ object_on (rows_part T) B q → s ≡ Some w → r ≡ view_is_rule B w → T' ≡ with_mark T row m → m ≡ view_mark w
       → ObjectChecked T B row q r T'
   object_some e f v t m = record { is = v ∙ ap (shape_is_rule B) (sym f ∙ e); marks = t ∙ ap (with_mark T row) m ∙ ap (mark_shape T row) (sym f ∙ e) }
 
   -- What is no object has no mark.
   pub row_plain : (n : Node) {r : Bool} → node_at (rows_part T) row ≡ n → r ≡ node_is_rule (rows_part T) B n → T ≡ mark_node (rows_part T) B T row n → RowChecked T B row r T
   row_plain n e f m = record { is = f ∙ sym (ap (node_is_rule (rows_part T) B) e); marks = m ∙ sym (ap (mark_node (rows_part T) B T row) e) }
+
+  -- What is neither null nor an object is no fault.
+  pub row_other : (n : Node) → node_at (rows_part T) row ≡ n → (n ≡ Null → ⊥) → ((q : Rows) → n ≡ Object q → ⊥) → RowChecked T B row true T
+  row_other Null e f g = absurd (f refl)
+  row_other False e f g = row_plain False e refl refl
+  row_other True e f g = row_plain True e refl refl
+  row_other (Integer n) e f g = row_plain (Integer n) e refl refl
+  row_other (String s) e f g = row_plain (String s) e refl refl
+  row_other (Array q) e f g = row_plain (Array q) e refl refl
+  row_other (Object q) e f g = absurd (g q refl)
 
   pub row_object : {q : Rows} {r : Bool} {T' : Bytes} → node_at (rows_part T) row ≡ Object q → ObjectChecked T B row q r T' → RowChecked T B row r T'
   row_object e c = record { is = c.is ∙ sym (ap (node_is_rule (rows_part T) B) e); marks = c.marks ∙ sym (ap (mark_node (rows_part T) B T row) e) }

@@ -1,4 +1,5 @@
 -- Rows: the shape check row by row, whatever the bytes of the table's rows R and of the strings B; and the marks that it leaves.
+use Rattle.std.specs.Prelude.{Option, None, Some}
 use Rattle.std.specs.Prelude.{Bool, true, false, ◌&&◌, cond, ℕ, zero, suc}
 use Rattle.model.specs.Bytes.{Bytes}
 use Rattle.model.specs.Option.{is_some}
@@ -7,8 +8,6 @@ use Rattle.table.specs.declared.node.Node.{Node}
 use Rattle.table.specs.declared.node.Node.TheVariants.{Null, False, True, Integer, String, Array, Object}
 use Rattle.table.specs.Node.{node_at}
 use Rattle.table.specs.Strings.{bytes_of}
-use Rattle.rule.specs.declared.view.Shape.{Shape}
-use Rattle.rule.specs.declared.view.Shape.TheVariants.{NotRule, Rule}
 use Rattle.rule.specs.declared.view.View.{View}
 use Rattle.rule.specs.declared.view.View.TheVariants.{Literal, Var, If, And, Reduce, Apply}
 use Rattle.rule.specs.Mark.{view_mark, with_mark}
@@ -25,9 +24,9 @@ view_is_rule B (Reduce q) = true
 view_is_rule B (Apply op q) = true
 
 -- An object must be an operation.
-abbrev pub shape_is_rule : Bytes → Shape → Bool
-shape_is_rule B NotRule = false
-shape_is_rule B (Rule w) = view_is_rule B w
+abbrev pub shape_is_rule : Bytes → Option View → Bool
+shape_is_rule B None = false
+shape_is_rule B (Some w) = view_is_rule B w
 
 -- "Null is no rule." Any other scalar is a literal or a bare operand; an array holds rules or operands, which are rows of their own.
 abbrev pub node_is_rule : Bytes → Bytes → Node → Bool
@@ -49,9 +48,9 @@ rows_are_rules R B row (suc n) = row_is_rule R B row && rows_are_rules R B (suc 
 
 -- ---- marks
 -- The table T with the mark of a row, if that is an operation.
-abbrev pub mark_shape : Bytes → ℕ → Shape → Bytes
-mark_shape T row NotRule = T
-mark_shape T row (Rule w) = with_mark T row (view_mark w)
+abbrev pub mark_shape : Bytes → ℕ → Option View → Bytes
+mark_shape T row None = T
+mark_shape T row (Some w) = with_mark T row (view_mark w)
 
 abbrev pub mark_node : Bytes → Bytes → Bytes → ℕ → Node → Bytes
 mark_node R B T row Null = T

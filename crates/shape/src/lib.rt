@@ -9,7 +9,7 @@ ghost use Rattle.shape.specs.Inner.{ObjectChecked, RowChecked};
 use octets::path::is_path;
 use rule::mark::{mark_of, put_mark, rows_of};
 use rule::operation::operation;
-use rule::view::{Shape, View};
+use rule::view::View;
 use table::node::{Node, Rows, next_row, node_at};
 use table::string::bytes_of;
 
@@ -18,12 +18,8 @@ fn view_is_rule(rule_strings: &[u8], view: View) -> bool
     ensures { result ≡ view_is_rule rule_strings.now view }
 {
     match view {
-        View::Literal(_) => true,
         View::Var(p) => is_path(bytes_of(rule_strings, p)),
-        View::If(_) => true,
-        View::And(_) => true,
-        View::Reduce(_) => true,
-        View::Apply(_, _) => true,
+        _ => true,
     }
 }
 
@@ -31,7 +27,7 @@ fn view_is_rule(rule_strings: &[u8], view: View) -> bool
 fn object_is_rule(rule_table: &mut [u8], rule_strings: &[u8], row: usize, q: Rows) -> bool
     ensures { ObjectChecked rule_table.old rule_strings.now row q result rule_table.new }
 {
-    let Shape::Rule(view) = operation(rows_of(rule_table), rule_strings, q) else {
+    let Some(view) = operation(rows_of(rule_table), rule_strings, q) else {
         return false;
     };
     put_mark(rule_table, row, mark_of(view));
@@ -45,12 +41,8 @@ fn row_is_rule(rule_table: &mut [u8], rule_strings: &[u8], row: usize) -> bool
     let node = node_at(rows_of(rule_table), row);
     match node {
         Node::Null => false,
-        Node::False => true,
-        Node::True => true,
-        Node::Integer(_) => true,
-        Node::String(_) => true,
-        Node::Array(_) => true,
         Node::Object(q) => object_is_rule(rule_table, rule_strings, row, q),
+        _ => true,
     }
 }
 
@@ -59,12 +51,10 @@ pub fn is_rule(rule_table: &mut [u8], rule_strings: &[u8]) -> bool
     ensures { Checks rule_table.old rule_strings.now result rule_table.new }
 {
     let end = next_row(rows_of(rule_table), 0);
-    let mut row = 0;
-    while row < end {
+    for row in 0..end {
         if !row_is_rule(rule_table, rule_strings, row) {
             return false;
         }
-        row += 1;
     }
     true
 }

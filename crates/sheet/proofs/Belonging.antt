@@ -1,53 +1,63 @@
 -- Belonging: whether a value belongs to a type of a set, by its node.
-use mathlib.Core.Path.{◌≡◌, refl, sym, ap, ◌∙◌}
+use mathlib.Core.Path.{◌≡◌, refl, sym, ap, ap₂, ◌∙◌}
 use mathlib.Core.Bool.{Bool, true, false, ◌&&◌, ◌||◌, cond, and-true, and-false, or-false, or_comm, or_assoc}
 use Prim.Native.Nat.{ℕ, ◌≤◌}
-use borrow.Author.Tests.{eq-eqb, ne_eqb}
-use lib.Dec.{T, eqb}
+use lib.Dec.{T}
 use Rattle.model.specs.Bytes.{Bytes}
 use Rattle.model.specs.DateText.{is_date, is_day}
 use Rattle.model.specs.Types.{belongs, has_type}
-use Rattle.model.specs.Value.{Value, scalar, array, object, null, boolean, integer, string, Values, all_items, is_integer, is_string}
+use Rattle.model.specs.Value.{Value, scalar, array, object, null, boolean, integer, string, Values, no_items, item, all_items, is_integer, is_string}
 use Rattle.model.proofs.Laws.DateText.{is_day→is_date}
-use Rattle.paths.specs.Laws.Loops.{no_item, some_item}
 use Rattle.table.specs.declared.node.Node.{Node}
 use Rattle.table.specs.declared.node.Node.TheVariants.{Null, False, True, Integer, String, Array, Object}
 use Rattle.table.specs.declared.node.Rows.{Rows}
 use Rattle.table.specs.declared.row.Span.{Span}
+use Rattle.syntax.specs.Layout.{item_count}
+use native.Mathlib.Omega.{arith}
 use Rattle.table.specs.Denotes.{Denotes, denotes_null, denotes_false, denotes_true, denotes_integer, denotes_string, denotes_array, denotes_object}
-use Rattle.table.specs.Laws.Denotes.{ArrayParts}
+use Rattle.table.specs.Laws.Denotes.{array_count, array_parts}
+use Rattle.table.specs.Laws.Every.{every_on}
 use Rattle.table.specs.Node.{node_at, tail_of}
 use Rattle.table.specs.Strings.{bytes_of}
 use Rattle.type_set.specs.declared.set.TypeSet.{TypeSet}
 use Rattle.type_set.specs.Laws.Fields.{any_types_in}
 use Rattle.type_set.specs.Contract.{types_in}
-use Rattle.sheet.specs.ByRows.{kind_of, is_kind, string_belongs}
+use Rattle.sheet.specs.ByRows as rows
+use Rattle.sheet.specs.ByRows.{every_item, array_belongs, string_belongs}
 use Rattle.sheet.specs.Contract.{Belongs}
-use Rattle.sheet.specs.Inner.{TestsKind, AllOfKind, ArrayBelongs}
 use Rattle.sheet.proofs.Rows.{rows_end, rows_stop, rows_next}
 
--- ---- the loop over the items of an array
-row_kind : (k : ℕ) (R : Bytes) (row : ℕ) {n : Node} {j : ℕ} → n ≡ node_at R row → j ≡ kind_of n → eqb j k ≡ is_kind k R row
-row_kind k R row e f = ap (λ (x : ℕ). eqb x k) (f ∙ ap kind_of e)
+-- ---- the items of an array, by a test of their nodes
+abbrev at_row : (Node → Bool) → Bytes → ℕ → Bool
+at_row is R row = is (node_at R row)
 
-module _ {k : ℕ} {R : Bytes} {q : Rows} where
-  pub kind_end : q.count ≡ 0 → AllOfKind k R q true
-  kind_end e = record { by_rows = rows_end (is_kind k R) R q e; is = λ B test t. no_item (λ vs. true ≡ all_items test vs) e refl }
+module _ (is : Node → Bool) (R : Bytes) (q : Rows) where
+  pub items_end : q.count ≡ 0 → true ≡ every_item is R q
+  items_end e = rows_end (at_row is R) R q e
 
-  module _ (more : 1 ≤ q.count) {n : Node} {j : ℕ} (is-node : n ≡ node_at R q.first) (is-kind : j ≡ kind_of n) where
-    first_kind : {B : Bytes} {test : Value → Bool} (v : Value) (vs : Values) → TestsKind k R B test → ArrayParts R B v vs q → eqb j k ≡ test v
-    first_kind v vs t p = rw is-kind (t.is v n (rw is-node p.head))
+  module _ (more : 1 ≤ q.count) {n : Node} {b : Bool} (is_node : n ≡ node_at R q.first) (is_test : b ≡ is n) where
+    pub other_item : b ≡ false → false ≡ every_item is R q
+    other_item e = rows_stop (at_row is R) R q more (is_test ∙ ap is is_node) e
 
-    pub other_kind : (j ≡ k → ⊥) → AllOfKind k R q false
-    other_kind e = record { by_rows = rows_stop (is_kind k R) R q more (row_kind k R q.first is-node is-kind) (ne_eqb j k e); is = λ B test t. some_item (λ vs. false ≡ all_items test vs) more (λ v vs p. rw (← first_kind v vs t p, ne_eqb j k e)) }
+    pub items_on : {t : Rows} → b ≡ true → t ≡ tail_of R q → every_item is R t ≡ every_item is R q
+    items_on {t} e f = rows_next (at_row is R) R q more (is_test ∙ ap is is_node) {r = every_item is R t} e f refl
 
-    pub kind_on : {u : Rows} → j ≡ k → u ≡ tail_of R q → (r : Bool) → AllOfKind k R u r → AllOfKind k R q r
-    kind_on e f r x = record { by_rows = rows_next (is_kind k R) R q more (row_kind k R q.first is-node is-kind) (eq-eqb j k e) f x.by_rows; is = λ B test t. some_item (λ vs. r ≡ all_items test vs) more (λ v vs p. rw (← first_kind v vs t p, eq-eqb j k e) (x.is B test t vs (rw f p.rest))) }
+-- A test of values that is one of nodes.
+record TestsNodes (is : Node → Bool) (R B : Bytes) (test : Value → Bool) : Type 0 where
+  pub same : (v : Value) (n : Node) → Denotes R B v n → is n ≡ test v
 
-integer_kind : {R B : Bytes} → TestsKind 4 R B is_integer
-integer_kind = record { is = λ v n. go }
+every_value : {is : Node → Bool} {R B : Bytes} {test : Value → Bool} → TestsNodes is R B test → (vs : Values) (q : Rows) → Denotes R B (array vs) (Array q) → every_item is R q ≡ all_items test vs
+unfolding item_count
+every_value {is} {R} t no_items q d = sym (items_end is R q (array_count d))
+every_value {is} {R} {test = test} t (item v vs) q d =
+    let p = array_parts d in
+    let l : 1 ≤ q.count = omega (arith, array_count d) in
+    sym (every_on (at_row is R) R q.first q.count l refl) ∙ ap₂ ◌&&◌ (t.same v (node_at R q.first) p.head) (every_value t vs (tail_of R q) p.rest)
+
+integers_same : {R B : Bytes} → TestsNodes rows.is_integer R B is_integer
+integers_same = record { same = λ v n. go }
   where
-    go : {R B : Bytes} {v : Value} {n : Node} → Denotes R B v n → eqb (kind_of n) 4 ≡ is_integer v
+    go : {R B : Bytes} {v : Value} {n : Node} → Denotes R B v n → rows.is_integer n ≡ is_integer v
     go denotes_null = refl
     go denotes_false = refl
     go denotes_true = refl
@@ -56,10 +66,10 @@ integer_kind = record { is = λ v n. go }
     go (denotes_array c m r) = refl
     go (denotes_object c m r) = refl
 
-string_kind : {R B : Bytes} → TestsKind 5 R B is_string
-string_kind = record { is = λ v n. go }
+strings_same : {R B : Bytes} → TestsNodes rows.is_string R B is_string
+strings_same = record { same = λ v n. go }
   where
-    go : {R B : Bytes} {v : Value} {n : Node} → Denotes R B v n → eqb (kind_of n) 5 ≡ is_string v
+    go : {R B : Bytes} {v : Value} {n : Node} → Denotes R B v n → rows.is_string n ≡ is_string v
     go denotes_null = refl
     go denotes_false = refl
     go denotes_true = refl
@@ -76,16 +86,8 @@ of_array s vs =
     let e : has_type (types_in s) (array vs) ≡ i || (j || s.array) = any_types_in (belongs (array vs)) s ∙ simp (and-true, and-false, or-false) in
     e ∙ sym (or_comm s.array (i || j) ∙ or_assoc i j s.array)
 
-module _ (s : TypeSet) {R : Bytes} {q : Rows} where
-  pub of_arrays : s.array ≡ true → ArrayBelongs s R q true
-  of_arrays e = record { by_rows = rw e; is = λ B vs d. sym (of_array s vs ∙ rw e) }
-
-  module _ (no_array : s.array ≡ false) {i : Bool} (integers : AllOfKind 4 R q i) where
-    pub of_integers : s.integers && i ≡ true → ArrayBelongs s R q true
-    of_integers e = record { by_rows = rw (no_array, ← integers.by_rows, e); is = λ B vs d. sym (of_array s vs ∙ rw (no_array, ← integers.is B is_integer integer_kind vs d, e)) }
-
-    pub of_strings : {j : Bool} → s.integers && i ≡ false → AllOfKind 5 R q j → ArrayBelongs s R q (s.strings && j)
-    of_strings e strings = record { by_rows = rw (no_array, ← integers.by_rows, e, ← strings.by_rows); is = λ B vs d. sym (of_array s vs ∙ rw (no_array, ← integers.is B is_integer integer_kind vs d, e, ← strings.is B is_string string_kind vs d)) }
+array_is : (s : TypeSet) {R B : Bytes} (q : Rows) (vs : Values) → Denotes R B (array vs) (Array q) → array_belongs s R q ≡ has_type (types_in s) (array vs)
+array_is s q vs d = rw (every_value integers_same vs q d, every_value strings_same vs q d) (sym (of_array s vs))
 
 -- ---- a string: the widest type decides, since a day is a date, and a date is a string
 string_is : (s : TypeSet) (t : Bytes) → string_belongs s t ≡ has_type (types_in s) (scalar (string t))
@@ -121,11 +123,11 @@ module _ (s : TypeSet) {R B : Bytes} where
       go : (v : Value) → Denotes R B v (String p) → r ≡ has_type (types_in s) v
       go v (denotes_string {s = t} l) = e ∙ ap (string_belongs s) (sym l.is) ∙ string_is s t
 
-  pub of_items : {q : Rows} {r : Bool} → ArrayBelongs s R q r → Belongs s R B (Array q) r
-  of_items {q} {r} x = record { by_rows = x.by_rows; is = go }
+  pub of_items : {q : Rows} {r : Bool} → r ≡ array_belongs s R q → Belongs s R B (Array q) r
+  of_items {q} {r} e = record { by_rows = e; is = go }
     where
       go : (v : Value) → Denotes R B v (Array q) → r ≡ has_type (types_in s) v
-      go v (denotes_array {vs = vs} c m d) = x.is B vs (denotes_array c m d)
+      go v (denotes_array {vs = vs} c m d) = e ∙ array_is s q vs (denotes_array c m d)
 
   pub of_object_lem : {q : Rows} (v : Value) → Denotes R B v (Object q) → s.object ≡ has_type (types_in s) v
   of_object_lem v (denotes_object {ms = ms} c m d) = sym (any_types_in (belongs (object ms)) s ∙ simp (and-true, and-false, or-false))

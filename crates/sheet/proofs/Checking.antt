@@ -2,8 +2,8 @@
 use mathlib.Core.Path.{◌≡◌, refl, sym, ap, ◌∙◌}
 use mathlib.Core.Bool.{Bool, true, false, ◌&&◌, not}
 use mathlib.Core.List.{◌∷◌}
-use mathlib.Core.Option.{Option, none, some}
-use Prim.Native.Nat.{ℕ, ◌≤◌, ◌<◌}
+use Rattle.std.specs.Prelude.{Option, None, Some}
+use Prim.Native.Nat.{◌≤◌, ◌<◌}
 use native.Mathlib.Omega.{arith}
 use borrow.Author.Tests.{le-leb, lt-leb, not-true, not-false}
 use lib.Dec.{leb}
@@ -20,44 +20,20 @@ use Rattle.table.specs.declared.node.Node.TheVariants.{Object}
 use Rattle.table.specs.declared.node.Rows.{Rows}
 use Rattle.table.specs.Denotes.{Denotes, denotes_object}
 use Rattle.table.specs.Laws.Denotes.{ObjectParts, object_count}
-use Rattle.table.specs.Node.{node_at, name_at, tail_of}
-use Rattle.table.specs.Strings.{bytes_of}
-use Rattle.sheet.specs.declared.content.Content.{Content}
-use Rattle.sheet.specs.ByRows.{content_in, is_listed, entry_in, entries_in, sheet_in}
-use Rattle.sheet.specs.Contract.{content_of, Contains, ChecksSheet}
+use Rattle.table.specs.Node.{node_at, tail_of}
+use Rattle.sheet.specs.ByRows.{entry_in, entries_in, sheet_in}
+use Rattle.sheet.specs.Contract.{ChecksSheet}
 use Rattle.sheet.specs.Inner.{ChecksEntry, ChecksEntries, ChecksObject}
 use Rattle.sheet.proofs.Nodes.{NoObject, no_object, of_other}
 use Rattle.sheet.proofs.Rows.{rows_end, rows_stop, rows_next}
 
 -- ---- the member in a row
-listed_some : (o : Option Types) → is_listed (content_of o) ≡ is_some o
-listed_some none = refl
-listed_some (some ts) = refl
-
-name_test : {t n : Bytes} {b c : Bool} → b ≡ is_some (entry_path t) → t ≡ n → b ≡ c → c ≡ is_some (entry_path n)
-name_test e n y = sym y ∙ e ∙ ap (λ (x : Bytes). is_some (entry_path x)) n
-
-module _ {S Z t : Bytes} {row : ℕ} {b : Bool} (is-test : b ≡ is_some (entry_path t)) (is_name : t ≡ bytes_of Z (name_at S row)) where
-  pub bad_path : not b ≡ true → ChecksEntry S Z row false
-  bad_path y =
-      let e = name_test is-test is_name (not-true b y) in
-      record { by_rows = ap (λ (x : Bool). x && is_listed (content_in S Z (node_at S row))) e; is = λ v d. ap (λ (x : Bool). x && is_some (content_types v)) e }
-
-  pub good_path : {r : Bool} {n : Node} {c : Content} → not b ≡ false → n ≡ node_at S row → Contains S Z n c → r ≡ is_listed c → ChecksEntry S Z row r
-  good_path {r} {c = c} y i x f = record {
-    by_rows = f ∙ ap is_listed (x.by_rows ∙ ap (content_in S Z) i) ∙ ap (λ (y : Bool). y && is_listed (content_in S Z (node_at S row))) (name_test is-test is_name (not-false b y));
-    is = λ v d. go v (x.is v (rw i d));
-  }
-    where
-      go : (v : Value) → c ≡ content_of (content_types v) → r ≡ is_some (entry_path (bytes_of Z (name_at S row))) && is_some (content_types v)
-      go v k = f ∙ ap is_listed k ∙ listed_some (content_types v) ∙ ap (λ (y : Bool). y && is_some (content_types v)) (name_test is-test is_name (not-false b y))
-
 -- ---- all members
-all_three : (o : Option Path) (c : Option Types) (l : Option Sheet) → is_some (o >>= (λ q. c >>= (λ ts. l >>= (λ es. some ((q, ts) ∷ es))))) ≡ (is_some o && is_some c) && is_some l
-all_three none c l = refl
-all_three (some q) none l = refl
-all_three (some q) (some ts) none = refl
-all_three (some q) (some ts) (some es) = refl
+all_three : (o : Option Path) (c : Option Types) (l : Option Sheet) → is_some (o >>= (λ q. c >>= (λ ts. l >>= (λ es. Some ((q, ts) ∷ es))))) ≡ (is_some o && is_some c) && is_some l
+all_three None c l = refl
+all_three (Some q) None l = refl
+all_three (Some q) (Some ts) None = refl
+all_three (Some q) (Some ts) (Some es) = refl
 
 abbrev Checks : Bool → Members → Type 0
 Checks r ms = r ≡ is_some (entries_of ms)
@@ -78,13 +54,13 @@ module _ {S Z : Bytes} {q : Rows} where
     pub entries_on : {t : Rows} → not b ≡ false → t ≡ tail_of S q → (r : Bool) → ChecksEntries S Z t r → ChecksEntries S Z q r
     entries_on e f r x = record { by_rows = rows_next (entry_in S Z) S q more entry.by_rows (not-false b e) f x.by_rows; is = some_member (Checks r) more (λ n v ms p. x.is ms (rw f p.rest) ∙ rw (not-false b e) at (first_entry n v ms p)) }
 
-  pub too_many : 256 < q.count → ChecksObject S Z q false
+  pub too_many : 256 < q.count → ChecksObject S Z q (leb q.count 256)
   unfolding max_sheet_members
   too_many l = record {
     by_rows = rw (lt-leb q.count 256 l);
     is = λ ms d.
         let e : leb (member_count ms) 256 ≡ false = lt-leb (member_count ms) 256 (omega (arith, object_count d)) in
-        rw e refl;
+        rw (e, lt-leb q.count 256 l);
   }
 
   pub few_enough : {r : Bool} → q.count ≤ 256 → ChecksEntries S Z q r → ChecksObject S Z q r
@@ -97,7 +73,7 @@ module _ {S Z : Bytes} {q : Rows} where
   }
 
 -- ---- the whole text
-pub no_sheet : (S Z : Bytes) (n : Node) (v : Value) → NoObject n → Denotes S Z v n → sheet_of v ≡ none
+pub no_sheet : (S Z : Bytes) (n : Node) (v : Value) → NoObject n → Denotes S Z v n → sheet_of v ≡ None
 unfolding sheet_of
 no_sheet S Z n (scalar x) k d = refl
 no_sheet S Z n (instant t) k d = refl

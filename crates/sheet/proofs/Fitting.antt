@@ -1,7 +1,7 @@
 -- Fitting: whether a record fits a sheet.
 use mathlib.Core.Path.{◌≡◌, sym, ap, ap₂, ◌∙◌}
 use mathlib.Core.Bool.{Bool, true, false, ◌&&◌, not}
-use mathlib.Core.Option.{some}
+use Rattle.std.specs.Prelude.{Some}
 use Prim.Native.Nat.{◌≤◌}
 use borrow.Author.Tests.{not-true, not-false}
 use Rattle.model.specs.Bytes.{Bytes}
@@ -34,7 +34,7 @@ fits_entry_lem {t} {R} {B} {set} e l b = record { by_rows = b.by_rows ∙ ap (be
 
 -- ---- the loop
 abbrev AllFit : Bytes → Bytes → Bool → Members → Type 0
-AllFit R B r ms = (s : Sheet) (c : Value) → entries_of ms ≡ some s → Denotes R B c (node_at R 0) → r ≡ fits s c
+AllFit R B r ms = (s : Sheet) (c : Value) → entries_of ms ≡ Some s → Denotes R B c (node_at R 0) → r ≡ fits s c
 
 module _ {S Z R B : Bytes} {q : Rows} where
   pub fit_end : q.count ≡ 0 → FitsAll S Z q R B true
@@ -46,7 +46,7 @@ module _ {S Z R B : Bytes} {q : Rows} where
 
     first_fits : (n : Bytes) (v : Value) (ms : Members) → ObjectParts S Z n v ms q → (s : Sheet) (c : Value) → Denotes R B c (node_at R 0) → (z : Split n v ms s) → b && fits z.later c ≡ fits s c
     first_fits n v ms y s c k z =
-        let i : path_of t ≡ some z.path = rw (is_name, ← y.name) z.is_path_lem in
+        let i : path_of t ≡ Some z.path = rw (is_name, ← y.name) z.is_path_lem in
         let j : has_type (types_in set) (value_at z.path c) ≡ has_type z.types (value_at z.path c) = rw (lists.is v z.types y.head z.is_types) (has_type_set z.types (value_at z.path c)) in
         ap (λ (x : Bool). x && fits z.later c) (entry.is z.path c i k ∙ j) ∙ ap (λ (y : Sheet). fits y c) (sym z.is)
 

@@ -1,5 +1,5 @@
 -- Nodes: what a node that is no string, no array or no object does not denote, and what its rows are not.
-use mathlib.Core.Option.{none}
+use Rattle.std.specs.Prelude.{None}
 use mathlib.Core.Path.{◌≡◌, refl}
 use Rattle.model.specs.Bytes.{Bytes}
 use Rattle.model.specs.Value.{scalar, array, object, string, Values, Members}
@@ -8,7 +8,6 @@ use Rattle.table.specs.declared.node.Node.TheVariants.{Null, False, True, Intege
 use Rattle.table.specs.declared.node.Rows.{Rows}
 use Rattle.table.specs.declared.row.Span.{Span}
 use Rattle.table.specs.Denotes.{Denotes, denotes_string, denotes_array, denotes_object}
-use Rattle.sheet.specs.declared.content.Content.TheVariants.{NotTypes}
 use Rattle.sheet.specs.ByRows.{of_object, type_in, content_in}
 
 abbrev pub NoString : Node → Type 0
@@ -31,7 +30,7 @@ module _ {X : Type 0} {T B : Bytes} where
   no_object k (denotes_object c m r) = absurd (k _ refl)
 
 -- ---- by rows
-pub names_no_type : (Z : Bytes) (n : Node) → NoString n → none ≡ type_in Z n
+pub names_no_type : (Z : Bytes) (n : Node) → NoString n → None ≡ type_in Z n
 names_no_type Z Null k = refl
 names_no_type Z False k = refl
 names_no_type Z True k = refl
@@ -40,7 +39,7 @@ names_no_type Z (String s) k = absurd (k s refl)
 names_no_type Z (Array q) k = refl
 names_no_type Z (Object q) k = refl
 
-pub lists_no_types : (S Z : Bytes) (n : Node) → NoArray n → NotTypes ≡ content_in S Z n
+pub lists_no_types : (S Z : Bytes) (n : Node) → NoArray n → None ≡ content_in S Z n
 lists_no_types S Z Null k = refl
 lists_no_types S Z False k = refl
 lists_no_types S Z True k = refl

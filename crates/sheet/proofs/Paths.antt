@@ -2,7 +2,7 @@
 use mathlib.Core.Path.{◌≡◌, refl, sym, ap, ap₂, ◌∙◌, subst}
 use mathlib.Core.Bool.{Bool, true, false, cond}
 use mathlib.Core.List.{[], ◌∷◌, ◌++◌}
-use mathlib.Core.Option.{some}
+use Rattle.std.specs.Prelude.{Some}
 use Prim.Native.Nat.{ℕ, ◌≤◌}
 use native.Mathlib.Omega.{arith}
 use borrow.Author.Tests.{eqb-true}
@@ -46,10 +46,10 @@ dotted_fragments (x ∷ s) = go (eqb (byte ".") x) refl (dotted_fragments s)
     go true d e = ap₂ (λ (y : ℕ) (t : Bytes). byte "." ∷ t) (eqb-true (byte ".") x d) (e ∙ ap (λ (y : ℕ). y ∷ s) (eqb-true (byte ".") x d))
     go false d e = dotted_cons x s (fragments s) e
 
-text_of_lem : (s : Bytes) (q : Path) → path_of s ≡ some q → s ≡ undotted (dotted q)
+text_of_lem : (s : Bytes) (q : Path) → path_of s ≡ Some q → s ≡ undotted (dotted q)
 text_of_lem [] q e = let f : [] ≡ q = cc in ap (λ (r : Path). undotted (dotted r)) f
 text_of_lem (x ∷ s) q e =
-    let (n, f) = when_some (all is_full (fragments (x ∷ s))) (some (fragments (x ∷ s))) e in
+    let (n, f) = when_some (all is_full (fragments (x ∷ s))) (Some (fragments (x ∷ s))) e in
     let g : fragments (x ∷ s) ≡ q = cc in
     sym (ap undotted (dotted_fragments (x ∷ s))) ∙ ap (λ (r : Path). undotted (dotted r)) g
 
@@ -69,7 +69,7 @@ equal_tests true b f g = sym (T→true b (f tt))
 equal_tests false true f g = absurd (g tt)
 equal_tests false false f g = refl
 
-pub same_texts : (s t : Bytes) (q r : Path) → path_of s ≡ some q → path_of t ≡ some r → same_path q r ≡ same_bytes s t
+pub same_texts : (s t : Bytes) (q r : Path) → path_of s ≡ Some q → path_of t ≡ Some r → same_path q r ≡ same_bytes s t
 same_texts s t q r e f = equal_tests (same_path q r) (same_bytes s t) to from
   where
     to : T (same_path q r) → T (same_bytes s t)
@@ -80,7 +80,7 @@ same_texts s t q r e f = equal_tests (same_path q r) (same_bytes s t) to from
     from : T (same_bytes s t) → T (same_path q r)
     from h =
         let d = bytes→≡ s t h in
-        let g : some q ≡ some r = sym e ∙ ap path_of d ∙ f in
+        let g : Some q ≡ Some r = sym e ∙ ap path_of d ∙ f in
         let i : q ≡ r = cc in
         subst (λ (x : Path). T (same_path q x)) i (same_path_refl q)
 
@@ -93,7 +93,7 @@ pub a_name : (s : Bytes) → 1 ≤ length s → is_some (entry_path s) ≡ is_so
 a_name [] h = absurd (omega arith)
 a_name (x ∷ s) h = go (fragments (x ∷ s)) (dotted_fragments (x ∷ s)) (all is_full (fragments (x ∷ s)))
   where
-    go : (q : Path) → dotted q ≡ byte "." ∷ x ∷ s → (b : Bool) → is_some (when b (some q) >>= non_empty) ≡ is_some (when b (some q))
+    go : (q : Path) → dotted q ≡ byte "." ∷ x ∷ s → (b : Bool) → is_some (when b (Some q) >>= non_empty) ≡ is_some (when b (Some q))
     go [] e b = clash cc
     go (f ∷ q) e true = refl
     go (f ∷ q) e false = refl

@@ -1,11 +1,11 @@
 -- ByRows: what the rows of a sheet's table S with strings Z, and of a record's table R with strings B, list, hold and fit, whatever these bytes are.
 -- Contract says what it is where they denote values.
 use Rattle.std.specs.Prelude.{Bool, true, false, ◌&&◌, ◌||◌, cond, [], ◌∷◌, ◌++◌, ℕ, zero, suc, eqb, leb}
-use Rattle.std.proofs.Math.Option.{Option, none, some}
+use Rattle.std.specs.Prelude.{Option, None, Some}
 use Rattle.model.specs.Bytes.{Bytes, same_bytes}
 use Rattle.model.specs.DateText.{is_date, is_day}
 use Rattle.model.specs.Limits.{max_sheet_members}
-use Rattle.model.specs.Option.{is_some}
+use Rattle.model.specs.Option.{◌>>=◌, is_some}
 use Rattle.model.specs.Sheet.{type_named, entry_path}
 use Rattle.model.specs.Types.{is_in, any_of_record}
 use Rattle.model.specs.declared.Ty.{Ty}
@@ -17,8 +17,6 @@ use Rattle.table.specs.Node.{node_at, next_row, name_at, every_row}
 use Rattle.table.specs.Strings.{bytes_of}
 use Rattle.type_set.specs.declared.set.TypeSet.{TypeSet}
 use Rattle.type_set.specs.Contract.{set_of, types_in}
-use Rattle.sheet.specs.declared.content.Content.{Content}
-use Rattle.sheet.specs.declared.content.Content.TheVariants.{NotTypes, Types as Listed}
 
 -- The name of the member in a row.
 abbrev pub name_in : Bytes → Bytes → ℕ → Bytes
@@ -37,55 +35,48 @@ of_object other f (Object q) = f q
 -- ---- the types of a content
 -- The type that a string names.
 abbrev pub type_in : Bytes → Node → Option Ty
-type_in Z Null = none
-type_in Z False = none
-type_in Z True = none
-type_in Z (Integer n) = none
+type_in Z Null = None
+type_in Z False = None
+type_in Z True = None
+type_in Z (Integer n) = None
 type_in Z (String s) = type_named (bytes_of Z s)
-type_in Z (Array q) = none
-type_in Z (Object q) = none
+type_in Z (Array q) = None
+type_in Z (Object q) = None
 
 -- "distinct words": a type more, unless it is there.
-abbrev pub with_type : TypeSet → Option Ty → Content
-with_type s none = NotTypes
-with_type s (some k) = cond (is_in (types_in s) k) NotTypes (Listed (set_of (types_in s ++ types_in (set_of (k ∷ [])))))
-
--- What follows from the types, if there are some.
-abbrev pub then_types : Content → (TypeSet → Content) → Content
-then_types NotTypes f = NotTypes
-then_types (Listed s) f = f s
+abbrev pub with_type : TypeSet → Ty → Option TypeSet
+with_type s k = cond (is_in (types_in s) k) None (Some (set_of (types_in s ++ types_in (set_of (k ∷ [])))))
 
 -- The types of a set, and those that so many rows name from a row on.
-abbrev pub collect_in : Bytes → Bytes → TypeSet → ℕ → ℕ → Content
-collect_in S Z s row zero = Listed s
-collect_in S Z s row (suc n) = then_types (with_type s (type_in Z (node_at S row))) (λ t. collect_in S Z t (next_row S row) n)
+abbrev pub collect_in : Bytes → Bytes → TypeSet → ℕ → ℕ → Option TypeSet
+collect_in S Z s row zero = Some s
+collect_in S Z s row (suc n) = do
+  k ← type_in Z (node_at S row)
+  t ← with_type s k
+  collect_in S Z t (next_row S row) n
 
 -- "a non-empty array of distinct words"
-abbrev pub words_in : Bytes → Bytes → Rows → Content
-words_in S Z q = cond (eqb q.count 0) NotTypes (collect_in S Z (set_of []) q.first q.count)
+abbrev pub words_in : Bytes → Bytes → Rows → Option TypeSet
+words_in S Z q = cond (eqb q.count 0) None (collect_in S Z (set_of []) q.first q.count)
 
-abbrev pub content_in : Bytes → Bytes → Node → Content
-content_in S Z Null = NotTypes
-content_in S Z False = NotTypes
-content_in S Z True = NotTypes
-content_in S Z (Integer n) = NotTypes
-content_in S Z (String s) = NotTypes
+abbrev pub content_in : Bytes → Bytes → Node → Option TypeSet
+content_in S Z Null = None
+content_in S Z False = None
+content_in S Z True = None
+content_in S Z (Integer n) = None
+content_in S Z (String s) = None
 content_in S Z (Array q) = words_in S Z q
-content_in S Z (Object q) = NotTypes
+content_in S Z (Object q) = None
 
--- There are types, and those there are.
-abbrev pub is_listed : Content → Bool
-is_listed NotTypes = false
-is_listed (Listed s) = true
-
-abbrev pub types_listed : Content → TypeSet
-types_listed NotTypes = set_of []
-types_listed (Listed s) = s
+-- The types that there are.
+abbrev pub types_listed : Option TypeSet → TypeSet
+types_listed None = set_of []
+types_listed (Some s) = s
 
 -- ---- a sheet
 -- The member in a row lists types for a path.
 abbrev pub entry_in : Bytes → Bytes → ℕ → Bool
-entry_in S Z row = is_some (entry_path (name_in S Z row)) && is_listed (content_in S Z (node_at S row))
+entry_in S Z row = is_some (entry_path (name_in S Z row)) && is_some (content_in S Z (node_at S row))
 
 -- All members do, and they are not too many.
 abbrev pub entries_in : Bytes → Bytes → Rows → Bool
@@ -107,29 +98,34 @@ abbrev pub listed_for : Bytes → Bytes → Bytes → Node → TypeSet
 listed_for S Z p n = of_object (set_of any_of_record) (λ q. types_among S Z p q.first q.count) n
 
 -- ---- what belongs to one of the types t
--- The kind of a node's row.
-abbrev pub kind_of : Node → ℕ
-kind_of Null = 1
-kind_of False = 2
-kind_of True = 3
-kind_of (Integer n) = 4
-kind_of (String s) = 5
-kind_of (Array q) = 6
-kind_of (Object q) = 7
+abbrev pub is_integer : Node → Bool
+is_integer Null = false
+is_integer False = false
+is_integer True = false
+is_integer (Integer n) = true
+is_integer (String s) = false
+is_integer (Array q) = false
+is_integer (Object q) = false
+
+abbrev pub is_string : Node → Bool
+is_string Null = false
+is_string False = false
+is_string True = false
+is_string (Integer n) = false
+is_string (String s) = true
+is_string (Array q) = false
+is_string (Object q) = false
 
 -- "arrays of nothing else"
-abbrev pub is_kind : ℕ → Bytes → ℕ → Bool
-is_kind k R row = eqb (kind_of (node_at R row)) k
-
-abbrev pub all_of_kind : ℕ → Bytes → Rows → Bool
-all_of_kind k R q = every_row (is_kind k R) R q.first q.count
+abbrev pub every_item : (Node → Bool) → Bytes → Rows → Bool
+every_item is R q = every_row (λ row. is (node_at R row)) R q.first q.count
 
 -- Of a string's types the widest one in the set decides.
 abbrev pub string_belongs : TypeSet → Bytes → Bool
 string_belongs t s = cond t.string true (cond t.date (is_date s) (cond t.day (is_day s) false))
 
 abbrev pub array_belongs : TypeSet → Bytes → Rows → Bool
-array_belongs t R q = t.array || ((t.integers && all_of_kind 4 R q) || (t.strings && all_of_kind 5 R q))
+array_belongs t R q = t.array || ((t.integers && every_item is_integer R q) || (t.strings && every_item is_string R q))
 
 abbrev pub belongs_in : TypeSet → Bytes → Bytes → Node → Bool
 belongs_in t R B Null = t.null

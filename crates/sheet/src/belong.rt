@@ -1,37 +1,23 @@
 // Whether a value belongs to one of some types.
-ghost use Rattle.std.specs.Prelude.{◌≡◌};
-ghost use Rattle.sheet.specs.ByRows.{kind_of, string_belongs};
+ghost use Rattle.std.specs.Fn.{AnyResult};
+ghost use Rattle.std.specs.Prelude.{Bool, ◌≡◌};
+ghost use Rattle.sheet.specs.ByRows.{is_integer, is_string, every_item, array_belongs, string_belongs};
 ghost use Rattle.sheet.specs.Contract.{Belongs};
-ghost use Rattle.sheet.specs.Inner.{AllOfKind, ArrayBelongs};
+ghost use Rattle.table.specs.declared.node.Node.{Node};
 
-use syntax::{ARRAY_ROW, FALSE_ROW, INTEGER_ROW, NULL_ROW, OBJECT_ROW, STRING_ROW, TRUE_ROW};
 use table::node::{Node, Rows, node_at, tail};
 use table::string::bytes_of;
 use text_types::{is_date, is_day};
 use type_set::set::TypeSet;
 
-// The kind of a value's row.
-fn kind_of(n: Node) -> usize
-    ensures { result ≡ kind_of n }
-{
-    match n {
-        Node::Null => NULL_ROW,
-        Node::False => FALSE_ROW,
-        Node::True => TRUE_ROW,
-        Node::Integer(_) => INTEGER_ROW,
-        Node::String(_) => STRING_ROW,
-        Node::Array(_) => ARRAY_ROW,
-        Node::Object(_) => OBJECT_ROW,
-    }
-}
-
-// "integers, strings (arrays of nothing else)"
-fn all_of_kind(kind: usize, record_table: &[u8], q: Rows) -> bool
-    ensures { AllOfKind kind record_table.now q result }
+// "integers, strings (arrays of nothing else)": all items pass the test.
+fn every_item<F: Fn(Node) -> bool>(record_table: &[u8], q: Rows, test: F) -> bool
+    requires { F.IsAlwaysCallable test }
+    ensures { (is : Node → Bool) → ((n : Node) → AnyResult F.Fn test (n, tt) (λ r. r ≡ is n)) → result ≡ every_item is record_table.now q }
 {
     let mut rest = q;
     while rest.count > 0 {
-        if kind_of(node_at(record_table, rest.first)) != kind {
+        if !test(node_at(record_table, rest.first)) {
             return false;
         }
         rest = tail(record_table, rest);
@@ -49,23 +35,28 @@ fn string_belongs(s: TypeSet, text: &[u8]) -> bool
     if s.date {
         return is_date(text);
     }
-    if s.day {
-        return is_day(text);
-    }
-    false
+    s.day && is_day(text)
+}
+
+fn is_integer(n: Node) -> bool
+    ensures { result ≡ is_integer n }
+{
+    matches!(n, Node::Integer(_))
+}
+
+fn is_string(n: Node) -> bool
+    ensures { result ≡ is_string n }
+{
+    matches!(n, Node::String(_))
 }
 
 // An array.
 fn array_belongs(s: TypeSet, record_table: &[u8], q: Rows) -> bool
-    ensures { ArrayBelongs s record_table.now q result }
+    ensures { result ≡ array_belongs s record_table.now q }
 {
-    if s.array {
-        return true;
-    }
-    if s.integers & all_of_kind(INTEGER_ROW, record_table, q) {
-        return true;
-    }
-    s.strings & all_of_kind(STRING_ROW, record_table, q)
+    s.array
+        || s.integers && every_item(record_table, q, is_integer)
+        || s.strings && every_item(record_table, q, is_string)
 }
 
 // A value of a record.

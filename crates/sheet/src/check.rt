@@ -2,11 +2,10 @@
 ghost use Rattle.std.specs.Prelude.{◌≡◌};
 ghost use Rattle.model.specs.Option.{is_some};
 ghost use Rattle.model.specs.Sheet.{entry_path};
-ghost use Rattle.sheet.specs.ByRows.{is_listed};
 ghost use Rattle.sheet.specs.Contract.{ChecksSheet};
 ghost use Rattle.sheet.specs.Inner.{ChecksEntry, ChecksEntries, ChecksObject};
 
-use crate::content::{Content, types_in};
+use crate::content::types_in;
 use model::MAX_SHEET_MEMBERS;
 use octets::path::is_path;
 use table::node::{Node, Rows, name_at, node_at, tail};
@@ -17,30 +16,15 @@ use table::string::bytes_of;
 fn is_listed_path(text: &[u8]) -> bool
     ensures { result ≡ is_some (entry_path text.now) }
 {
-    if text.len() == 0 {
-        return false;
-    }
-    is_path(text)
-}
-
-// Whether a content lists types.
-fn lists_types(c: Content) -> bool
-    ensures { result ≡ is_listed c }
-{
-    match c {
-        Content::NotTypes => false,
-        Content::Types(_) => true,
-    }
+    !text.is_empty() && is_path(text)
 }
 
 // The member in a row lists types for a path.
 fn is_entry(sheet_table: &[u8], sheet_strings: &[u8], row: usize) -> bool
     ensures { ChecksEntry sheet_table.now sheet_strings.now row result }
 {
-    if !is_listed_path(bytes_of(sheet_strings, name_at(sheet_table, row))) {
-        return false;
-    }
-    lists_types(types_in(sheet_table, sheet_strings, node_at(sheet_table, row)))
+    is_listed_path(bytes_of(sheet_strings, name_at(sheet_table, row)))
+        && types_in(sheet_table, sheet_strings, node_at(sheet_table, row)).is_some()
 }
 
 // All members do.
@@ -61,10 +45,7 @@ fn are_entries(sheet_table: &[u8], sheet_strings: &[u8], q: Rows) -> bool
 fn is_sheet_object(sheet_table: &[u8], sheet_strings: &[u8], q: Rows) -> bool
     ensures { ChecksObject sheet_table.now sheet_strings.now q result }
 {
-    if MAX_SHEET_MEMBERS < q.count {
-        return false;
-    }
-    are_entries(sheet_table, sheet_strings, q)
+    q.count <= MAX_SHEET_MEMBERS && are_entries(sheet_table, sheet_strings, q)
 }
 
 // Whether the text that was read into the table and the strings is a sheet.

@@ -1,7 +1,7 @@
 -- Demand2: demand 2's sentence on answers, over texts, restated with nothing else: an answer without a date-time, once written, reads back as the same
 -- value. The rest of demand 2 is that the entries do what the definitions say: their contracts. At the entries: promises/Demand2.antt.
 use Rattle.std.specs.Prelude.{◌≡◌, ℕ}
-use Rattle.std.proofs.Math.Option.{some}
+use Rattle.std.specs.Prelude.{Some}
 use Rattle.model.specs.Bytes.{Bytes}
 use Rattle.model.specs.Eval.{run, value, outcome}
 use Rattle.model.specs.Judgement.{Judged, answer_of}
@@ -20,7 +20,7 @@ use Rattle.syntax.proofs.Laws.WellFormed as WellFormedLaws
 pub answer_reads_back :
     (rule_text_lem record_text_lem : Bytes) (rule record' : Value) (r : Rule) (limit room : ℕ) (t : Bytes)
     → read rule_text_lem ≡ done rule
-    → shape rule ≡ some r
+    → shape rule ≡ Some r
     → read record_text_lem ≡ done record'
     → (answer_of r record' limit room).result ≡ Judged.done t
     → ReadsBack r record' limit t
@@ -32,7 +32,7 @@ answer_reads_back rule_text_lem record_text_lem rule record' r limit room t read
 pub answer_well_formed :
     (rule_text_lem record_text_lem : Bytes) (rule record' : Value) (r : Rule) (limit : ℕ) (v : Value)
     → read rule_text_lem ≡ done rule
-    → shape rule ≡ some r
+    → shape rule ≡ Some r
     → read record_text_lem ≡ done record'
     → outcome (run r record' limit) ≡ value v
     → WellFormedAnswer v

@@ -2,7 +2,7 @@
 -- A text is a rule's, a sheet's or a record's where `read` gives its value and `shape`, `sheetOf` and `check` give some.
 use Rattle.std.specs.Prelude.{◌≡◌, ◌++◌, ℕ, ◌≤◌, T, length}
 use Rattle.std.proofs.Common.{sym, subst, ap, ◌∙◌}
-use Rattle.std.proofs.Math.Option.{some}
+use Rattle.std.specs.Prelude.{Some}
 use Rattle.model.specs.Bytes.{Bytes}
 use Rattle.model.specs.Eval.{run, outcome}
 use Rattle.model.specs.Judgement.{answer_of}
@@ -10,7 +10,8 @@ use Rattle.model.specs.Limits.{max_text_bytes, max_values, max_nesting, max_step
 use Rattle.model.proofs.Main as Model
 use Rattle.model.proofs.Main.{EndsWell}
 use Rattle.model.specs.Place.{subrule, replace, replace_value}
-use Rattle.model.specs.Refusal.{ReadFault, too_large}
+use Rattle.model.specs.declared.refusal.ReadFault.{ReadFault}
+use Rattle.model.specs.declared.refusal.ReadFault.TheVariants.{TooLarge}
 use Rattle.model.specs.Rule.{Rule}
 use Rattle.model.specs.Run.{Place, steps, NeverBegins}
 use Rattle.model.specs.Shape.{shape}
@@ -36,10 +37,10 @@ read_well_formed = WellFormedLaws.read_well_formed
 pub demand_3a_bytes :
     (rule_text_lem sheet-text record_text_lem : Bytes) (rule sheet record' : Value) (r : Rule) (s : Sheet) (ts : Types) (limit : ℕ)
     → read rule_text_lem ≡ done rule
-    → shape rule ≡ some r
+    → shape rule ≡ Some r
     → read sheet-text ≡ done sheet
-    → sheet_of sheet ≡ some s
-    → check r s ≡ some ts
+    → sheet_of sheet ≡ Some s
+    → check r s ≡ Some ts
     → read record_text_lem ≡ done record'
     → T (fits s record')
     → limit ≤ max_steps
@@ -53,16 +54,16 @@ demand_3a_bytes rule_text_lem sheet-text record_text_lem rule sheet record' r s 
 pub demand_3b_bytes :
     (text text' record_text_lem before old after new : Bytes) (rule rule' record' new_rule : Value) (r r' s t : Rule) (place : Place) (limit : ℕ)
     → read text ≡ done rule
-    → shape rule ≡ some r
+    → shape rule ≡ Some r
     → read record_text_lem ≡ done record'
-    → subrule place r ≡ some t
+    → subrule place r ≡ Some t
     → NeverBegins place (run r record' limit)
     → StandsAt text (positions_of place rule) before old after
     → read new ≡ done new_rule
-    → shape new_rule ≡ some s
+    → shape new_rule ≡ Some s
     → text' ≡ before ++ (new ++ after)
     → read text' ≡ done rule'
-    → shape rule' ≡ some r'
+    → shape rule' ≡ Some r'
     → (outcome (run r' record' limit) ≡ outcome (run r record' limit)) × (steps (run r' record' limit) ≡ steps (run r record' limit))
 demand_3b_bytes text text' record_text_lem before old after new rule rule' record' new_rule r r' s t place limit reads is-rule reads-record there unbegun stands reads-new is-new is reads' is-rule' =
     let same = SubstitutionLaws.replaced_operand place rule r t stands reads is-rule there new new_rule rule' reads-new (sym (ap read is) ∙ reads') in
@@ -72,16 +73,16 @@ demand_3b_bytes text text' record_text_lem before old after new rule rule' recor
 pub demand_3b_bytes_answer :
     (text text' record_text_lem before old after new : Bytes) (rule rule' record' new_rule : Value) (r r' s t : Rule) (place : Place) (limit room : ℕ)
     → read text ≡ done rule
-    → shape rule ≡ some r
+    → shape rule ≡ Some r
     → read record_text_lem ≡ done record'
-    → subrule place r ≡ some t
+    → subrule place r ≡ Some t
     → NeverBegins place (run r record' limit)
     → StandsAt text (positions_of place rule) before old after
     → read new ≡ done new_rule
-    → shape new_rule ≡ some s
+    → shape new_rule ≡ Some s
     → text' ≡ before ++ (new ++ after)
     → read text' ≡ done rule'
-    → shape rule' ≡ some r'
+    → shape rule' ≡ Some r'
     → answer_of r' record' limit room ≡ answer_of r record' limit room
 demand_3b_bytes_answer text text' record_text_lem before old after new rule rule' record' new_rule r r' s t place limit room reads is-rule reads-record there unbegun stands reads-new is-new is reads' is-rule' =
     let same = SubstitutionLaws.replaced_operand place rule r t stands reads is-rule there new new_rule rule' reads-new (sym (ap read is) ∙ reads') in
@@ -92,8 +93,8 @@ demand_3b_bytes_answer text text' record_text_lem before old after new rule rule
 pub operand_stands :
     (text : Bytes) (rule : Value) (r t : Rule) (place : Place)
     → read text ≡ done rule
-    → shape rule ≡ some r
-    → subrule place r ≡ some t
+    → shape rule ≡ Some r
+    → subrule place r ≡ Some t
     → (before : Bytes) × (old : Bytes) × (after : Bytes) × StandsAt text (positions_of place rule) before old after
 operand_stands text rule r t place = SubstitutionLaws.operand_stands text place rule r t
 
@@ -101,10 +102,10 @@ operand_stands text rule r t place = SubstitutionLaws.operand_stands text place 
 pub operand_reads :
     (text before old after : Bytes) (rule : Value) (r t : Rule) (place : Place)
     → read text ≡ done rule
-    → shape rule ≡ some r
-    → subrule place r ≡ some t
+    → shape rule ≡ Some r
+    → subrule place r ≡ Some t
     → StandsAt text (positions_of place rule) before old after
-    → (v : Value) × (read old ≡ done v) × (shape v ≡ some t)
+    → (v : Value) × (read old ≡ done v) × (shape v ≡ Some t)
 operand_reads text before old after rule r t place reads is-rule there stands = SubstitutionLaws.operand_reads place rule r t stands reads is-rule there
 
 -- In a text that reads, a value stands at one place.
@@ -121,14 +122,14 @@ stands_once text before old after before' old' after' v q reads stands stands' =
 pub replaced_is_rule :
     (text text' before old after new : Bytes) (rule rule' new_rule : Value) (r s t : Rule) (place : Place)
     → read text ≡ done rule
-    → shape rule ≡ some r
-    → subrule place r ≡ some t
+    → shape rule ≡ Some r
+    → subrule place r ≡ Some t
     → StandsAt text (positions_of place rule) before old after
     → read new ≡ done new_rule
-    → shape new_rule ≡ some s
+    → shape new_rule ≡ Some s
     → text' ≡ before ++ (new ++ after)
     → read text' ≡ done rule'
-    → (rule' ≡ replace_value place new_rule rule) × (shape rule' ≡ some (replace place s r))
+    → (rule' ≡ replace_value place new_rule rule) × (shape rule' ≡ Some (replace place s r))
 replaced_is_rule text text' before old after new rule rule' new_rule r s t place reads is-rule there stands reads-new is-new is reads' =
     let same = SubstitutionLaws.replaced_operand place rule r t stands reads is-rule there new new_rule rule' reads-new (sym (ap read is) ∙ reads') in
     (same, ap shape same ∙ Model.replaced_is_rule rule new_rule r s t place is-rule is-new there)
@@ -137,8 +138,8 @@ replaced_is_rule text text' before old after new rule rule' new_rule r s t place
 pub replaced_reads :
     (text text' before old after new : Bytes) (rule new_rule : Value) (r t : Rule) (place : Place)
     → read text ≡ done rule
-    → shape rule ≡ some r
-    → subrule place r ≡ some t
+    → shape rule ≡ Some r
+    → subrule place r ≡ Some t
     → StandsAt text (positions_of place rule) before old after
     → read new ≡ done new_rule
     → text' ≡ before ++ (new ++ after)
@@ -157,5 +158,5 @@ pub replaced_refused :
     → read new ≡ done new_rule
     → text' ≡ before ++ (new ++ after)
     → read text' ≡ refuse k p
-    → k ≡ too_large
+    → k ≡ TooLarge
 replaced_refused text text' before old after new rule new_rule place k p reads stands reads-new is refused = SubstitutionLaws.replaced_refused stands new rule new_rule reads reads-new k p (sym (ap read is) ∙ refused)

@@ -3,11 +3,13 @@
 -- Sentences of 01 at their edges are in Laws.Rows.
 use Rattle.std.specs.Prelude.{◌≡◌, false, ◌⊎◌, ◌↔◌, ℕ, suc, ◌≤◌, ◌<◌, length, take, drop}
 use mathlib.Core.List.{List, ◌∷◌, ◌++◌, Memᴰ}
-use Rattle.std.proofs.Math.Option.{some}
+use Rattle.std.specs.Prelude.{Some}
 use Rattle.model.specs.Bytes.{Bytes}
 use Rattle.model.specs.Judgement.{Judged, written_within}
 use Rattle.model.specs.Limits.{max_text_bytes, max_values, max_nesting}
-use Rattle.model.specs.Refusal.{ReadFault, not_json, lone_surrogate, too_large, read_number}
+use Rattle.model.specs.Refusal.{read_number}
+use Rattle.model.specs.declared.refusal.ReadFault.{ReadFault}
+use Rattle.model.specs.declared.refusal.ReadFault.TheVariants.{NotJson as not_json, LoneSurrogate, TooLarge}
 use Rattle.model.specs.Size.{value_count, nesting, is_too_large}
 use Rattle.model.specs.Textual.{textual}
 use Rattle.model.specs.Value.{Value}
@@ -41,13 +43,13 @@ same_texts = AbnfLaws.same_texts
 pub reads_so :
     (s : Bytes) (v : Value)
     → read s ≡ done v
-    → (d : JText) × (spell d ≡ s) × (meaning d ≡ some v) × (value_count v ≤ max_values) × (nesting v ≤ max_nesting) × (length s ≤ max_text_bytes)
+    → (d : JText) × (spell d ≡ s) × (meaning d ≡ Some v) × (value_count v ≤ max_values) × (nesting v ≤ max_nesting) × (length s ≤ max_text_bytes)
 reads_so s v e = let w = Sound.sound s v e in (w.0.tree, w.0.spells, w.0.means, w.0.few, w.0.flat, w.1)
 
 -- And every such text reads as its meaning.
 pub so_reads :
     (d : JText) (v : Value)
-    → meaning d ≡ some v
+    → meaning d ≡ Some v
     → value_count v ≤ max_values
     → nesting v ≤ max_nesting
     → length (spell d) ≤ max_text_bytes
@@ -55,7 +57,7 @@ pub so_reads :
 so_reads = Complete.complete
 
 -- However the rules derive a text that reads, it means what it reads as.
-pub unambiguous : (d : JText) (v : Value) → read (spell d) ≡ done v → meaning d ≡ some v
+pub unambiguous : (d : JText) (v : Value) → read (spell d) ≡ done v → meaning d ≡ Some v
 unambiguous = Complete.unambiguous
 
 -- What reads is well formed: strings and names in UTF-8, names distinct, integers within the limits, no instant.
@@ -91,7 +93,7 @@ no_smaller = Order.smallest
 
 -- ---- refusals of any bytes
 -- "Over-long text is refused first, at place 16,384."
-pub over_long : (s : Bytes) → max_text_bytes < length s → read s ≡ refuse too_large max_text_bytes
+pub over_long : (s : Bytes) → max_text_bytes < length s → read s ≡ refuse TooLarge max_text_bytes
 over_long = Exact.over_long
 
 -- "Place of 2: the first byte with which the text no longer begins any RFC 8259 text, or the text's length if it ends too early."
@@ -107,7 +109,7 @@ pub as_stated : (s : Bytes) (k : ReadFault) (p : ℕ) → read s ≡ refuse k p 
 as_stated = Exact.as_stated
 
 -- "Of 3: .. the backslash of a complete surrogate escape that has no partner": one stands at the place.
-pub lone_surrogate_lem : (s : Bytes) (p : ℕ) → read s ≡ refuse lone_surrogate p → Lone (drop p s)
+pub lone_surrogate_lem : (s : Bytes) (p : ℕ) → read s ≡ refuse LoneSurrogate p → Lone (drop p s)
 lone_surrogate_lem = Exact.lone_surrogate_lem
 
 -- And none is missed: what is such a fault is what s is refused with.

@@ -2,10 +2,11 @@
 -- `at` is the place of the part's first byte; the place of what follows a part is `at` and the number of bytes that stand between.
 use Rattle.std.specs.Prelude.{◌≡◌, true, false, ℕ, suc, ◌+◌, ◌*◌, ◌≤◌, ◌<◌, leb, length, take, drop}
 use mathlib.Core.List.{List, [], ◌∷◌, ◌++◌, Memᴰ}
-use Rattle.std.proofs.Math.Option.{Option, none, some}
+use Rattle.std.specs.Prelude.{Option, None, Some}
 use Rattle.model.specs.Bytes.{Bytes}
 use Rattle.model.specs.Limits.{max_text_bytes, max_values, max_nesting, max_integer}
-use Rattle.model.specs.Refusal.{ReadFault, not_json, repeated_name, lone_surrogate, bad_number, too_large}
+use Rattle.model.specs.declared.refusal.ReadFault.{ReadFault}
+use Rattle.model.specs.declared.refusal.ReadFault.TheVariants.{NotJson as not_json, RepeatedName, LoneSurrogate, BadNumber, TooLarge}
 use Rattle.syntax.specs.declared.Unit.TheVariants.{Plain, High, Low}
 use Rattle.syntax.specs.Grammar.{Digits, no_digits, digit, Int, zero_int, int, Frac, no_frac, frac, Exp, no_exp, exp, Hexes, Chars, no_chars, unescaped, escaped, code_unit_lem, JValue, jtrue, jfalse, jnull, jnumber, jstring, jempty_array, jarray, jempty_object, jobject, JElements, last_element, element, JMembers, last_member, jmember, JText, jtext, spell_ws, spell_int, spell_frac, spell_minus, spell_hexes, spell_chars, spell_value, spell, hex_number, chars_meaning, seen_with, meaning}
 use Rattle.syntax.specs.Read.{among, Read, done, refuse}
@@ -22,7 +23,7 @@ faults_digits n no_digits at = []
 faults_digits n (digit b h ds) at =
     elim (leb (n * 10 + digit_value b) max_integer) [
       | true ↦ faults_digits (n * 10 + digit_value b) ds (suc at)
-      | false ↦ fault bad_number at ∷ []
+      | false ↦ fault BadNumber at ∷ []
     ]
 
 unfoldable pub faults_int : Int → ℕ → List Fault
@@ -31,11 +32,11 @@ faults_int (int b h ds) at = faults_digits (digit_value b) ds (suc at)
 
 unfoldable pub faults_frac : Frac → ℕ → List Fault
 faults_frac no_frac at = []
-faults_frac (frac b h ds) at = fault bad_number at ∷ []
+faults_frac (frac b h ds) at = fault BadNumber at ∷ []
 
 unfoldable pub faults_exp : Exp → ℕ → List Fault
 faults_exp no_exp at = []
-faults_exp (exp e h s b k ds) at = fault bad_number at ∷ []
+faults_exp (exp e h s b k ds) at = fault BadNumber at ∷ []
 
 unfoldable pub faults_number : Int → Frac → Exp → ℕ → List Fault
 faults_number i fr ex at = faults_int i at ++ (faults_frac fr (at + length (spell_int i [])) ++ faults_exp ex (at + length (spell_int i (spell_frac fr []))))
@@ -43,42 +44,42 @@ faults_number i fr ex at = faults_int i at ++ (faults_frac fr (at + length (spel
 -- ---- 3: "the backslash of a complete surrogate escape that has no partner (a high one followed at once by a complete low one is a pair)"
 -- `before` is the place of the backslash of a high one that stands just before, if one does. It is alone if anything but a low one follows;
 unfoldable pub alone_high : Option ℕ → List Fault
-alone_high none = []
-alone_high (some p) = fault lone_surrogate p ∷ []
+alone_high None = []
+alone_high (Some p) = fault LoneSurrogate p ∷ []
 
 -- a low one is alone if none stands before it.
 unfoldable pub alone_low : Option ℕ → ℕ → List Fault
-alone_low none at = fault lone_surrogate at ∷ []
-alone_low (some p) at = []
+alone_low None at = fault LoneSurrogate at ∷ []
+alone_low (Some p) at = []
 
 unfoldable pub faults_chars : Chars → Option ℕ → ℕ → List Fault
 faults_chars no_chars before at = alone_high before
-faults_chars (unescaped b n lo hi h ts cs) before at = alone_high before ++ faults_chars cs none (at + suc n)
-faults_chars (escaped b d h cs) before at = alone_high before ++ faults_chars cs none (at + 2)
+faults_chars (unescaped b n lo hi h ts cs) before at = alone_high before ++ faults_chars cs None (at + suc n)
+faults_chars (escaped b d h cs) before at = alone_high before ++ faults_chars cs None (at + 2)
 faults_chars (code_unit_lem hs cs) before at =
     elim (unit_of (hex_number 0 hs)) [
-      | Plain ↦ alone_high before ++ faults_chars cs none (at + 6)
-      | High ↦ alone_high before ++ faults_chars cs (some at) (at + 6)
-      | Low ↦ alone_low before at ++ faults_chars cs none (at + 6)
+      | Plain ↦ alone_high before ++ faults_chars cs None (at + 6)
+      | High ↦ alone_high before ++ faults_chars cs (Some at) (at + 6)
+      | Low ↦ alone_low before at ++ faults_chars cs None (at + 6)
     ]
 
 -- ---- 3: "the closing quote of the second equal name"
 -- A name that is one of those seen, its closing quote at this place. (A name with a lone surrogate is equal to none, and has its fault before.)
 unfoldable pub repeated_at : List Bytes → Option Bytes → ℕ → List Fault
-repeated_at seen none at = []
-repeated_at seen (some n) at = elim (among n seen) [ true ↦ fault repeated_name at ∷ [] | false ↦ [] ]
+repeated_at seen None at = []
+repeated_at seen (Some n) at = elim (among n seen) [ true ↦ fault RepeatedName at ∷ [] | false ↦ [] ]
 
 unfoldable pub faults_name : List Bytes → Chars → ℕ → List Fault
-faults_name seen n at = faults_chars n none at ++ repeated_at seen (chars_meaning n none) (at + length (spell_chars n []))
+faults_name seen n at = faults_chars n None at ++ repeated_at seen (chars_meaning n None) (at + length (spell_chars n []))
 
 -- ---- 5: "the opening bracket of the 33rd nesting, or the first byte of the 1,025th value"
 -- Further brackets and values are listed too; they stand after these. `row` values have begun before this one;
 unfoldable pub many_at : ℕ → ℕ → List Fault
-many_at row at = elim (leb max_values row) [ true ↦ fault too_large at ∷ [] | false ↦ [] ]
+many_at row at = elim (leb max_values row) [ true ↦ fault TooLarge at ∷ [] | false ↦ [] ]
 
 -- `depth` arrays and objects are open.
 unfoldable pub deep_at : ℕ → ℕ → List Fault
-deep_at depth at = elim (leb max_nesting depth) [ true ↦ fault too_large at ∷ [] | false ↦ [] ]
+deep_at depth at = elim (leb max_nesting depth) [ true ↦ fault TooLarge at ∷ [] | false ↦ [] ]
 
 -- How many values a derivation has; "Names are not values."
 unfoldable mutual
@@ -108,7 +109,7 @@ unfoldable mutual
   faults_value jfalse row depth at = many_at row at
   faults_value jnull row depth at = many_at row at
   faults_value (jnumber negative i fr ex) row depth at = many_at row at ++ faults_number i fr ex (at + length (spell_minus negative []))
-  faults_value (jstring cs) row depth at = many_at row at ++ faults_chars cs none (suc at)
+  faults_value (jstring cs) row depth at = many_at row at ++ faults_chars cs None (suc at)
   faults_value (jempty_array w) row depth at = many_at row at ++ deep_at depth at
   faults_value (jarray w es) row depth at = many_at row at ++ (deep_at depth at ++ faults_elements es (suc row) (suc depth) (at + length (0x5B ∷ spell_ws w [])))
   faults_value (jempty_object w) row depth at = many_at row at ++ deep_at depth at
@@ -127,7 +128,7 @@ unfoldable mutual
   faults_members (jmember n w u v x z ms) row depth seen at =
       faults_name seen n (suc at) ++
       (faults_value v row depth (at + length (0x22 ∷ spell_chars n (0x22 ∷ spell_ws w (0x3A ∷ spell_ws u [])))) ++
-      faults_members ms (row + count_value v) depth (seen_with seen (chars_meaning n none))
+      faults_members ms (row + count_value v) depth (seen_with seen (chars_meaning n None))
       (at + length (0x22 ∷ spell_chars n (0x22 ∷ spell_ws w (0x3A ∷ spell_ws u (spell_value v (spell_ws x (0x2C ∷ spell_ws z []))))))))
 
 unfoldable pub faults : JText → List Fault
@@ -138,7 +139,7 @@ place_of (fault k p) = p
 
 -- A text of RFC 8259 is read as its meaning if it has no fault, and refused with its first fault if it has one.
 abbrev pub FirstFault : JText → Read → Type 0
-FirstFault d (done v) = (faults d ≡ []) × (meaning d ≡ some v)
+FirstFault d (done v) = (faults d ≡ []) × (meaning d ≡ Some v)
 FirstFault d (refuse k p) = (others : List Fault) × (faults d ≡ fault k p ∷ others)
 
 -- ---- any bytes
@@ -155,7 +156,7 @@ pub record NotJson (s : Bytes) (p : ℕ) : Type 0 where
 
 -- "Over-long text is refused first, at place 16,384."
 abbrev pub OverLong : Bytes → ReadFault → ℕ → Type 0
-OverLong s k p = (k ≡ too_large) × (p ≡ max_text_bytes) × (max_text_bytes < length s)
+OverLong s k p = (k ≡ TooLarge) × (p ≡ max_text_bytes) × (max_text_bytes < length s)
 
 -- The escape of a code unit: \u and four hexadecimal digits.
 abbrev pub spell_unit : Hexes 4 → Bytes → Bytes
@@ -181,18 +182,18 @@ pub record Lone (t : Bytes) : Type 0 where
 -- The bytes through a fault: those before the place of 2; those through the place; of a lone surrogate those through the whole escape,
 abbrev pub reach : ReadFault → ℕ → ℕ
 reach not_json p = p
-reach repeated_name p = suc p
-reach lone_surrogate p = p + 6
-reach bad_number p = suc p
-reach too_large p = suc p
+reach RepeatedName p = suc p
+reach LoneSurrogate p = p + 6
+reach BadNumber p = suc p
+reach TooLarge p = suc p
 
 -- which begins no pair.
 abbrev pub Unpaired : ReadFault → Bytes → Type 0
 Unpaired not_json t = Unit {0}
-Unpaired repeated_name t = Unit {0}
-Unpaired lone_surrogate t = Pair t → ⊥
-Unpaired bad_number t = Unit {0}
-Unpaired too_large t = Unit {0}
+Unpaired RepeatedName t = Unit {0}
+Unpaired LoneSurrogate t = Pair t → ⊥
+Unpaired BadNumber t = Unit {0}
+Unpaired TooLarge t = Unit {0}
 
 -- "Faults 3 to 5 count only if the bytes through their place still begin an RFC 8259 text":
 -- some text of RFC 8259 begins with the bytes of s through the fault, and this is its first fault.

@@ -2,13 +2,12 @@
 -- The RFC allows ws on both sides of a structural character, here each run of it has one place; Abnf has the RFC's rules word for word,
 -- and Laws.Abnf that they derive the same texts. A derivation spells its bytes in front of those that follow.
 use Rattle.std.specs.Prelude.{◌≡◌, Bool, true, false, List, [], ◌∷◌, ◌++◌, ℕ, suc, ◌+◌, ◌*◌, T, leb}
-use Rattle.std.proofs.Math.Option.{Option, none, some}
+use Rattle.std.specs.Prelude.{Option, None, Some}
 use Rattle.model.specs.Bytes.{Bytes, ascii}
 use Rattle.model.specs.Limits.{max_integer}
 use Rattle.model.specs.Value.{Value, scalar, array, object, null, boolean, string, Values, no_items, item, Members, no_members, member}
 use Rattle.syntax.specs.declared.Lead.TheVariants.{Char}
 use Rattle.syntax.specs.declared.Escape.TheVariants.{Letter}
-use Rattle.syntax.specs.declared.Hex.TheVariants.{HexDigit}
 use Rattle.syntax.specs.declared.Unit.TheVariants.{Plain, High, Low}
 use Rattle.syntax.specs.Tokens.{within, is_white, is_digit, is_digit1_9, digit_value, is_e, escape_of, hex_of}
 use Rattle.syntax.specs.Utf8.{utf8, lead_of, unit_of, pair_of}
@@ -53,7 +52,7 @@ pub data Tails : ℕ → ℕ → ℕ → Type 0 where
 --   n HEXDIG
 pub data Hexes : ℕ → Type 0 where
   no_hexes : Hexes 0
-  hex : {n : ℕ} (b d : ℕ) → hex_of b ≡ HexDigit d → Hexes n → Hexes (suc n)
+  hex : {n : ℕ} (b d : ℕ) → hex_of b ≡ Some d → Hexes n → Hexes (suc n)
 
 --   char = unescaped / escape ( %x22 / .. / %x74 / %x75 4HEXDIG )
 pub data Chars : Type 0 where
@@ -164,12 +163,12 @@ int_number (int b h ds) = digits_number (digit_value b) ds
 
 -- A number is in our domain if it has neither fraction nor exponent and is within the limit (01, refusal 4).
 unfoldable pub limited : Bool → ℕ → Option Value
-limited negative n = elim (leb n max_integer) [ true ↦ some (signed negative n) | false ↦ none ]
+limited negative n = elim (leb n max_integer) [ true ↦ Some (signed negative n) | false ↦ None ]
 
 unfoldable pub plain : Bool → ℕ → Frac → Exp → Option Value
 plain negative n no_frac no_exp = limited negative n
-plain negative n no_frac (exp e h s b k ds) = none
-plain negative n (frac b h ds) ex = none
+plain negative n no_frac (exp e h s b k ds) = None
+plain negative n (frac b h ds) ex = None
 
 unfoldable pub tail_bytes : {n lo hi : ℕ} → Tails n lo hi → Bytes
 tail_bytes no_tail = []
@@ -180,60 +179,60 @@ hex_number u no_hexes = u
 hex_number u (hex b d h hs) = hex_number (u * 16 + d) hs
 
 unfoldable pub map : {A B : Type 0} → (A → B) → Option A → Option B
-map f none = none
-map f (some a) = some (f a)
+map f None = None
+map f (Some a) = Some (f a)
 
 unfoldable pub map₂ : {A B C : Type 0} → (A → B → C) → Option A → Option B → Option C
-map₂ f none o = none
-map₂ f (some a) none = none
-map₂ f (some a) (some b) = some (f a b)
+map₂ f None o = None
+map₂ f (Some a) None = None
+map₂ f (Some a) (Some b) = Some (f a b)
 
 -- A string is in our domain if each surrogate escape has its partner: the second argument is a high one that stands just before.
 unfoldable pub chars_meaning : Chars → Option ℕ → Option Bytes
-chars_meaning no_chars none = some []
-chars_meaning no_chars (some h) = none
-chars_meaning (unescaped b n lo hi e ts cs) none = map (λ s. (b ∷ tail_bytes ts) ++ s) (chars_meaning cs none)
-chars_meaning (unescaped b n lo hi e ts cs) (some h) = none
-chars_meaning (escaped b d e cs) none = map (λ s. (d ∷ []) ++ s) (chars_meaning cs none)
-chars_meaning (escaped b d e cs) (some h) = none
-chars_meaning (code_unit_lem hs cs) none =
+chars_meaning no_chars None = Some []
+chars_meaning no_chars (Some h) = None
+chars_meaning (unescaped b n lo hi e ts cs) None = map (λ s. (b ∷ tail_bytes ts) ++ s) (chars_meaning cs None)
+chars_meaning (unescaped b n lo hi e ts cs) (Some h) = None
+chars_meaning (escaped b d e cs) None = map (λ s. (d ∷ []) ++ s) (chars_meaning cs None)
+chars_meaning (escaped b d e cs) (Some h) = None
+chars_meaning (code_unit_lem hs cs) None =
     elim (unit_of (hex_number 0 hs)) [
-      | Plain ↦ map (λ s. utf8 (hex_number 0 hs) ++ s) (chars_meaning cs none)
-      | High ↦ chars_meaning cs (some (hex_number 0 hs))
-      | Low ↦ none
+      | Plain ↦ map (λ s. utf8 (hex_number 0 hs) ++ s) (chars_meaning cs None)
+      | High ↦ chars_meaning cs (Some (hex_number 0 hs))
+      | Low ↦ None
     ]
-chars_meaning (code_unit_lem hs cs) (some h) =
+chars_meaning (code_unit_lem hs cs) (Some h) =
     elim (unit_of (hex_number 0 hs)) [
-      | Plain ↦ none
-      | High ↦ none
-      | Low ↦ map (λ s. utf8 (pair_of h (hex_number 0 hs)) ++ s) (chars_meaning cs none)
+      | Plain ↦ None
+      | High ↦ None
+      | Low ↦ map (λ s. utf8 (pair_of h (hex_number 0 hs)) ++ s) (chars_meaning cs None)
     ]
 
 -- A name that is none of those seen, and those seen with it.
 unfoldable pub fresh : List Bytes → Option Bytes → Option Bytes
-fresh seen none = none
-fresh seen (some n) = elim (among n seen) [ true ↦ none | false ↦ some n ]
+fresh seen None = None
+fresh seen (Some n) = elim (among n seen) [ true ↦ None | false ↦ Some n ]
 
 unfoldable pub seen_with : List Bytes → Option Bytes → List Bytes
-seen_with seen none = seen
-seen_with seen (some n) = seen ++ (n ∷ [])
+seen_with seen None = seen
+seen_with seen (Some n) = seen ++ (n ∷ [])
 
 unfoldable pub member_of : Option Bytes → Option Value → Option Members → Option Members
-member_of none o ms = none
-member_of (some n) none ms = none
-member_of (some n) (some v) none = none
-member_of (some n) (some v) (some ms) = some (member n v ms)
+member_of None o ms = None
+member_of (Some n) None ms = None
+member_of (Some n) (Some v) None = None
+member_of (Some n) (Some v) (Some ms) = Some (member n v ms)
 
 unfoldable mutual
   pub value_meaning : JValue → Option Value
-  value_meaning jtrue = some (scalar (boolean true))
-  value_meaning jfalse = some (scalar (boolean false))
-  value_meaning jnull = some (scalar null)
+  value_meaning jtrue = Some (scalar (boolean true))
+  value_meaning jfalse = Some (scalar (boolean false))
+  value_meaning jnull = Some (scalar null)
   value_meaning (jnumber negative i fr ex) = plain negative (int_number i) fr ex
-  value_meaning (jstring cs) = map (λ s. scalar (string s)) (chars_meaning cs none)
-  value_meaning (jempty_array w) = some (array no_items)
+  value_meaning (jstring cs) = map (λ s. scalar (string s)) (chars_meaning cs None)
+  value_meaning (jempty_array w) = Some (array no_items)
   value_meaning (jarray w es) = map array (elements_meaning es)
-  value_meaning (jempty_object w) = some (object no_members)
+  value_meaning (jempty_object w) = Some (object no_members)
   value_meaning (jobject w ms) = map object (members_meaning ms [])
 
   pub elements_meaning : JElements → Option Values
@@ -242,8 +241,8 @@ unfoldable mutual
 
   -- The names of an object differ: each is none of those before.
   pub members_meaning : JMembers → List Bytes → Option Members
-  members_meaning (last_member n w u v x) seen = member_of (fresh seen (chars_meaning n none)) (value_meaning v) (some no_members)
-  members_meaning (jmember n w u v x z ms) seen = member_of (fresh seen (chars_meaning n none)) (value_meaning v) (members_meaning ms (seen_with seen (chars_meaning n none)))
+  members_meaning (last_member n w u v x) seen = member_of (fresh seen (chars_meaning n None)) (value_meaning v) (Some no_members)
+  members_meaning (jmember n w u v x z ms) seen = member_of (fresh seen (chars_meaning n None)) (value_meaning v) (members_meaning ms (seen_with seen (chars_meaning n None)))
 
 unfoldable pub meaning : JText → Option Value
 meaning (jtext w v u) = value_meaning v

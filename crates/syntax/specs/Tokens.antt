@@ -1,5 +1,5 @@
 -- Tokens: what RFC 8259's ABNF says of a byte by itself, and what reading decides from it. The grammar, the parser and the code share these.
-use Rattle.std.specs.Prelude.{Bool, true, false, ◌&&◌, ◌||◌, ℕ, ◌-◌, leb, eqb}
+use Rattle.std.specs.Prelude.{Bool, true, false, ◌&&◌, ◌||◌, ℕ, ◌-◌, leb, eqb, Option, None, Some}
 use Rattle.model.specs.Limits.{max_values, max_nesting}
 use Rattle.syntax.specs.declared.Start.{Start}
 use Rattle.syntax.specs.declared.Start.TheVariants.{NoValue, TooMuch, Literal, Minus, Digit, Quote, Bracket, Brace}
@@ -8,8 +8,6 @@ use Rattle.syntax.specs.declared.Separator.{Separator}
 use Rattle.syntax.specs.declared.Separator.TheVariants.{Comma, Close, Neither}
 use Rattle.syntax.specs.declared.Escape.{Escape}
 use Rattle.syntax.specs.declared.Escape.TheVariants.{Letter, Unicode, NoEscape}
-use Rattle.syntax.specs.declared.Hex.{Hex}
-use Rattle.syntax.specs.declared.Hex.TheVariants.{HexDigit, NoHex}
 
 -- A byte from a lowest to a highest one: %xLO-HI.
 unfoldable pub within : ℕ → ℕ → ℕ → Bool
@@ -128,14 +126,14 @@ escape_of b =
     ]
 
 -- HEXDIG = DIGIT / "A" / "B" / "C" / "D" / "E" / "F" (RFC 5234), letters in either case.
-unfoldable pub hex_of : ℕ → Hex
+unfoldable pub hex_of : ℕ → Option ℕ
 hex_of b =
     elim (within 0x30 0x39 b) [
-      | true ↦ HexDigit (b - 0x30)
+      | true ↦ Some (b - 0x30)
       | false ↦
           elim (within 0x41 0x46 b) [
-            | true ↦ HexDigit (b - 0x37)
+            | true ↦ Some (b - 0x37)
             | false ↦
-                elim (within 0x61 0x66 b) [ true ↦ HexDigit (b - 0x57) | false ↦ NoHex ]
+                elim (within 0x61 0x66 b) [ true ↦ Some (b - 0x57) | false ↦ None ]
           ]
     ]

@@ -76,13 +76,6 @@ pub enum Escape {
     NoEscape,
 }
 
-// A hexadecimal digit's number.
-#[derive(Clone, Copy)]
-pub enum Hex {
-    HexDigit(u8),
-    NoHex,
-}
-
 // A UTF-16 code unit: a character by itself, or the first or second half of a pair.
 #[derive(Clone, Copy)]
 pub enum Unit {

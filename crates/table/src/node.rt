@@ -1,10 +1,9 @@
 // The value in a row.
-ghost use Rattle.std.specs.Prelude.{◌≡◌, ◌-◌};
+ghost use Rattle.std.specs.Prelude.{◌≡◌};
 ghost use Rattle.table.specs.Contract.{node_at, next_row, name_at, tail_of, Halves};
 ghost use Rattle.table.specs.Node.{node_of};
 
 use crate::row::{Row, Span, join, row_at};
-use area::get_word;
 use syntax::{ARRAY_ROW, FALSE_ROW, INTEGER_ROW, OBJECT_ROW, ROW_BYTES, STRING_ROW, TRUE_ROW};
 
 // So many values, one after the other, from a row on.
@@ -32,33 +31,23 @@ fn node_of(r: Row, next: usize) -> Node
     requires { Halves r }
     ensures { result ≡ node_of r next }
 {
-    let kind = r.kind;
     let count = r.first;
-    if kind == FALSE_ROW {
-        return Node::False;
-    }
-    if kind == TRUE_ROW {
-        return Node::True;
-    }
-    if kind == INTEGER_ROW {
-        return Node::Integer(join(r));
-    }
-    if kind == STRING_ROW {
-        return Node::String(Span {
-            start: count,
+    match r.kind {
+        FALSE_ROW => Node::False,
+        TRUE_ROW => Node::True,
+        INTEGER_ROW => Node::Integer(join(r)),
+        STRING_ROW => Node::String(Span {
+            start: r.first,
             size: r.second,
-        });
+        }),
+        ARRAY_ROW => Node::Array(Rows { first: next, count }),
+        OBJECT_ROW => Node::Object(Rows { first: next, count }),
+        _ => Node::Null,
     }
-    if kind == ARRAY_ROW {
-        return Node::Array(Rows { first: next, count });
-    }
-    if kind == OBJECT_ROW {
-        return Node::Object(Rows { first: next, count });
-    }
-    Node::Null
 }
 
 // The value in a row; null where the table has no such row.
+#[tactic(auto, unfolding(crate::specs::Node::node_at, syntax::specs::Layout::row_bytes))]
 pub fn node_at(table: &[u8], row: usize) -> Node
     ensures { result ≡ node_at table.now row }
 {
@@ -76,30 +65,15 @@ pub fn next_row(table: &[u8], row: usize) -> usize
     if row >= table.len() / ROW_BYTES {
         return row;
     }
-    let at = row * ROW_BYTES;
-    let kind = get_word(table, at) % 256;
-    if kind < ARRAY_ROW {
-        return row + 1;
-    }
-    get_word(table, at + 12)
+    let Row { kind, second, .. } = row_at(table, row);
+    if kind < ARRAY_ROW { row + 1 } else { second }
 }
 
 // Where the name of the member in a row lies.
 pub fn name_at(table: &[u8], row: usize) -> Span
     ensures { result ≡ name_at table.now row }
 {
-    let named = row_at(table, row);
-    named.name
-}
-
-// One less; 0 of 0.
-fn less(n: usize) -> usize
-    ensures { result ≡ n - 1 }
-{
-    if n == 0 {
-        return 0;
-    }
-    n - 1
+    row_at(table, row).name
 }
 
 // The values after the first.
@@ -108,6 +82,6 @@ pub fn tail(table: &[u8], q: Rows) -> Rows
 {
     Rows {
         first: next_row(table, q.first),
-        count: less(q.count),
+        count: q.count.saturating_sub(1),
     }
 }

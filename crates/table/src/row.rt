@@ -6,14 +6,14 @@ use area::get_word;
 use syntax::ROW_BYTES;
 
 // A part of a strings area.
-#[derive(Clone, Copy)]
+#[derive(Clone, Copy, Default)]
 pub struct Span {
     pub start: usize,
     pub size: usize,
 }
 
 // The kind; where the member's name lies, in a read table 0 and 0 of no member; and two numbers by the kind.
-#[derive(Clone, Copy)]
+#[derive(Clone, Copy, Default)]
 pub struct Row {
     pub kind: usize,
     pub name: Span,
@@ -22,30 +22,23 @@ pub struct Row {
 }
 
 // The numbers of a row; zeros where the table has no such row.
+#[tactic(auto, unfolding(crate::specs::Row::row_at, syntax::specs::Layout::row_bytes))]
 pub fn row_at(table: &[u8], row: usize) -> Row
     ensures { (result ≡ row_at table.now row) × Halves result }
 {
     if row >= table.len() / ROW_BYTES {
-        return Row {
-            kind: 0,
-            name: Span { start: 0, size: 0 },
-            first: 0,
-            second: 0,
-        };
+        return Row::default();
     }
     let at = row * ROW_BYTES;
     let word = get_word(table, at);
-    let start = get_word(table, at + 4);
-    let first = get_word(table, at + 8);
-    let second = get_word(table, at + 12);
     Row {
         kind: word % 256,
         name: Span {
-            start,
+            start: get_word(table, at + 4),
             size: word / 256,
         },
-        first,
-        second,
+        first: get_word(table, at + 8),
+        second: get_word(table, at + 12),
     }
 }
 

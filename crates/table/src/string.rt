@@ -8,15 +8,8 @@ use crate::row::Span;
 pub fn part_of(area: &[u8], start: usize, size: usize) -> &[u8]
     ensures { result.now ≡ part area.now start size }
 {
-    let n = area.len();
-    if n <= start {
-        return &area[n..];
-    }
-    if n - start <= size {
-        return &area[start..];
-    }
-    let end = start + size;
-    &area[start..end]
+    let rest = &area[start.min(area.len())..];
+    &rest[..size.min(rest.len())]
 }
 
 // The bytes of a string or name in its strings area.

@@ -4,39 +4,32 @@
 ghost use Rattle.std.specs.Prelude.{◌≡◌, length};
 ghost use Rattle.model.specs.DateText.{day_text, date_text};
 ghost use Rattle.model.specs.Result.{result_number};
-ghost use Rattle.calendar.specs.Contract.{date_result};
-ghost use Rattle.test_calendar.specs.Contract.{milliseconds_of, unit_of, unit_found, shift_number, shift_ms, text_number, text_bytes};
+ghost use Rattle.calendar.specs.Contract.{date_result, shifted};
+ghost use Rattle.test_calendar.specs.Contract.{milliseconds_of, unit_of, shift_number, shift_ms, text_number, text_bytes};
 
-use calendar::instant::{DateAnswer, Instant, InstantAnswer, dated};
+use calendar::instant::{DateFault, Instant};
 use instants::shift::shift;
 use instants::text::InstantText;
 use model::TimeUnit;
+use model::refusal::Fault;
 
 // 01, What comes back.
 const DONE: u32 = 0;
 
 const INVALID_ARGUMENT: u32 = 1;
 
-const BAD_DATE: u32 = 8;
-
-const OUT_OF_RANGE: u32 = 9;
-
 // An answer's number, and its milliseconds, 0 where it has none.
-fn put_date(answer: DateAnswer, ms: &mut i64) -> u32
+fn put_date(answer: Result<Instant, DateFault>, ms: &mut i64) -> u32
     ensures { (result ≡ result_number (date_result answer)) × (ms.new ≡ milliseconds_of (date_result answer)) }
 {
     match answer {
-        DateAnswer::At(t) => {
+        Ok(t) => {
             *ms = t.milliseconds();
             DONE
         }
-        DateAnswer::BadDate => {
+        Err(fault) => {
             *ms = 0;
-            BAD_DATE
-        }
-        DateAnswer::OutOfRange => {
-            *ms = 0;
-            OUT_OF_RANGE
+            u32::from(Fault::from(fault))
         }
     }
 }
@@ -57,28 +50,23 @@ pub extern "C" fn calendar_read_day(text: &[u8], ms: &mut i64) -> u32
     put_date(dates::read_day(text), ms)
 }
 
-#[derive(Clone, Copy)]
-enum UnitAnswer {
-    Of(TimeUnit),
-    Bad,
+fn unit_of(number: u32) -> Option<TimeUnit>
+    ensures { result ≡ unit_of number }
+{
+    match number {
+        0 => Some(TimeUnit::Year),
+        1 => Some(TimeUnit::Month),
+        2 => Some(TimeUnit::Day),
+        3 => Some(TimeUnit::Hour),
+        _ => None,
+    }
 }
 
-fn unit_of(number: u32) -> UnitAnswer
-    ensures { unit_found result ≡ unit_of number }
+// The instant so many milliseconds from 1970-01-01, shifted.
+fn shift_from(ms: i64, amount: i64, unit: TimeUnit) -> Result<Instant, DateFault>
+    ensures { date_result result ≡ shifted ms amount unit }
 {
-    if number == 0 {
-        return UnitAnswer::Of(TimeUnit::Year);
-    }
-    if number == 1 {
-        return UnitAnswer::Of(TimeUnit::Month);
-    }
-    if number == 2 {
-        return UnitAnswer::Of(TimeUnit::Day);
-    }
-    if number == 3 {
-        return UnitAnswer::Of(TimeUnit::Hour);
-    }
-    UnitAnswer::Bad
+    Ok(shift(Instant::new(ms)?, amount, unit)?)
 }
 
 // The instant `from`, shifted by an amount of a unit (0 year, 1 month, 2 day, 3 hour): 0 and its milliseconds, or 9 and 0; 1 and 0 for another unit.
@@ -86,27 +74,12 @@ fn unit_of(number: u32) -> UnitAnswer
 pub extern "C" fn calendar_shift(from: i64, amount: i64, unit: u32, ms: &mut i64) -> u32
     ensures { (result ≡ shift_number from amount unit) × (ms.new ≡ shift_ms from amount unit) }
 {
-    let UnitAnswer::Of(unit) = unit_of(unit) else {
+    let Some(unit) = unit_of(unit) else {
         *ms = 0;
         return INVALID_ARGUMENT;
     };
-    let InstantAnswer::At(t) = Instant::new(from) else {
-        return put_date(DateAnswer::OutOfRange, ms);
-    };
-    put_date(dated(shift(t, amount, unit)), ms)
-}
-
-// The bytes of a text into an area as long.
-fn put_text(text: InstantText, area: &mut [u8])
-    requires { length area.old ≡ 24 }
-    ensures { area.new ≡ text.bytes }
-{
-    let bytes = text.bytes;
-    let mut i: usize = 0;
-    while i < 24 {
-        area[i] = bytes[i];
-        i += 1;
-    }
+    let shifted = shift_from(from, amount, unit);
+    put_date(shifted, ms)
 }
 
 // An instant's text into an area of 24 bytes: 0; 1 for an area of another length and 9 for an instant outside the range, the area as it was.
@@ -118,9 +91,9 @@ pub extern "C" fn calendar_text(ms: i64, text: &mut [u8]) -> u32
     if text.len() != 24 {
         return INVALID_ARGUMENT;
     }
-    let InstantAnswer::At(t) = Instant::new(ms) else {
-        return OUT_OF_RANGE;
+    let Ok(t) = Instant::new(ms) else {
+        return u32::from(Fault::OutOfRange);
     };
-    put_text(InstantText::new(t), text);
+    text.copy_from_slice(&InstantText::from(t).bytes);
     DONE
 }

@@ -3,9 +3,8 @@
 #![tactic(auto)]
 
 ghost use Rattle.std.specs.Prelude.{◌≡◌, ◌≤◌, length};
-ghost use Rattle.test_dates.specs.Inner.{number_of};
 
-use calendar::instant::{DateAnswer, Instant, InstantAnswer, dated};
+use calendar::instant::{DateFault, Instant};
 use dates::{read_date, read_day};
 use instants::shift::shift;
 use instants::text::InstantText;
@@ -16,27 +15,6 @@ use std::io::Read;
 // The most bytes that are read.
 const ROOM: usize = 524288;
 
-// What a digit can follow: numbers from 10^18 on are not read.
-const MAX_BEFORE_DIGIT: u64 = 99999999999999999;
-
-#[derive(Clone, Copy)]
-enum Digits {
-    Are(u64),
-    Bad,
-}
-
-#[derive(Clone, Copy)]
-enum Number {
-    Is(i64),
-    Bad,
-}
-
-#[derive(Clone, Copy)]
-enum Unit {
-    Is(TimeUnit),
-    Bad,
-}
-
 // What a line's first field says that it is.
 #[derive(Clone, Copy)]
 enum Kind {
@@ -44,16 +22,15 @@ enum Kind {
     Day,
     Shift,
     Text,
-    Unknown,
 }
 
-#[derive(Clone, Copy)]
+#[derive(Clone, Copy, Default)]
 struct Count {
     agree: u64,
     differ: u64,
 }
 
-#[derive(Clone, Copy)]
+#[derive(Clone, Copy, Default)]
 struct Tally {
     date: Count,
     day: Count,
@@ -64,271 +41,119 @@ struct Tally {
 
 // ---- fields, which TABs part
 
-// The first place from `from` on that holds a byte, or the text's end.
-fn find(text: &[u8], byte: u8, from: usize) -> usize
-    requires { from ≤ length text.now }
-    ensures { (from ≤ result) × (result ≤ length text.now) }
-{
-    let mut i = from;
-    while i < text.len() {
-        if text[i] == byte {
-            return i;
-        }
-        i += 1;
-    }
-    i
+// The first field, and what follows it and its TAB; nothing if there is no TAB.
+fn cut(fields: &[u8]) -> (&[u8], &[u8]) {
+    let mut parts = fields.splitn(2, |b| *b == b'\t');
+    let first = parts.next().unwrap_or(&[]);
+    (first, parts.next().unwrap_or(&[]))
 }
 
-fn first(fields: &[u8]) -> &[u8] {
-    let end = find(fields, b'\t', 0);
-    &fields[0..end]
+fn number(text: &[u8]) -> Option<i64> {
+    str::from_utf8(text).ok()?.parse::<i64>().ok()
 }
-
-// What follows the first field and its TAB; nothing if there is no TAB.
-fn rest(fields: &[u8]) -> &[u8] {
-    let end = find(fields, b'\t', 0);
-    if end < fields.len() {
-        return &fields[end + 1..];
-    }
-    &fields[end..]
-}
-
-// ---- numbers
-
-// A number with a digit more.
-fn with_digit(n: u64, x: u8) -> Digits
-    ensures { number_of result ≤ 999999999999999999 }
-{
-    if n > MAX_BEFORE_DIGIT {
-        return Digits::Bad;
-    }
-    if x < b'0' {
-        return Digits::Bad;
-    }
-    if x > b'9' {
-        return Digits::Bad;
-    }
-    Digits::Are(n * 10 + (x - b'0') as u64)
-}
-
-// One or more digits.
-fn read_digits(text: &[u8]) -> Digits
-    ensures { number_of result ≤ 999999999999999999 }
-{
-    if text.len() < 1 {
-        return Digits::Bad;
-    }
-    let mut n: u64 = 0;
-    let mut i: usize = 0;
-    while i < text.len() {
-        let Digits::Are(m) = with_digit(n, text[i]) else {
-            return Digits::Bad;
-        };
-        n = m;
-        i += 1;
-    }
-    Digits::Are(n)
-}
-
-fn positive(digits: Digits) -> Number
-    requires { number_of digits ≤ 999999999999999999 }
-{
-    match digits {
-        Digits::Are(n) => Number::Is(n as i64),
-        Digits::Bad => Number::Bad,
-    }
-}
-
-fn negative(digits: Digits) -> Number
-    requires { number_of digits ≤ 999999999999999999 }
-{
-    match digits {
-        Digits::Are(n) => Number::Is(0 - n as i64),
-        Digits::Bad => Number::Bad,
-    }
-}
-
-// Digits, with a minus sign or none.
-fn read_number(text: &[u8]) -> Number {
-    if text.len() < 1 {
-        return Number::Bad;
-    }
-    if text[0] == b'-' {
-        return negative(read_digits(&text[1..]));
-    }
-    positive(read_digits(text))
-}
-
-fn is_number(text: &[u8], n: i64) -> bool {
-    match read_number(text) {
-        Number::Is(k) => k == n,
-        Number::Bad => false,
-    }
-}
-
-// ---- vectors: whether the crates answer what the fields say
 
 fn same(a: &[u8], b: &[u8]) -> bool {
     a == b
 }
 
-fn kind_of(line: &[u8]) -> Kind {
-    let name = first(line);
+fn kind_of(name: &[u8]) -> Option<Kind> {
     if same(name, b"date") {
-        return Kind::Date;
+        return Some(Kind::Date);
     }
     if same(name, b"day") {
-        return Kind::Day;
+        return Some(Kind::Day);
     }
     if same(name, b"shift") {
-        return Kind::Shift;
+        return Some(Kind::Shift);
     }
     if same(name, b"text") {
-        return Kind::Text;
+        return Some(Kind::Text);
     }
-    Kind::Unknown
+    None
 }
 
-fn unit_of(name: &[u8]) -> Unit {
+fn unit_of(name: &[u8]) -> Option<TimeUnit> {
     if same(name, b"year") {
-        return Unit::Is(TimeUnit::Year);
+        return Some(TimeUnit::Year);
     }
     if same(name, b"month") {
-        return Unit::Is(TimeUnit::Month);
+        return Some(TimeUnit::Month);
     }
     if same(name, b"day") {
-        return Unit::Is(TimeUnit::Day);
+        return Some(TimeUnit::Day);
     }
     if same(name, b"hour") {
-        return Unit::Is(TimeUnit::Hour);
+        return Some(TimeUnit::Hour);
     }
-    Unit::Bad
+    None
 }
+
+// ---- vectors: whether the crates answer what the fields say; none for fields that cannot be read
 
 // Whether an answer is the expected one: milliseconds, or a refusal.
-fn is_expected(answer: DateAnswer, expected: &[u8]) -> bool {
+fn is_expected(answer: Result<Instant, DateFault>, expected: &[u8]) -> bool {
     match answer {
-        DateAnswer::At(t) => is_number(expected, t.milliseconds()),
-        DateAnswer::BadDate => same(expected, b"refused 8"),
-        DateAnswer::OutOfRange => same(expected, b"refused 9"),
+        Ok(t) => number(expected) == Some(t.milliseconds()),
+        Err(DateFault::BadDate) => same(expected, b"refused 8"),
+        Err(DateFault::OutOfRange) => same(expected, b"refused 9"),
     }
-}
-
-// TEXT, and what is expected.
-fn date_agrees(fields: &[u8]) -> bool {
-    is_expected(read_date(first(fields)), rest(fields))
-}
-
-fn day_agrees(fields: &[u8]) -> bool {
-    is_expected(read_day(first(fields)), rest(fields))
 }
 
 // The instant so many milliseconds from 1970-01-01, shifted.
-fn shift_from(ms: i64, amount: i64, unit: TimeUnit) -> InstantAnswer {
-    match Instant::new(ms) {
-        InstantAnswer::At(t) => shift(t, amount, unit),
-        InstantAnswer::OutOfRange => InstantAnswer::OutOfRange,
-    }
+fn shift_from(ms: i64, amount: i64, unit: TimeUnit) -> Result<Instant, DateFault> {
+    Ok(shift(Instant::new(ms)?, amount, unit)?)
 }
 
 // MS, AMOUNT, UNIT, and what is expected.
-fn shift_agrees(fields: &[u8]) -> bool {
-    let Number::Is(ms) = read_number(first(fields)) else {
-        return false;
-    };
-    let after_ms = rest(fields);
-    let Number::Is(amount) = read_number(first(after_ms)) else {
-        return false;
-    };
-    let after_amount = rest(after_ms);
-    let Unit::Is(unit) = unit_of(first(after_amount)) else {
-        return false;
-    };
-    is_expected(dated(shift_from(ms, amount, unit)), rest(after_amount))
+fn shift_agrees(fields: &[u8]) -> Option<bool> {
+    let (ms, after_ms) = cut(fields);
+    let (amount, after_amount) = cut(after_ms);
+    let (unit, expected) = cut(after_amount);
+    let shifted = shift_from(number(ms)?, number(amount)?, unit_of(unit)?);
+    Some(is_expected(shifted, expected))
 }
 
 // MS, and the 24 bytes.
-fn text_agrees(fields: &[u8]) -> bool {
-    let Number::Is(ms) = read_number(first(fields)) else {
-        return false;
-    };
-    let InstantAnswer::At(t) = Instant::new(ms) else {
-        return false;
-    };
-    let text = InstantText::new(t);
-    same(&text.bytes, rest(fields))
+fn text_agrees(fields: &[u8]) -> Option<bool> {
+    let (ms, expected) = cut(fields);
+    let t = Instant::new(number(ms)?).ok()?;
+    Some(same(&InstantText::from(t).bytes, expected))
 }
 
-// A line of no kind does not agree.
-fn agrees(kind: Kind, fields: &[u8]) -> bool {
+fn agrees(kind: Kind, fields: &[u8]) -> Option<bool> {
+    let (text, expected) = cut(fields);
     match kind {
-        Kind::Date => date_agrees(fields),
-        Kind::Day => day_agrees(fields),
+        Kind::Date => Some(is_expected(read_date(text), expected)),
+        Kind::Day => Some(is_expected(read_day(text), expected)),
         Kind::Shift => shift_agrees(fields),
         Kind::Text => text_agrees(fields),
-        Kind::Unknown => false,
     }
 }
 
 // ---- the tally; no count wraps, since there are far fewer lines than 2^64
 
 impl Count {
-    fn new() -> Count {
-        Count {
-            agree: 0,
-            differ: 0,
-        }
-    }
-
-    fn counted(self, agrees: bool) -> Count {
-        if agrees {
-            return Count {
-                agree: self.agree.wrapping_add(1),
-                differ: self.differ,
-            };
-        }
-        Count {
-            agree: self.agree,
-            differ: self.differ.wrapping_add(1),
-        }
+    fn count(&mut self, agrees: bool) {
+        let counted = if agrees {
+            &mut self.agree
+        } else {
+            &mut self.differ
+        };
+        *counted = counted.wrapping_add(1);
     }
 }
 
 impl Tally {
-    fn new() -> Tally {
-        let none = Count::new();
-        Tally {
-            date: none,
-            day: none,
-            shift: none,
-            text: none,
-            all: none,
-        }
-    }
-
-    fn counted(mut self, kind: Kind, agrees: bool) -> Tally {
-        let all = self.all;
-        self.all = all.counted(agrees);
+    // A line of no kind counts among all alone.
+    fn count(&mut self, kind: Option<Kind>, agrees: bool) {
+        self.all.count(agrees);
         match kind {
-            Kind::Date => {
-                let date = self.date;
-                self.date = date.counted(agrees);
-            }
-            Kind::Day => {
-                let day = self.day;
-                self.day = day.counted(agrees);
-            }
-            Kind::Shift => {
-                let shift = self.shift;
-                self.shift = shift.counted(agrees);
-            }
-            Kind::Text => {
-                let text = self.text;
-                self.text = text.counted(agrees);
-            }
-            Kind::Unknown => {}
+            Some(Kind::Date) => self.date.count(agrees),
+            Some(Kind::Day) => self.day.count(agrees),
+            Some(Kind::Shift) => self.shift.count(agrees),
+            Some(Kind::Text) => self.text.count(agrees),
+            None => {}
         }
-        self
     }
 }
 
@@ -349,24 +174,25 @@ fn print_tally(rt: &impl Print, tally: Tally) -> io::Result<()> {
 // ---- lines
 
 // Counts a line, and prints it if it differs.
-fn take_line(rt: &impl Print, tally: Tally, line: &[u8]) -> io::Result<Tally> {
-    let kind = kind_of(line);
-    let is_right = agrees(kind, rest(line));
+fn take_line(rt: &impl Print, tally: &mut Tally, line: &[u8]) -> io::Result<()> {
+    let (name, fields) = cut(line);
+    let kind = kind_of(name);
+    let is_right = kind.and_then(|k| agrees(k, fields)).unwrap_or(false);
+    tally.count(kind, is_right);
     if !is_right {
         rt.write_all(b"differs: ")?;
         rt.write_all(line)?;
         rt.write_all(b"\n")?;
     }
-    Ok(tally.counted(kind, is_right))
+    Ok(())
 }
 
 fn take_lines(rt: &impl Print, text: &[u8]) -> io::Result<Tally> {
-    let mut tally = Tally::new();
-    let mut at: usize = 0;
-    while at < text.len() {
-        let end = find(text, b'\n', at);
-        tally = take_line(rt, tally, &text[at..end])?;
-        at = end + 1;
+    let mut tally = Tally::default();
+    for line in text.split(|b| *b == b'\n') {
+        if !line.is_empty() {
+            take_line(rt, &mut tally, line)?;
+        }
     }
     Ok(tally)
 }
@@ -376,6 +202,7 @@ fn read_full(reader: &mut impl Read, buffer: &mut [u8]) -> usize
     ensures { result ≤ length buffer.new }
 {
     let mut done: usize = 0;
+    // `done` goes on by what each read gave. (The library's reads to the end put the bytes on the heap, or tell not how many there are.)
     while done < buffer.len() {
         match reader.read(&mut buffer[done..]) {
             Ok(0) => return done,

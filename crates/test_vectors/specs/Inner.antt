@@ -30,7 +30,3 @@ pub record Gives (e : Evaluated) (o : Outcome) (O : Bytes) : Type 0 where
 pub record Few (t : Tally) : Type 0 where
   pub cases : t.cases + 1 < 2 ^ 64
   pub differ : t.differ + 1 < 2 ^ 64
-
--- So many bytes stand at the start of the buffer. The second part follows from the first, and spares a caller's `&buffer[..n]` a proof file.
-abbrev pub Counts : ℕ → Bytes → Type 0
-Counts n bytes = (n ≤ length bytes) × (n ≡ length (take n bytes))

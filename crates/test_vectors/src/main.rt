@@ -8,15 +8,15 @@ ghost use Rattle.std.specs.Prelude.{◌≡◌, true, ◌+◌, ◌*◌, ◌≤◌
 ghost use Rattle.model.specs.Bytes.{digit_value};
 ghost use Rattle.jehvrukam.specs.Evaluate.{evaluate_entry};
 ghost use Rattle.test_vectors.specs.Cases.{takes_digit, number_at, header_at, is_whole, lent, untold, is_expected, is_text, agrees_in, agrees_on, counted, tally_of};
-ghost use Rattle.test_vectors.specs.Inner.{Past, Gives, Ran, Few, Counts};
+ghost use Rattle.test_vectors.specs.Inner.{Past, Gives, Ran, Few};
 
+use files::read_file;
 use heap::cell::CELL_BYTES;
 use jehvrukam::jehvrukam_evaluate;
 use model::{HEAP_CELLS, MAX_TEXT_BYTES};
 use octets::same;
-use std::io::Read;
+use std::io;
 use std::rt::Files;
-use std::{fs, io};
 use syntax::{STRINGS_BYTES, TABLE_BYTES};
 
 // The most bytes that are read.
@@ -48,7 +48,7 @@ struct Header {
     end: usize,
 }
 
-// What the entry tells.
+// What the entry for C tells, a refusal by its number.
 #[derive(Clone, Copy)]
 struct Outcome {
     refusal: u32,
@@ -77,20 +77,14 @@ struct Tally {
 fn takes_digit(n: u64, x: u8) -> bool
     ensures { result ≡ takes_digit n x }
 {
-    if x < b'0' {
-        return false;
-    }
-    if x > b'9' {
-        return false;
-    }
-    n <= (u64::MAX - (x - b'0') as u64) / 10
+    x.is_ascii_digit() && n <= (u64::MAX - u64::from(x - b'0')) / 10
 }
 
 fn with_digit(n: u64, x: u8) -> u64
     requires { takes_digit n x ≡ true }
     ensures { result ≡ n * 10 + digit_value x }
 {
-    n * 10 + (x - b'0') as u64
+    n * 10 + u64::from(x - b'0')
 }
 
 // The digits from `at` on, and past the byte behind them.
@@ -242,16 +236,10 @@ fn evaluate(rule: &[u8], record: &[u8], limit: u64, output: &mut [u8]) -> Outcom
 fn is_expected(h: Header, o: Outcome) -> bool
     ensures { result ≡ is_expected h o.refusal o.which o.place o.steps }
 {
-    if o.refusal as u64 != h.refusal {
-        return false;
-    }
-    if o.which != h.which {
-        return false;
-    }
-    if o.place != h.place {
-        return false;
-    }
-    o.steps == h.steps
+    u64::from(o.refusal) == h.refusal
+        && o.which == h.which
+        && o.place == h.place
+        && o.steps == h.steps
 }
 
 // Whether a text of this size stands at the start of the output.
@@ -272,10 +260,7 @@ fn agrees_in(h: Header, rule: &[u8], record: &[u8], answer: &[u8], output: &mut 
     ensures { result ≡ agrees_in h rule.now «record».now answer.now output.old }
 {
     let o = evaluate(rule, record, h.limit, output);
-    if !is_expected(h, o) {
-        return false;
-    }
-    is_text(output, o.size, answer)
+    is_expected(h, o) && is_text(output, o.size, answer)
 }
 
 // With an output of the room that the case has.
@@ -324,15 +309,9 @@ fn count(t: Tally, agrees: bool) -> Tally
     requires { Few t }
     ensures { result ≡ counted t agrees }
 {
-    if agrees {
-        return Tally {
-            cases: t.cases + 1,
-            differ: t.differ,
-        };
-    }
     Tally {
         cases: t.cases + 1,
-        differ: t.differ + 1,
+        differ: if agrees { t.differ } else { t.differ + 1 },
     }
 }
 
@@ -363,31 +342,6 @@ fn take_cases(rt: &impl Print, text: &[u8]) -> Tally
         at = c.end;
     }
     tally
-}
-
-// Reads until the buffer is full, the input ends or a read fails; how many bytes were put at the start of the buffer.
-fn read_full(reader: &mut impl Read, buffer: &mut [u8]) -> usize
-    ensures { Counts result buffer.new }
-{
-    let mut done: usize = 0;
-    while done < buffer.len() {
-        match reader.read(&mut buffer[done..]) {
-            Ok(0) => return done,
-            Ok(n) => done += n,
-            Err(_) => return done,
-        }
-    }
-    done
-}
-
-// The first bytes of a file, as many as the buffer takes; a missing file counts as empty.
-fn read_file(rt: &impl Files, path: &str, buffer: &mut [u8]) -> usize
-    ensures { Counts result buffer.new }
-{
-    match fs::open(rt, path) {
-        Ok(mut file) => read_full(&mut file, buffer),
-        Err(_) => 0,
-    }
 }
 
 // Zeros. The clause gives the length alone, so that no proof computes with so many bytes.

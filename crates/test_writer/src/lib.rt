@@ -7,15 +7,10 @@ ghost use Rattle.heap.specs.Unfold.{areas};
 ghost use Rattle.writer.specs.Contract.{handle_written};
 ghost use Rattle.test_writer.specs.Contract.{told};
 
+use heap::areas::Areas;
 use heap::cell::get;
-use writer::{Answer, write};
-
-// 01, What comes back.
-const DONE: u32 = 0;
-
-const ANSWER_TOO_LARGE: u32 = 11;
-
-const OUTPUT_TOO_SHORT: u32 = 12;
+use model::refusal::Refusal;
+use writer::write;
 
 // Writes the value whose handle stands in a cell: 0 and the length of its text, or 11 or 12 and 0.
 #[unsafe(no_mangle)]
@@ -31,19 +26,16 @@ pub extern "C" fn writer_write<'a>(
     ensures { told result size.new output.new ≡ handle_written (areas rule_strings.now record_strings.now record_table.now cells.now) (cell_handle cells.now cell) (length output.old) }
 {
     let h = get(cells, cell as usize);
-    let answer = write(rule_strings, record_strings, record_table, cells, h, output);
+    let areas = Areas {
+        rule_strings,
+        record_strings,
+        record_table,
+        cells,
+    };
+    let answer = write(areas, h, output);
+    *size = answer.unwrap_or(0) as u64;
     match answer {
-        Answer::Written(n) => {
-            *size = n as u64;
-            DONE
-        }
-        Answer::TooLarge => {
-            *size = 0;
-            ANSWER_TOO_LARGE
-        }
-        Answer::OutputTooShort => {
-            *size = 0;
-            OUTPUT_TOO_SHORT
-        }
+        Ok(_) => 0,
+        Err(fault) => u32::from(Refusal::from(fault)),
     }
 }

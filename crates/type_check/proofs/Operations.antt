@@ -1,4 +1,5 @@
 -- Operations: what an operation allows and gives depends only on the types that any of its operands has; `in` asks more.
+use Rattle.std.specs.Prelude.{Some}
 use mathlib.Core.Bool.{Bool, true, false, ◌&&◌, cond, and_assoc, and-true, and-false}
 use mathlib.Core.List.{List, [], ◌∷◌, ◌++◌, append-nil, append_assoc}
 use mathlib.Core.Path.{◌≡◌, refl, sym, ap, ap₂, ◌∙◌}
@@ -16,7 +17,6 @@ use Rattle.keywords.specs.Contract.{Stands, stands_array, stands_equal, stands_m
 use Rattle.type_set.specs.declared.set.TypeSet.{TypeSet}
 use Rattle.type_set.specs.Contract.{set_of, types_in}
 use Rattle.type_set.specs.Laws.Set.{union_set, passes_set}
-use Rattle.type_check.specs.declared.found.Found.TheVariants.{Types as Accepted}
 use Rattle.type_check.specs.declared.operation.Operands.{Operands}
 use Rattle.type_check.specs.ByRows.{accepted_as, pass_as, passing_as, array_by, member_by, all_of, no_operands, one_more, branches_by, and_by, operation_on, operation_by}
 use Rattle.type_check.specs.Inner.{found_by, all_found_by, operands_after}
@@ -92,7 +92,7 @@ passing_is : (a g : Types) (l : List Types) {b : Bool} → every_operand a l ≡
 passing_is a g l e = ap (λ b. found_by b g) (pass_every a l ∙ e)
 
 operation_is : {op : Op} {o : Operation} {n : ℕ} (l : List Types) → Stands op o n → length l ≡ n → operation_on op (operands l) ≡ found_by (allowed o l) (given o l)
-operation_is l stands_array n = ap Accepted (array_is l)
+operation_is l stands_array n = ap Some (array_is l)
 operation_is l (stands_equal e) n = passing_is scalars (Ty.Boolean ∷ []) l (two scalars l (n ∙ e))
 operation_is l (stands_member_of e) n = member_is l (n ∙ e)
 operation_is l (stands_plus e) n = passing_is (Ty.Integer ∷ []) (Ty.Integer ∷ []) l (two (Ty.Integer ∷ []) l (n ∙ e))
@@ -117,4 +117,4 @@ and_by_lem true true ts l = ap₂ accepted_as (pass_every any_of_record (ts ∷ 
 pub branches_by_lem : (b c : Bool) (ts us : Types) → branches_by (all_found_by (b && (c && true)) (operands (ts ∷ us ∷ []))) ≡ found_by (b && c) (ts ++ us)
 branches_by_lem false c ts us = refl
 branches_by_lem true false ts us = refl
-branches_by_lem true true ts us = ap Accepted (all_is (ts ∷ us ∷ []) ∙ ap (λ l. set_of (ts ++ l)) (append-nil us))
+branches_by_lem true true ts us = ap Some (all_is (ts ∷ us ∷ []) ∙ ap (λ l. set_of (ts ++ l)) (append-nil us))

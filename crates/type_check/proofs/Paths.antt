@@ -1,7 +1,7 @@
 -- Paths: where the first fragment of a path ends, and the types of a variable.
 use mathlib.Core.Bool.{Bool, true, false, cond}
 use mathlib.Core.List.{[], ◌∷◌}
-use mathlib.Core.Option.{some}
+use Rattle.std.specs.Prelude.{Some}
 use mathlib.Core.Path.{◌≡◌, refl, sym, ap, ◌∙◌}
 use Prim.Native.Nat.{ℕ, ◌+◌, ◌-◌, ◌≤◌}
 use native.Mathlib.Omega.{arith}
@@ -66,12 +66,12 @@ abbrev non_empty : Bytes → Bool
 non_empty [] = false
 non_empty (x ∷ s) = true
 
-path_is : (x : ℕ) (s : Bytes) (q : Path) → path_of (x ∷ s) ≡ some q → q ≡ fragments (x ∷ s)
+path_is : (x : ℕ) (s : Bytes) (q : Path) → path_of (x ∷ s) ≡ Some q → q ≡ fragments (x ∷ s)
 path_is x s q e =
-    let (n, f) = when_some (all non_empty (fragments (x ∷ s))) (some (fragments (x ∷ s))) e in
+    let (n, f) = when_some (all non_empty (fragments (x ∷ s))) (Some (fragments (x ∷ s))) e in
     cc
 
-lambda_is : (p : Bytes) (q : Path) (cur acc : Types) → path_of p ≡ some q → lambda_by p (set_of cur) (set_of acc) ≡ set_of (lambda_types cur acc q)
+lambda_is : (p : Bytes) (q : Path) (cur acc : Types) → path_of p ≡ Some q → lambda_by p (set_of cur) (set_of acc) ≡ set_of (lambda_types cur acc q)
 lambda_is [] q cur acc e =
     let f : q ≡ [] = cc in
     rw f
@@ -96,14 +96,14 @@ module _ {S Z p : Bytes} {env : Env} {r : TypeSet} where
   pub var_outside : env ≡ Outside → ListsFor S Z p r → VarTypes S Z p env r
   var_outside e l = record { by_rows = l.by_rows ∙ ap (var_by S Z p) (sym e); is = λ m q s h. go e m q s h }
     where
-      go : {env : Env} → env ≡ Outside → (m : ModelEnv) (q : Path) → Stands S Z env m → path_of p ≡ some q → r ≡ set_of (var_types m q)
+      go : {env : Env} → env ≡ Outside → (m : ModelEnv) (q : Path) → Stands S Z env m → path_of p ≡ Some q → r ≡ set_of (var_types m q)
       go e m q (stands_outside {s = sheet} k) h = l.is sheet q k h
       go e m q (stands_in_lambda c a) h = clash cc
 
   pub var_in_lambda : {c a : TypeSet} → env ≡ Lambda c a → r ≡ lambda_by p c a → VarTypes S Z p env r
   var_in_lambda {c} {a} e l = record { by_rows = l ∙ ap (var_by S Z p) (sym e); is = λ m q s h. go e m q s h }
     where
-      go : {env : Env} → env ≡ Lambda c a → (m : ModelEnv) (q : Path) → Stands S Z env m → path_of p ≡ some q → r ≡ set_of (var_types m q)
+      go : {env : Env} → env ≡ Lambda c a → (m : ModelEnv) (q : Path) → Stands S Z env m → path_of p ≡ Some q → r ≡ set_of (var_types m q)
       go e m q (stands_outside k) h = clash cc
       go e m q (stands_in_lambda {cur = cur} {acc = acc} {c = c₁} {a = a₁} f g) h =
           let x : c ≡ set_of cur = cc in

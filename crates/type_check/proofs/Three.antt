@@ -1,4 +1,5 @@
 -- Three: `if` and `reduce`, which have three operands.
+use Rattle.std.specs.Prelude.{Option, None, Some}
 use mathlib.Core.Bool.{Bool, true, false, and-false}
 use mathlib.Core.List.{[], ◌∷◌}
 use mathlib.Core.Path.{◌≡◌, sym, ap, ◌∙◌}
@@ -17,22 +18,20 @@ use Rattle.type_set.specs.Contract.{set_of, types_in}
 use Rattle.type_set.specs.Laws.Set.{passes_set, items_set}
 use Rattle.type_check.specs.declared.env.Env.TheVariants.{Lambda}
 use Rattle.type_check.specs.declared.env.Scope.{Scope}
-use Rattle.type_check.specs.declared.found.Found.{Found}
-use Rattle.type_check.specs.declared.found.Found.TheVariants.{NotAccepted, Types as Accepted}
-use Rattle.type_check.specs.declared.operation.FoundAll.{FoundAll}
 use Rattle.type_check.specs.ByRows.{accepted_as, passes_as, pass_as, branches_by, if_by, reduce_by, found_at}
 use Rattle.type_check.specs.Inner.{Stands, stands_in_lambda, Finds, FindsAll, FindsThree}
 use Rattle.type_check.proofs.Operand.{found, refused}
 use Rattle.type_check.proofs.Operations.{branches_by_lem}
+use Rattle.type_check.specs.declared.operation.Operands.{Operands}
 use Rattle.type_check.proofs.Rows.{if_none, if_some, lambda_none, lambda_some, reduce_none, reduce_no_array, reduce_no_initial, reduce_some}
 
-module _ {T A S Z : Bytes} {q : Rows} {s : Scope} {x₀ : Found} (f₀ : Finds T A S Z q.first s x₀) where
+module _ {T A S Z : Bytes} {q : Rows} {s : Scope} {x₀ : Option TypeSet} (f₀ : Finds T A S Z q.first s x₀) where
   -- ---- `if`
-  pub no_guard : x₀ ≡ NotAccepted → FindsThree if if_by T A S Z q s NotAccepted
+  pub no_guard : x₀ ≡ None → FindsThree if if_by T A S Z q s None
   unfolding accepts
   no_guard a = record { by_rows = if_none (found_at T A S Z s.deep) T s.env q f₀.by_rows a; is = λ r₀ r₁ r₂ e k z. rw (refused f₀ a (holds_parts k).head z) }
 
-  pub if_found : {q₁ : Rows} {x : FoundAll} {t : TypeSet} {r : Found} → x₀ ≡ Accepted t → q₁ ≡ tail_of T q → FindsAll T A S Z q₁ s x → r ≡ branches_by x → FindsThree if if_by T A S Z q s r
+  pub if_found : {q₁ : Rows} {x : Option Operands} {t : TypeSet} {r : Option TypeSet} → x₀ ≡ Some t → q₁ ≡ tail_of T q → FindsAll T A S Z q₁ s x → r ≡ branches_by x → FindsThree if if_by T A S Z q s r
   unfolding accepts accepts_all types_for types_for_all
   if_found a is-q f is-r = record {
     by_rows = is-r ∙ ap branches_by (rw is-q at f.by_rows) ∙ if_some (found_at T A S Z s.deep) T s.env q f₀.by_rows a;
@@ -43,12 +42,12 @@ module _ {T A S Z : Bytes} {q : Rows} {s : Scope} {x₀ : Found} (f₀ : Finds T
   }
 
   -- ---- `reduce`
-  pub no_operand : x₀ ≡ NotAccepted → FindsThree reduce reduce_by T A S Z q s NotAccepted
+  pub no_operand : x₀ ≡ None → FindsThree reduce reduce_by T A S Z q s None
   unfolding accepts
   no_operand a = record { by_rows = reduce_none (found_at T A S Z s.deep) T s.env q f₀.by_rows a; is = λ r₀ r₁ r₂ e k z. rw (refused f₀ a (holds_parts k).head z) }
 
   -- The operand's types are not all types of arrays.
-  pub no_array : {t u : TypeSet} (b : Bool) → x₀ ≡ Accepted t → u ≡ set_of (Ty.Array ∷ []) → b ≡ passes_as t u → b ≡ false → FindsThree reduce reduce_by T A S Z q s NotAccepted
+  pub no_array : {t u : TypeSet} (b : Bool) → x₀ ≡ Some t → u ≡ set_of (Ty.Array ∷ []) → b ≡ passes_as t u → b ≡ false → FindsThree reduce reduce_by T A S Z q s None
   unfolding accepts
   no_array {t} {u} b a c d f = record {
     by_rows = (let g : pass_as t (Ty.Array ∷ []) ≡ false = rw c at (sym d ∙ f) in reduce_no_array (found_at T A S Z s.deep) T s.env q f₀.by_rows a g);
@@ -57,19 +56,19 @@ module _ {T A S Z : Bytes} {q : Rows} {s : Scope} {x₀ : Found} (f₀ : Finds T
         rw (y, and-false (accepts r₂ e), and-false (accepts r₀ e));
   }
 
-  module _ {row₁ row₂ : ℕ} (is₁ : row₁ ≡ next_row T q.first) (is₂ : row₂ ≡ next_row T row₁) {x₂ : Found} (f₂ : Finds T A S Z row₂ s x₂) where
+  module _ {row₁ row₂ : ℕ} (is₁ : row₁ ≡ next_row T q.first) (is₂ : row₂ ≡ next_row T row₁) {x₂ : Option TypeSet} (f₂ : Finds T A S Z row₂ s x₂) where
     lambda : {r₀ r₁ r₂ : Rule} → HoldsAll T A s.deep q (rule r₀ (rule r₁ (rule r₂ no_rules))) → Holds T A s.deep row₁ r₁
     lambda k = rw is₁ (holds_parts (holds_parts k).rest).head
 
     last : {r₀ r₁ r₂ : Rule} → HoldsAll T A s.deep q (rule r₀ (rule r₁ (rule r₂ no_rules))) → Holds T A s.deep row₂ r₂
     last k = rw (is₂, is₁) (holds_parts (holds_parts (holds_parts k).rest).rest).head
 
-    pub no_initial : x₂ ≡ NotAccepted → FindsThree reduce reduce_by T A S Z q s NotAccepted
+    pub no_initial : x₂ ≡ None → FindsThree reduce reduce_by T A S Z q s None
     unfolding accepts
     no_initial a = record { by_rows = reduce_no_initial (found_at T A S Z s.deep) T s.env q f₀.by_rows is₁ is₂ f₂.by_rows a; is = λ r₀ r₁ r₂ e k z. rw (refused f₂ a (last k) z, and-false (accepts r₀ e)) }
 
-    module _ {t c t₂ : TypeSet} (a : x₀ ≡ Accepted t) (is_c : c ≡ set_of (items_types (types_in t))) (a₂ : x₂ ≡ Accepted t₂)
-        {x₁ : Found} (f₁ : Finds T A S Z row₁ (record { env = Lambda c t₂; deep = s.deep }) x₁) where
+    module _ {t c t₂ : TypeSet} (a : x₀ ≡ Some t) (is_c : c ≡ set_of (items_types (types_in t))) (a₂ : x₂ ≡ Some t₂)
+        {x₁ : Option TypeSet} (f₁ : Finds T A S Z row₁ (record { env = Lambda c t₂; deep = s.deep }) x₁) where
       -- Where the lambda stands.
       inside : {r₀ r₁ r₂ : Rule} {e : ModelEnv} → HoldsAll T A s.deep q (rule r₀ (rule r₁ (rule r₂ no_rules))) → Stands S Z s.env e → Stands S Z (Lambda c t₂) (lambda_env r₀ r₂ e)
       inside {r₀} {e = e} k z =
@@ -77,7 +76,7 @@ module _ {T A S Z : Bytes} {q : Rows} {s : Scope} {x₀ : Found} (f₀ : Finds T
           (is_c ∙ rw (found f₀ a (holds_parts k).head z).is (items_set (types_for r₀ e)))
           (found f₂ a₂ (last k) z).is
 
-      pub no_lambda : x₁ ≡ NotAccepted → FindsThree reduce reduce_by T A S Z q s NotAccepted
+      pub no_lambda : x₁ ≡ None → FindsThree reduce reduce_by T A S Z q s None
       unfolding accepts
       no_lambda b = record {
         by_rows = reduce_some (found_at T A S Z s.deep) T s.env q f₀.by_rows is₁ is₂ f₂.by_rows a a₂ (lambda_none (found_at T A S Z s.deep) row₁ t t₂ is_c f₁.by_rows b);
@@ -85,7 +84,7 @@ module _ {T A S Z : Bytes} {q : Rows} {s : Scope} {x₀ : Found} (f₀ : Finds T
             rw (refused f₁ b (lambda k) (inside k z), and-false (passes (types_for r₀ e) (Ty.Array ∷ [])), and-false (accepts r₂ e), and-false (accepts r₀ e));
       }
 
-      pub reduce_found : {u t₁ : TypeSet} {r : Found} (b : Bool) → u ≡ set_of (Ty.Array ∷ []) → b ≡ passes_as t u → b ≡ true → x₁ ≡ Accepted t₁ → r ≡ accepted_as (passes_as t₁ t₂) t₂ → FindsThree reduce reduce_by T A S Z q s r
+      pub reduce_found : {u t₁ : TypeSet} {r : Option TypeSet} (b : Bool) → u ≡ set_of (Ty.Array ∷ []) → b ≡ passes_as t u → b ≡ true → x₁ ≡ Some t₁ → r ≡ accepted_as (passes_as t₁ t₂) t₂ → FindsThree reduce reduce_by T A S Z q s r
       unfolding accepts types_for
       reduce_found {u = u} b is-u is_b b-true a₁ is-r = record {
         by_rows =

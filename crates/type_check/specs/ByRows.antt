@@ -1,7 +1,9 @@
 -- ByRows: what is found for the rows of a rule's table T with strings A, under a sheet's table S with strings Z, whatever these bytes are.
 -- Contract says what it is where they hold a rule and a sheet.
+use Rattle.std.specs.Prelude.{Option, None, Some}
 use Rattle.std.specs.Prelude.{Bool, true, false, ◌&&◌, cond, [], ◌∷◌, ◌++◌, ℕ, zero, suc, eqb, length, take}
 use Rattle.model.specs.Bytes.{Bytes, ascii, same_bytes}
+use Rattle.model.specs.Option.{◌>>=◌}
 use Rattle.model.specs.Eval.{current, accumulator}
 use Rattle.model.specs.Rule.{Literal as ModelLiteral}
 use Rattle.model.specs.TypeCheck.{literal_types, domain_type, items_types}
@@ -23,10 +25,6 @@ use Rattle.type_set.specs.declared.set.TypeSet.{TypeSet}
 use Rattle.type_set.specs.Contract.{set_of, types_in}
 use Rattle.type_check.specs.declared.env.Env.{Env}
 use Rattle.type_check.specs.declared.env.Env.TheVariants.{Outside, Lambda}
-use Rattle.type_check.specs.declared.found.Found.{Found}
-use Rattle.type_check.specs.declared.found.Found.TheVariants as Founds
-use Rattle.type_check.specs.declared.operation.FoundAll.{FoundAll}
-use Rattle.type_check.specs.declared.operation.FoundAll.TheVariants as FoundsAll
 use Rattle.type_check.specs.declared.operation.Operands.{Operands}
 
 -- ---- variables
@@ -72,9 +70,9 @@ one_more o t = record { before = all_of o; last = t }
 
 -- ---- operations by the types of their operands
 -- These types, if the rule is accepted.
-abbrev pub accepted_as : Bool → TypeSet → Found
-accepted_as true s = Founds.Types s
-accepted_as false s = Founds.NotAccepted
+abbrev pub accepted_as : Bool → TypeSet → Option TypeSet
+accepted_as true s = Some s
+accepted_as false s = None
 
 -- All types of a set pass where those of another are allowed.
 abbrev pub passes_as : TypeSet → TypeSet → Bool
@@ -84,7 +82,7 @@ abbrev pub pass_as : TypeSet → Types → Bool
 pass_as s allowed = passes_as s (set_of allowed)
 
 -- What is given, if all types pass.
-abbrev pub passing_as : TypeSet → Types → Types → Found
+abbrev pub passing_as : TypeSet → Types → Types → Option TypeSet
 passing_as s allowed given = accepted_as (pass_as s allowed) (set_of given)
 
 -- An array by the types that any of its items has.
@@ -95,20 +93,20 @@ array_by s =
     (set_of (Ty.Array ∷ [])))
 
 -- `in`, by the types of each operand.
-abbrev pub member_by : TypeSet → TypeSet → Found
+abbrev pub member_by : TypeSet → TypeSet → Option TypeSet
 member_by element items = accepted_as (pass_as element scalars && pass_as items (Ty.Array ∷ [])) (set_of (Ty.Boolean ∷ []))
 
 -- If all operands are accepted.
-abbrev pub branches_by : FoundAll → Found
-branches_by FoundsAll.NotAccepted = Founds.NotAccepted
-branches_by (FoundsAll.Types o) = Founds.Types (all_of o)
+abbrev pub branches_by : Option Operands → Option TypeSet
+branches_by None = None
+branches_by (Some o) = Some (all_of o)
 
-abbrev pub and_by : FoundAll → Found
-and_by FoundsAll.NotAccepted = Founds.NotAccepted
-and_by (FoundsAll.Types o) = accepted_as (pass_as (all_of o) any_of_record) (all_of o)
+abbrev pub and_by : Option Operands → Option TypeSet
+and_by None = None
+and_by (Some o) = accepted_as (pass_as (all_of o) any_of_record) (all_of o)
 
-abbrev pub operation_on : Op → Operands → Found
-operation_on Ops.Array o = Founds.Types (array_by (all_of o))
+abbrev pub operation_on : Op → Operands → Option TypeSet
+operation_on Ops.Array o = Some (array_by (all_of o))
 operation_on Ops.Equal o = passing_as (all_of o) scalars (Ty.Boolean ∷ [])
 operation_on Ops.MemberOf o = member_by o.before o.last
 operation_on Ops.Plus o = passing_as (all_of o) (Ty.Integer ∷ []) (Ty.Integer ∷ [])
@@ -118,57 +116,55 @@ operation_on (Ops.Compare d c) o = passing_as (all_of o) (domain_type d ∷ []) 
 operation_on (Ops.PlusTime n u) o = passing_as (all_of o) (Ty.Date ∷ []) (Ty.Instant ∷ [])
 operation_on (Ops.ExtractFromUvci n) o = passing_as (all_of o) (Ty.Null ∷ Ty.String ∷ []) (Ty.Null ∷ Ty.String ∷ [])
 
-abbrev pub operation_by : Op → FoundAll → Found
-operation_by op FoundsAll.NotAccepted = Founds.NotAccepted
-operation_by op (FoundsAll.Types o) = operation_on op o
+abbrev pub operation_by : Op → Option Operands → Option TypeSet
+operation_by op None = None
+operation_by op (Some o) = operation_on op o
 
 -- ---- rows, by what is found for a row somewhere
--- What follows from the types found, if the rule is accepted.
-abbrev pub then_types : {A : Type 0} → A → Found → (TypeSet → A) → A
-then_types other Founds.NotAccepted f = other
-then_types other (Founds.Types t) f = f t
-
 -- These operands, and those in so many rows from a row on.
-abbrev pub rows_found : (ℕ → Found) → Bytes → Operands → ℕ → ℕ → FoundAll
-rows_found f T o row zero = FoundsAll.Types o
-rows_found f T o row (suc n) = then_types FoundsAll.NotAccepted (f row) (λ t. rows_found f T (one_more o t) (next_row T row) n)
+abbrev pub rows_found : (ℕ → Option TypeSet) → Bytes → Operands → ℕ → ℕ → Option Operands
+rows_found f T o row zero = Some o
+rows_found f T o row (suc n) = do
+  t ← f row
+  rows_found f T (one_more o t) (next_row T row) n
 
-abbrev pub all_found : (ℕ → Found) → Bytes → Rows → FoundAll
+abbrev pub all_found : (ℕ → Option TypeSet) → Bytes → Rows → Option Operands
 all_found f T q = rows_found f T no_operands q.first q.count
 
 -- "Guards may have any words".
-abbrev pub if_by : (Env → ℕ → Found) → Bytes → Env → Rows → Found
-if_by f T env q = then_types Founds.NotAccepted (f env q.first) (λ t. branches_by (all_found (f env) T (tail_of T q)))
+abbrev pub if_by : (Env → ℕ → Option TypeSet) → Bytes → Env → Rows → Option TypeSet
+if_by f T env q = do
+  t ← f env q.first
+  branches_by (all_found (f env) T (tail_of T q))
 
 -- A lambda, by the types of the operand and of the initial: "its words must pass there".
-abbrev pub lambda_found : (Env → ℕ → Found) → ℕ → TypeSet → TypeSet → Found
+abbrev pub lambda_found : (Env → ℕ → Option TypeSet) → ℕ → TypeSet → TypeSet → Option TypeSet
 lambda_found f row operand initial =
     cond (pass_as operand (Ty.Array ∷ []))
-    (then_types Founds.NotAccepted (f (Lambda (set_of (items_types (types_in operand))) initial) row) (λ t. accepted_as (passes_as t initial) initial))
-    Founds.NotAccepted
+    (f (Lambda (set_of (items_types (types_in operand))) initial) row >>= (λ t. accepted_as (passes_as t initial) initial))
+    None
 
-abbrev pub reduce_by : (Env → ℕ → Found) → Bytes → Env → Rows → Found
-reduce_by f T env q =
-    let lambda = next_row T q.first in
-    then_types Founds.NotAccepted (f env q.first) (λ operand.
-    then_types Founds.NotAccepted (f env (next_row T lambda)) (λ initial.
-    lambda_found f lambda operand initial))
+abbrev pub reduce_by : (Env → ℕ → Option TypeSet) → Bytes → Env → Rows → Option TypeSet
+reduce_by f T env q = do
+  operand ← f env q.first
+  initial ← f env (next_row T (next_row T q.first))
+  lambda_found f (next_row T q.first) operand initial
 
 -- ---- a row
 -- By its view, and by what is found for the rows below.
-abbrev pub view_found : Bytes → Bytes → Bytes → Bytes → (Env → ℕ → Found) → Env → View → Found
-view_found T A S Z f env (Views.Literal l) = Founds.Types (literal_by A l)
-view_found T A S Z f env (Views.Var p) = Founds.Types (var_by S Z (bytes_of A p) env)
+abbrev pub view_found : Bytes → Bytes → Bytes → Bytes → (Env → ℕ → Option TypeSet) → Env → View → Option TypeSet
+view_found T A S Z f env (Views.Literal l) = Some (literal_by A l)
+view_found T A S Z f env (Views.Var p) = Some (var_by S Z (bytes_of A p) env)
 view_found T A S Z f env (Views.If q) = if_by f T env q
 view_found T A S Z f env (Views.And q) = and_by (all_found (f env) T q)
 view_found T A S Z f env (Views.Reduce q) = reduce_by f T env q
 view_found T A S Z f env (Views.Apply op q) = operation_by op (all_found (f env) T q)
 
 -- For a row that nests less deep than `deep`. With no nesting left no operation is seen, so that none is asked for.
-unfoldable pub found_below : Bytes → Bytes → Bytes → Bytes → ℕ → Env → ℕ → Found
-found_below T A S Z zero env row = Founds.NotAccepted
+unfoldable pub found_below : Bytes → Bytes → Bytes → Bytes → ℕ → Env → ℕ → Option TypeSet
+found_below T A S Z zero env row = None
 found_below T A S Z (suc deep) env row = view_found T A S Z (found_below T A S Z deep) env (view_at T A row deep)
 
 -- For one that nests no deeper.
-abbrev pub found_at : Bytes → Bytes → Bytes → Bytes → ℕ → Env → ℕ → Found
+abbrev pub found_at : Bytes → Bytes → Bytes → Bytes → ℕ → Env → ℕ → Option TypeSet
 found_at T A S Z deep = found_below T A S Z (suc deep)

@@ -1,10 +1,10 @@
 // Where a rule stands, and the types of a variable there.
 ghost use Rattle.std.specs.Prelude.{◌≡◌, ◌≤◌};
-ghost use Rattle.name_index.specs.Table.{IndexedTable};
 ghost use Rattle.type_check.specs.ByRows.{part_by, lambda_by};
 ghost use Rattle.type_check.specs.Inner.{inner_of, VarTypes};
 
 use model::Ty;
+use name_index::text::IndexedText;
 use octets::path::fragment_end;
 use octets::same;
 use sheet::listed::types_for;
@@ -29,10 +29,9 @@ pub fn inner(s: Scope) -> Scope
     requires { 1 ≤ s.deep }
     ensures { result ≡ inner_of s }
 {
-    let env = s.env;
     Scope {
-        env,
         deep: s.deep - 1,
+        ..s
     }
 }
 
@@ -40,10 +39,7 @@ pub fn inner(s: Scope) -> Scope
 fn part_types(whole: bool, s: TypeSet) -> TypeSet
     ensures { result ≡ part_by whole s }
 {
-    if whole {
-        return s;
-    }
-    any_value()
+    if whole { s } else { any_value() }
 }
 
 // "the empty path is object"; "any other is null"
@@ -66,12 +62,11 @@ fn lambda_types(path: &[u8], current: TypeSet, accumulator: TypeSet) -> TypeSet
 }
 
 // The types of the variable at a path.
-pub fn var_types(sheet_table: &[u8], sheet_strings: &[u8], path: &[u8], env: Env) -> TypeSet
-    requires { IndexedTable sheet_table.now sheet_strings.now }
-    ensures { VarTypes sheet_table.now sheet_strings.now path.now env result }
+pub fn var_types(sheet: IndexedText, path: &[u8], env: Env) -> TypeSet
+    ensures { VarTypes sheet.entry.table.now sheet.entry.strings.now path.now env result }
 {
     match env {
-        Env::Outside => types_for(sheet_table, sheet_strings, path),
+        Env::Outside => types_for(sheet, path),
         Env::Lambda(current, accumulator) => lambda_types(path, current, accumulator),
     }
 }

@@ -3,5 +3,4 @@
 
 pub mod check;
 mod env;
-pub mod found;
 mod operation;

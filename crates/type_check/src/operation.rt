@@ -5,7 +5,6 @@ ghost use Rattle.model.specs.declared.Ty.TheVariants.{Null, String};
 ghost use Rattle.type_set.specs.Contract.{set_of};
 ghost use Rattle.type_check.specs.ByRows.{literal_by, accepted_as, all_of, no_operands, one_more, passes_as, member_by, array_by, branches_by, and_by, operation_by};
 
-use crate::found::Found;
 use keywords::Op;
 use model::{Domain, Ty};
 use rule::view::Literal;
@@ -20,20 +19,12 @@ pub struct Operands {
     pub last: TypeSet,
 }
 
-// The types of operands that are all accepted, or that one is not.
-#[derive(Clone, Copy)]
-pub enum FoundAll {
-    NotAccepted,
-    Types(Operands),
-}
-
 // "A string literal is day, else date, else string."
 pub fn literal_types(rule_strings: &[u8], l: Literal) -> TypeSet
     ensures { result ≡ literal_by rule_strings.now l }
 {
     match l {
-        Literal::False => only(Ty::Boolean),
-        Literal::True => only(Ty::Boolean),
+        Literal::False | Literal::True => only(Ty::Boolean),
         Literal::Integer(_) => only(Ty::Integer),
         Literal::String(s) => types_of(bytes_of(rule_strings, s)),
     }
@@ -69,17 +60,14 @@ pub fn one_more(o: Operands, last: TypeSet) -> Operands
 
 // ---- operations
 // These types, if the rule is accepted.
-fn accepted(ok: bool, s: TypeSet) -> Found
+fn accepted(ok: bool, s: TypeSet) -> Option<TypeSet>
     ensures { result ≡ accepted_as ok s }
 {
-    if ok {
-        return Found::Types(s);
-    }
-    Found::NotAccepted
+    if ok { Some(s) } else { None }
 }
 
 // What is given, if all the types pass where these are allowed.
-pub fn passing(s: TypeSet, allowed: TypeSet, given: TypeSet) -> Found
+pub fn passing(s: TypeSet, allowed: TypeSet, given: TypeSet) -> Option<TypeSet>
     ensures { result ≡ accepted_as (passes_as s allowed) given }
 {
     accepted(passes(s, allowed), given)
@@ -116,7 +104,7 @@ fn array_types(items: TypeSet) -> TypeSet
 }
 
 // `in`: "a scalar, then an array".
-fn member_types(element: TypeSet, items: TypeSet) -> Found
+fn member_types(element: TypeSet, items: TypeSet) -> Option<TypeSet>
     ensures { result ≡ member_by element items }
 {
     let ok = passes(element, scalars()) & passes(items, only(Ty::Array));
@@ -124,38 +112,28 @@ fn member_types(element: TypeSet, items: TypeSet) -> Found
 }
 
 // `if`, by its branches.
-pub fn branch_types(found: FoundAll) -> Found
+pub fn branch_types(found: Option<Operands>) -> Option<TypeSet>
     ensures { result ≡ branches_by found }
 {
-    match found {
-        FoundAll::NotAccepted => Found::NotAccepted,
-        FoundAll::Types(o) => Found::Types(all_types(o)),
-    }
+    Some(all_types(found?))
 }
 
 // `and`
-pub fn and_types(found: FoundAll) -> Found
+pub fn and_types(found: Option<Operands>) -> Option<TypeSet>
     ensures { result ≡ and_by found }
 {
-    match found {
-        FoundAll::NotAccepted => Found::NotAccepted,
-        FoundAll::Types(o) => {
-            let all = all_types(o);
-            passing(all, any_of_record(), all)
-        }
-    }
+    let all = all_types(found?);
+    passing(all, any_of_record(), all)
 }
 
 // An operation that evaluates all its operands: the types that they may have, and those that it gives.
-pub fn operation_types(op: Op, found: FoundAll) -> Found
+pub fn operation_types(op: Op, found: Option<Operands>) -> Option<TypeSet>
     ensures { result ≡ operation_by op found }
 {
-    let FoundAll::Types(o) = found else {
-        return Found::NotAccepted;
-    };
+    let o = found?;
     let all = all_types(o);
     match op {
-        Op::Array => Found::Types(array_types(all)),
+        Op::Array => Some(array_types(all)),
         Op::Equal => passing(all, scalars(), only(Ty::Boolean)),
         Op::MemberOf => member_types(o.before, o.last),
         Op::Plus => passing(all, only(Ty::Integer), only(Ty::Integer)),

@@ -2,7 +2,6 @@
 use Rattle.std.specs.Prelude.{Bool, true, false, [], ◌∷◌}
 use Rattle.model.specs.Types.{Types, is_in}
 use Rattle.model.specs.declared.Ty.{Ty}
-use Rattle.model.specs.declared.Ty.TheVariants as Ty
 use Rattle.type_set.specs.declared.set.TypeSet.{TypeSet}
 
 -- The set of a list's types.

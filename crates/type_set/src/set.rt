@@ -6,7 +6,8 @@ ghost use Rattle.type_set.specs.Contract.{set_of, types_in};
 
 use model::Ty;
 
-#[derive(Clone, Copy)]
+// Eleven flags: `set_of`, which the contracts of the crates above cite, names each.
+#[derive(Clone, Copy, Default)]
 pub struct TypeSet {
     pub null: bool,
     pub boolean: bool,
@@ -21,61 +22,30 @@ pub struct TypeSet {
     pub instant: bool,
 }
 
-// A type's place in the paper's order.
-fn number(k: Ty) -> u32
-    ensures { result ≡ ty_number k }
-{
-    match k {
-        Ty::Null => 0,
-        Ty::Boolean => 1,
-        Ty::Integer => 2,
-        Ty::String => 3,
-        Ty::Date => 4,
-        Ty::Day => 5,
-        Ty::Integers => 6,
-        Ty::Strings => 7,
-        Ty::Array => 8,
-        Ty::Object => 9,
-        Ty::Instant => 10,
-    }
-}
-
+// ---- functions, not methods: `passes(items, only(Ty::Array))` reads as the paper does; `items.passes(TypeSet::only(Ty::Array))` is no plainer
 // No type.
 pub fn none() -> TypeSet
     ensures { result ≡ set_of [] }
 {
-    TypeSet {
-        null: false,
-        boolean: false,
-        integer: false,
-        string: false,
-        date: false,
-        day: false,
-        integers: false,
-        strings: false,
-        array: false,
-        object: false,
-        instant: false,
-    }
+    TypeSet::default()
 }
 
 // One type.
 pub fn only(k: Ty) -> TypeSet
     ensures { result ≡ set_of (k ∷ []) }
 {
-    let n = number(k);
     TypeSet {
-        null: n == 0,
-        boolean: n == 1,
-        integer: n == 2,
-        string: n == 3,
-        date: n == 4,
-        day: n == 5,
-        integers: n == 6,
-        strings: n == 7,
-        array: n == 8,
-        object: n == 9,
-        instant: n == 10,
+        null: matches!(k, Ty::Null),
+        boolean: matches!(k, Ty::Boolean),
+        integer: matches!(k, Ty::Integer),
+        string: matches!(k, Ty::String),
+        date: matches!(k, Ty::Date),
+        day: matches!(k, Ty::Day),
+        integers: matches!(k, Ty::Integers),
+        strings: matches!(k, Ty::Strings),
+        array: matches!(k, Ty::Array),
+        object: matches!(k, Ty::Object),
+        instant: matches!(k, Ty::Instant),
     }
 }
 
@@ -117,7 +87,8 @@ pub fn union(a: TypeSet, b: TypeSet) -> TypeSet
     }
 }
 
-// "A word passes where it or a wider one is allowed."
+// "A word passes where it or a wider one is allowed." `&` and `|`: nothing branches.
+#[tactic(auto, using(crate::proofs::Sets::passes_written))]
 pub fn passes(a: TypeSet, allowed: TypeSet) -> bool
     ensures { result ≡ allPass (types_in a) (types_in allowed) }
 {
@@ -147,13 +118,10 @@ fn scalars_with(containers: bool, instant: bool) -> TypeSet
         boolean: true,
         integer: true,
         string: true,
-        date: false,
-        day: false,
-        integers: false,
-        strings: false,
         array: containers,
         object: containers,
         instant,
+        ..none()
     }
 }
 
@@ -179,6 +147,7 @@ pub fn any_value() -> TypeSet
 }
 
 // "items of integers are integer, of strings string, of array those seven"
+#[tactic(auto, using(crate::proofs::Sets::items_written))]
 pub fn items_of(s: TypeSet) -> TypeSet
     ensures { result ≡ set_of (items_types (types_in s)) }
 {
@@ -187,39 +156,26 @@ pub fn items_of(s: TypeSet) -> TypeSet
         boolean: s.array,
         integer: s.integers | s.array,
         string: s.strings | s.array,
-        date: false,
-        day: false,
-        integers: false,
-        strings: false,
         array: s.array,
         object: s.array,
         instant: s.array,
+        ..none()
     }
-}
-
-// A bit, if the type is there.
-fn bit(there: bool, value: u64) -> u64
-    ensures { (result ≡ cond there value 0) × (result ≤ value) }
-{
-    if there {
-        return value;
-    }
-    0
 }
 
 // The set as a number: bit k stands for the type with the number k.
 pub fn bits(s: TypeSet) -> u64
     ensures { result ≡ type_bits (types_in s) }
 {
-    bit(s.null, 1)
-        + bit(s.boolean, 2)
-        + bit(s.integer, 4)
-        + bit(s.string, 8)
-        + bit(s.date, 16)
-        + bit(s.day, 32)
-        + bit(s.integers, 64)
-        + bit(s.strings, 128)
-        + bit(s.array, 256)
-        + bit(s.object, 512)
-        + bit(s.instant, 1024)
+    u64::from(s.null)
+        + 2 * u64::from(s.boolean)
+        + 4 * u64::from(s.integer)
+        + 8 * u64::from(s.string)
+        + 16 * u64::from(s.date)
+        + 32 * u64::from(s.day)
+        + 64 * u64::from(s.integers)
+        + 128 * u64::from(s.strings)
+        + 256 * u64::from(s.array)
+        + 512 * u64::from(s.object)
+        + 1024 * u64::from(s.instant)
 }

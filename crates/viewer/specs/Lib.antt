@@ -6,6 +6,5 @@ pub mod Answer
 pub mod Shows
 pub mod Inside
 pub mod Contract
-pub mod Inner
 pub mod Main
 pub mod Laws

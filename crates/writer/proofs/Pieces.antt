@@ -16,8 +16,8 @@ use Rattle.model.specs.Limits.{max_text_bytes}
 use Rattle.model.proofs.Laws.Logic.{clash}
 use Rattle.print.specs.Contract.{Put}
 use Rattle.writer.specs.declared.value.Progress.{Progress}
-use Rattle.writer.specs.declared.value.Progress.TheVariants.{TooLarge, At}
-use Rattle.writer.specs.Inner.{Puts, Piece, piece, Writes, wrote, over, within}
+use Rattle.std.specs.Prelude.{Option, None, Some}
+use Rattle.writer.specs.Inner.{At, Puts, Piece, piece, Writes, wrote, over, within}
 
 infixr 20 ◌⊕◌
 abbrev pub ◌⊕◌ : Piece → Piece → Piece
@@ -26,6 +26,18 @@ p ⊕ q = piece (p.text ++ q.text) (p.values + q.values) (max p.depth q.depth)
 -- Bytes in front of a piece.
 abbrev pub fronted : Bytes → Piece → Piece
 fronted s p = piece (s ++ p.text) p.values p.depth
+
+-- How far a text goes, and how many values may follow, are known.
+abbrev place_of : Option Progress → ℕ
+place_of None = 0
+place_of (Some p) = p.at
+
+abbrev rest_of : Option Progress → ℕ
+rest_of None = 0
+rest_of (Some p) = p.left
+
+pub at_inj : {a b l m : ℕ} → At a l ≡ At b m → (a ≡ b) × (l ≡ m)
+at_inj e = (ap place_of e, ap rest_of e)
 
 -- ---- whether a text passes the largest
 pub data Passing (n : ℕ) : Type 0 where
@@ -42,7 +54,7 @@ passing n = go (ltb max_text_bytes n) refl
 pub within_stays : (n left : ℕ) → n ≤ max_text_bytes → within n left ≡ At n left
 within_stays n left h = rw (le-ltb max_text_bytes n h)
 
-pub within_passes : (n left : ℕ) → max_text_bytes < n → within n left ≡ TooLarge
+pub within_passes : (n left : ℕ) → max_text_bytes < n → within n left ≡ None
 within_passes n left h = rw (lt-ltb max_text_bytes n h)
 
 -- A text that is put, of n values and no nesting, and the test of its end.
@@ -64,7 +76,7 @@ nothing {deep} {left} {at} {d} =
 
 -- ---- one after another
 -- Bytes, and then a piece.
-pub front_first : {s : Bytes} {q : Piece} {deep left at m : ℕ} {d d₁ d₂ : Bytes} {r : Progress} → Puts s at d m d₁ → Writes q deep left m d₁ r d₂ → Writes (fronted s q) deep left at d r d₂
+pub front_first : {s : Bytes} {q : Piece} {deep left at m : ℕ} {d d₁ d₂ : Bytes} {r : Option Progress} → Puts s at d m d₁ → Writes q deep left m d₁ r d₂ → Writes (fronted s q) deep left at d r d₂
 front_first {s} {q} {deep} {left} {at} {m} {d} {d₁} {d₂} {r} h w = go (passing (at + length s)) w
   where
     go : Passing (at + length s) → Writes q deep left m d₁ r d₂ → Writes (fronted s q) deep left at d r d₂
@@ -81,14 +93,14 @@ front_first {s} {q} {deep} {left} {at} {m} {d} {d₁} {d₂} {r} h w = go (passi
     go (passes k) (over a e) = over (inr (inr (omega (arith, length-append s q.text)))) e
 
 -- A piece, and then another with what it left.
-pub then : {p q : Piece} {deep left at e l : ℕ} {d d₁ d₂ : Bytes} {r : Progress} → Writes p deep left at d (At e l) d₁ → Writes q deep l e d₁ r d₂ → Writes (p ⊕ q) deep left at d r d₂
+pub then : {p q : Piece} {deep left at e l : ℕ} {d d₁ d₂ : Bytes} {r : Option Progress} → Writes p deep left at d (At e l) d₁ → Writes q deep l e d₁ r d₂ → Writes (p ⊕ q) deep left at d r d₂
 then {p} {q} {deep} {left} {at} {e} {l} {d} {d₁} {d₂} {r} (wrote a b c g f) w = go w
   where
     e_is : e ≡ at + length p.text
-    e_is = cc
+    e_is = (at_inj g).0
 
     l_is : l ≡ left - p.values
-    l_is = cc
+    l_is = (at_inj g).1
 
     app : length (p.text ++ q.text) ≡ length p.text + length q.text
     app = length-append p.text q.text
@@ -110,7 +122,7 @@ then {p} {q} {deep} {left} {at} {e} {l} {d} {d₁} {d₂} {r} (wrote a b c g f) 
 then (over a g) w = clash cc
 
 -- A piece that is too large makes what it begins too large.
-pub stops : {p : Piece} (q : Piece) {deep left at : ℕ} {d d₁ d₂ : Bytes} → Writes p deep left at d TooLarge d₁ → Writes (p ⊕ q) deep left at d TooLarge d₂
+pub stops : {p : Piece} (q : Piece) {deep left at : ℕ} {d d₁ d₂ : Bytes} → Writes p deep left at d None d₁ → Writes (p ⊕ q) deep left at d None d₂
 stops {p} q (wrote a b c g f) = clash cc
 stops {p} q (over (inl x) g) = over (inl (omega (arith, le-max_left p.depth q.depth))) refl
 stops {p} q (over (inr (inl x)) g) = over (inr (inl (omega arith))) refl

@@ -11,7 +11,7 @@ use Rattle.model.specs.Bytes.{Bytes, ascii}
 use Rattle.model.specs.Instant.{in_range, ranged, from_year0}
 use Rattle.model.specs.InstantText.{instant_text}
 use Rattle.model.specs.Limits.{max_text_bytes}
-use Rattle.model.specs.Refusal.{out_of_range}
+use Rattle.model.specs.declared.refusal.Fault.TheVariants.{OutOfRange}
 use Rattle.model.specs.Result.{ok, refuse, provided}
 use Rattle.model.specs.Value.{scalar, instant, null}
 use Rattle.model.specs.Writing.{decimal, integer_text, string_text, value_text}
@@ -66,15 +66,15 @@ pub instant_in : (n : ℕ) {t : ℤ} → ok t ≡ ranged (from_year0 n) → stri
 unfolding instant_at value_text
 instant_in n {t} = go (in_range (from_year0 n)) (from_year0 n)
   where
-    go : (b : Bool) (z : ℤ) → ok t ≡ provided b out_of_range (ok z) → string_text (instant_text t) ≡ value_text (elim b [ true ↦ instant z | false ↦ scalar null ])
+    go : (b : Bool) (z : ℤ) → ok t ≡ provided b OutOfRange (ok z) → string_text (instant_text t) ≡ value_text (elim b [ true ↦ instant z | false ↦ scalar null ])
     go true z e = let f : t ≡ z = cc in ap (λ (x : ℤ). string_text (instant_text x)) f
     go false z e = clash cc
 
-pub instant_out : (n : ℕ) → refuse out_of_range ≡ ranged (from_year0 n) → ascii "null" ≡ value_text (instant_at n)
+pub instant_out : (n : ℕ) → refuse OutOfRange ≡ ranged (from_year0 n) → ascii "null" ≡ value_text (instant_at n)
 unfolding instant_at value_text
 instant_out n = go (in_range (from_year0 n)) (from_year0 n)
   where
-    go : (b : Bool) (z : ℤ) → refuse out_of_range ≡ provided b out_of_range (ok z) → ascii "null" ≡ value_text (elim b [ true ↦ instant z | false ↦ scalar null ])
+    go : (b : Bool) (z : ℤ) → refuse OutOfRange ≡ provided b OutOfRange (ok z) → ascii "null" ≡ value_text (elim b [ true ↦ instant z | false ↦ scalar null ])
     go true z e = clash cc
     go false z e = refl
 

@@ -25,15 +25,15 @@ use Rattle.heap.specs.declared.handle.Parts.{Parts}
 use Rattle.heap.specs.declared.handle.Span.{Span}
 use Rattle.heap.specs.Unfold.{Areas, compound_by, opened, value_by, unfolded, instant_at}
 use Rattle.writer.specs.declared.value.Progress.{Progress}
-use Rattle.writer.specs.declared.value.Progress.TheVariants.{TooLarge, At}
-use Rattle.writer.specs.Inner.{Puts, Piece, piece, value_piece, inside_piece, handle_text, opening_of, Writes, wrote, over, within, ValueWrites, PartsWrite}
-use Rattle.writer.proofs.Pieces.{Passing, stays, passes, passing, within_stays, within_passes, ends}
+use Rattle.std.specs.Prelude.{Option, None}
+use Rattle.writer.specs.Inner.{At, Puts, Piece, piece, value_piece, inside_piece, handle_text, opening_of, Writes, wrote, over, within, ValueWrites, PartsWrite}
+use Rattle.writer.proofs.Pieces.{at_inj, Passing, stays, passes, passing, within_stays, within_passes, ends}
 
 -- ---- refused at once
-pub none_left : (v : Value) {deep left at : ℕ} {d d₁ : Bytes} → left ≡ 0 → Writes (value_piece v) deep left at d TooLarge d₁
+pub none_left : (v : Value) {deep left at : ℕ} {d d₁ : Bytes} → left ≡ 0 → Writes (value_piece v) deep left at d None d₁
 none_left v e = over (inr (inl (omega (arith, count_positive v)))) refl
 
-pub too_long : (v : Value) {deep left at : ℕ} {d d₁ : Bytes} → max_text_bytes < at → Writes (value_piece v) deep left at d TooLarge d₁
+pub too_long : (v : Value) {deep left at : ℕ} {d d₁ : Bytes} → max_text_bytes < at → Writes (value_piece v) deep left at d None d₁
 too_long v h = over (inr (inr (omega arith))) refl
 
 -- Whatever its parts are, an array or object nests.
@@ -47,7 +47,7 @@ nests a f p = go p.form
     go List = omega arith
     go Context = omega arith
 
-pub too_deep : (a : Areas) (p : Parts) {deep left at : ℕ} {d d₁ : Bytes} → deep ≡ 0 → Writes (value_piece (unfolded a deep (Compound p))) deep left at d TooLarge d₁
+pub too_deep : (a : Areas) (p : Parts) {deep left at : ℕ} {d d₁ : Bytes} → deep ≡ 0 → Writes (value_piece (unfolded a deep (Compound p))) deep left at d None d₁
 unfolding unfolded
 too_deep a p {deep} e = rw e (over (inl (omega (arith, nests a (λ x. scalar null) p))) refl)
 
@@ -93,7 +93,7 @@ unfolding unfolded
 scalar_writes a zero s l p = rw (scalar_piece a (λ x. scalar null) s) (ends 1 l p)
 scalar_writes a (suc deep) s l p = rw (scalar_piece a (unfolded a deep) s) (ends 1 l p)
 
-pub scalar_value : (a : Areas) {h : Handle} (deep : ℕ) {left at m : ℕ} {d d₁ : Bytes} (q : Progress) → Scalarlike h → 1 ≤ left → Puts (handle_text a.rule a.strings h) at d m d₁
+pub scalar_value : (a : Areas) {h : Handle} (deep : ℕ) {left at m : ℕ} {d d₁ : Bytes} (q : Option Progress) → Scalarlike h → 1 ≤ left → Puts (handle_text a.rule a.strings h) at d m d₁
     → q ≡ within m (left - 1) → ValueWrites a h deep at left d q d₁
 scalar_value a deep q s l p e = record { writes = rw e (scalar_writes a deep s l p) }
 
@@ -116,8 +116,8 @@ enclosed_length : (o : ℕ) (p : Piece) → length (enclosed o p).text ≡ lengt
 enclosed_length o p = omega (arith, length-append p.text ((o + 2) ∷ []))
 
 -- Its parts are too large.
-enclosed_over : (o : ℕ) {p : Piece} {deep left at : ℕ} {d d₁ d₂ : Bytes} → 1 ≤ left → Writes p deep (left - 1) (at + 1) (set d at o) TooLarge d₁
-    → Writes (enclosed o p) (suc deep) left at d TooLarge d₂
+enclosed_over : (o : ℕ) {p : Piece} {deep left at : ℕ} {d d₁ d₂ : Bytes} → 1 ≤ left → Writes p deep (left - 1) (at + 1) (set d at o) None d₁
+    → Writes (enclosed o p) (suc deep) left at d None d₂
 enclosed_over o l (wrote a b c g f) = clash cc
 enclosed_over o l (over (inl x) g) = over (inl (omega arith)) refl
 enclosed_over o l (over (inr (inl x)) g) = over (inr (inl (omega arith))) refl
@@ -129,10 +129,10 @@ enclosed_closes o {p} {deep} {left} {at} {end} {rest} {d} {d₁} l (over x g) = 
 enclosed_closes o {p} {deep} {left} {at} {end} {rest} {d} {d₁} l (wrote a b c g f) = go (passing (end + 1))
   where
     end_is : end ≡ at + 1 + length p.text
-    end_is = cc
+    end_is = (at_inj g).0
 
     rest_is : rest ≡ left - 1 - p.values
-    rest_is = cc
+    rest_is = (at_inj g).1
 
     size : length (enclosed o p).text ≡ length p.text + 2
     size = enclosed_length o p
@@ -173,22 +173,22 @@ module _ (a : Areas) (p : Parts) (deep left at : ℕ) (some_deep : 1 ≤ deep) (
   same_depth : suc (deep - 1) ≡ deep
   same_depth = omega arith
 
-  enclosing : {d d₂ : Bytes} {r : Progress} → Writes (enclosed opens inside) (suc (deep - 1)) left at d r d₂ → ValueWrites a (Compound p) deep at left d r d₂
+  enclosing : {d d₂ : Bytes} {r : Option Progress} → Writes (enclosed opens inside) (suc (deep - 1)) left at d r d₂ → ValueWrites a (Compound p) deep at left d r d₂
   enclosing w = record { writes = rw (deeper a p deep some_deep) (rw same_depth at w) }
 
-  module _ (d d₀ : Bytes) {d₁ : Bytes} (b : ℕ) (is-opening : b ≡ opens) (opened-by : d₀ ≡ set d at b) (r : Progress) (w : PartsWrite a p (deep - 1) (at + 1) (left - 1) d₀ r d₁) where
+  module _ (d d₀ : Bytes) {d₁ : Bytes} (b : ℕ) (is-opening : b ≡ opens) (opened-by : d₀ ≡ set d at b) (r : Option Progress) (w : PartsWrite a p (deep - 1) (at + 1) (left - 1) d₀ r d₁) where
     opened_writes : Writes inside (deep - 1) (left - 1) (at + 1) (set d at opens) r d₁
     opened_writes = rw (← is-opening, ← opened-by) w.writes
 
-    pub compound_over : r ≡ TooLarge → ValueWrites a (Compound p) deep at left d TooLarge d₁
+    pub compound_over : r ≡ None → ValueWrites a (Compound p) deep at left d None d₁
     compound_over e = enclosing (enclosed_over opens {p = inside} some_left (rw e at opened_writes))
 
-    pub compound_closes : (end rest : ℕ) {d₂ : Bytes} (q : Progress) → r ≡ At end rest → d₂ ≡ set d₁ end (b + 2) → q ≡ within (end + 1) rest → ValueWrites a (Compound p) deep at left d q d₂
+    pub compound_closes : (end rest : ℕ) {d₂ : Bytes} (q : Option Progress) → r ≡ At end rest → d₂ ≡ set d₁ end (b + 2) → q ≡ within (end + 1) rest → ValueWrites a (Compound p) deep at left d q d₂
     compound_closes end rest q e f g = rw (f, g, is-opening) (enclosing (enclosed_closes opens {p = inside} some_left (rw e at opened_writes)))
 
 -- The text goes no further than the largest.
-pub writes_short : {p : Piece} {deep left at end rest : ℕ} {d d₁ : Bytes} (r : Progress) → Writes p deep left at d r d₁ → r ≡ At end rest → end ≤ max_text_bytes
-writes_short {p} {at = at} {end = end} r (wrote x y z g f) e = let q : end ≡ at + length p.text = cc in omega arith
+pub writes_short : {p : Piece} {deep left at end rest : ℕ} {d d₁ : Bytes} (r : Option Progress) → Writes p deep left at d r d₁ → r ≡ At end rest → end ≤ max_text_bytes
+writes_short {p} {at = at} {end = end} r (wrote x y z g f) e = let q : end ≡ at + length p.text = (at_inj (sym e ∙ g)).0 in omega arith
 writes_short r (over x g) e = clash cc
 
 pub opening_small : (form : Form) → opening_of form ≤ 123

@@ -1,5 +1,5 @@
 -- Inner: what the private functions of the writer do.
-use Rattle.std.specs.Prelude.{◌≡◌, Bool, true, false, cond, [], ◌++◌, ◌⊎◌, ℕ, ◌+◌, ◌-◌, ◌≤◌, ◌<◌, ltb, length}
+use Rattle.std.specs.Prelude.{◌≡◌, Bool, true, false, cond, Option, None, Some, Result, Ok, Err, [], ◌++◌, ◌⊎◌, ℕ, ◌+◌, ◌-◌, ◌≤◌, ◌<◌, ltb, length}
 use Rattle.std.proofs.lemmas.List.Edits.{sets}
 use Rattle.model.specs.Bytes.{Bytes, ascii}
 use Rattle.model.specs.Limits.{max_text_bytes}
@@ -21,7 +21,8 @@ use Rattle.heap.specs.Strings.{span_bytes}
 use Rattle.heap.specs.Unfold.{Areas, instant_at, opened, unfolded}
 use Rattle.print.specs.Contract.{Put}
 use Rattle.writer.specs.declared.value.Progress.{Progress}
-use Rattle.writer.specs.declared.value.Progress.TheVariants.{TooLarge, At}
+use Rattle.writer.specs.declared.WriteFault.{WriteFault}
+use Rattle.writer.specs.declared.WriteFault.TheVariants.{TooLarge, OutputTooShort}
 
 -- ---- tokens
 -- A text is written at `at` of the output d, and r is its end, unless it would pass the largest text: then so does r.
@@ -87,16 +88,26 @@ inside_piece (object ms) before = piece (members_text ms before) (members_count 
 abbrev pub Over : Piece → ℕ → ℕ → ℕ → Type 0
 Over p deep left at = (deep < p.depth) ⊎ ((left < p.values) ⊎ (max_text_bytes < at + length p.text))
 
-pub data Writes (p : Piece) (deep left at : ℕ) (d : Bytes) (r : Progress) (d' : Bytes) : Type 0 where
+-- The text goes up to `at`, and so many values may follow.
+abbrev pub At : ℕ → ℕ → Option Progress
+At at left = Some (record { at = at; left = left })
+
+pub data Writes (p : Piece) (deep left at : ℕ) (d : Bytes) (r : Option Progress) (d' : Bytes) : Type 0 where
   wrote : p.depth ≤ deep → p.values ≤ left → at + length p.text ≤ max_text_bytes → r ≡ At (at + length p.text) (left - p.values) → d' ≡ sets d at p.text
       → Writes p deep left at d r d'
-  over : Over p deep left at → r ≡ TooLarge → Writes p deep left at d r d'
+  over : Over p deep left at → r ≡ None → Writes p deep left at d r d'
 
-abbrev pub within : ℕ → ℕ → Progress
-within at left = cond (ltb max_text_bytes at) TooLarge (At at left)
+abbrev pub within : ℕ → ℕ → Option Progress
+within at left = cond (ltb max_text_bytes at) None (At at left)
 
-pub record ValueWrites (a : Areas) (h : Handle) (deep at left : ℕ) (d : Bytes) (r : Progress) (d' : Bytes) : Type 0 where
+pub record ValueWrites (a : Areas) (h : Handle) (deep at left : ℕ) (d : Bytes) (r : Option Progress) (d' : Bytes) : Type 0 where
   pub writes : Writes (value_piece (unfolded a deep h)) deep left at d r d'
 
-pub record PartsWrite (a : Areas) (p : Parts) (deep at left : ℕ) (d : Bytes) (r : Progress) (d' : Bytes) : Type 0 where
+pub record PartsWrite (a : Areas) (p : Parts) (deep at left : ℕ) (d : Bytes) (r : Option Progress) (d' : Bytes) : Type 0 where
   pub writes : Writes (inside_piece (opened a (unfolded a deep) p) []) deep left at d r d'
+
+-- ---- the answer
+-- The length of a text that goes so far, in an output of some bytes.
+abbrev pub fitted : Option Progress → ℕ → Result ℕ WriteFault
+fitted None room = Err TooLarge
+fitted (Some p) room = cond (ltb room p.at) (Err OutputTooShort) (Ok p.at)

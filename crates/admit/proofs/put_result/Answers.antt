@@ -6,4 +6,4 @@ pub returns-then-refusal-eq0 : goal.returns-then-refusal-eq0
 returns-then-refusal-eq0 c = rw c.if-refusal-eq0.true c.put_line.ensures
 
 pub returns : goal.returns
-returns c = rw (ne_eqb _ 0 c.if-refusal-eq0.false) c.put_number_line.ensures
+returns c = rw (ne_eqb _ 0 c.if-refusal-eq0.false) (rw c.from.ensures at c.put_number_line.ensures)

@@ -4,7 +4,7 @@ use Rattle.std.proofs.Common.{sym, ap, ◌∙◌, arith, ltb-true, ltb-false, lt
 use Rattle.std.proofs.lemmas.Bool.{lt-leb}
 use Rattle.std.proofs.Math.IntN.{+ℤ_assoc, +ℤ_comm}
 use Rattle.model.specs.Instant.{earliest, ranged, from_year0, since_year0}
-use Rattle.model.specs.Refusal.{out_of_range}
+use Rattle.model.specs.declared.refusal.Fault.TheVariants.{OutOfRange}
 use Rattle.model.specs.Result.{refuse}
 
 pub since_from : (u : ℕ) → since_year0 (from_year0 u) ≡ u
@@ -15,7 +15,7 @@ since_from u = go (ltb u 62167219200000) refl
     go false e = omega (arith, ltb-false u 62167219200000 e)
 
 -- After 9999-12-31.
-pub from_late : (u : ℕ) → 315569519999999 < u → ranged (from_year0 u) ≡ refuse out_of_range
+pub from_late : (u : ℕ) → 315569519999999 < u → ranged (from_year0 u) ≡ refuse OutOfRange
 from_late u h = rw (le-ltb u 62167219200000 (omega arith), lt-leb (u - 62167219200000) 253402300799999 (omega arith))
 
 -- ---- moved
@@ -38,8 +38,8 @@ minus_below u zero h = absurd (omega arith)
 minus_below u (suc k) h = rw (lt-ltb u (suc k) h)
 
 -- Before 0000-01-01.
-pub from_early : (n : ℕ) → ranged (negsuc n +ℤ earliest) ≡ refuse out_of_range
+pub from_early : (n : ℕ) → ranged (negsuc n +ℤ earliest) ≡ refuse OutOfRange
 from_early n = rw (lt-leb (suc (n + 62167219199999)) 62167219199999 (omega arith))
 
-pub moved_out : (u k : ℕ) → u < k → ranged (from_year0 u +ℤ neg_ℤ (pos k)) ≡ refuse out_of_range
+pub moved_out : (u k : ℕ) → u < k → ranged (from_year0 u +ℤ neg_ℤ (pos k)) ≡ refuse OutOfRange
 moved_out u k h = ap ranged (moved u (neg_ℤ (pos k)) ∙ ap (λ (z : ℤ). z +ℤ earliest) (minus_below u k h)) ∙ from_early (k - suc u)

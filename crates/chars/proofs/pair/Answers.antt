@@ -18,22 +18,22 @@ overflow_add-h c = omega (arith, unit_as _ _ c.requires.1.of)
 
 pub overflow_sub-l : goal.overflow_sub-l
 overflow_sub-l c =
-    let second : Escaped c.args.text.now (c.args.at + 6) c.in-Half.l Low = rw c.in-Half.is at c.low_half-half.ensures in
+    let second : Escaped c.args.text.now (c.args.at + 6) c.in-Some.l Low = c.in-Some.ensures in
     omega (arith, unit_as _ _ second.of)
 
-pub overflow_add-h-in-Half : goal.overflow_add-h-in-Half
-overflow_add-h-in-Half c =
-    let second : Escaped c.args.text.now (c.args.at + 6) c.in-Half.l Low = rw c.in-Half.is at c.low_half-half.ensures in
+pub overflow_add-h-2 : goal.overflow_add-h-2
+overflow_add-h-2 c =
+    let second : Escaped c.args.text.now (c.args.at + 6) c.in-Some.l Low = c.in-Some.ensures in
     omega (arith, unit_as _ _ c.requires.1.of, unit_as _ _ second.of)
 
 pub put_utf8-requires : goal.put_utf8-requires
 put_utf8-requires c =
-    let second : Escaped c.args.text.now (c.args.at + 6) c.in-Half.l Low = rw c.in-Half.is at c.low_half-half.ensures in
+    let second : Escaped c.args.text.now (c.args.at + 6) c.in-Some.l Low = c.in-Some.ensures in
     omega (arith, unit_as _ _ c.requires.1.of, unit_as _ _ second.of, second.inside)
 
-pub returns-in-NoHalf : goal.returns-in-NoHalf
-returns-in-NoHalf c = stops_high c.requires.1 (rw c.in-NoHalf.is at c.low_half-half.ensures) c.fault.ensures
+pub returns-in_default : goal.returns-in_default
+returns-in_default c = stops_high c.requires.1 c.in_default.ensures
 
-pub returns-in-Half : goal.returns-in-Half
+pub returns : goal.returns
 unfolding pair_of
-returns-in-Half c = gives (taken_pair c.requires.1 (rw c.in-Half.is at c.low_half-half.ensures) c.put_utf8.ensures) (omega arith)
+returns c = gives (taken_pair c.requires.1 c.in-Some.ensures c.put_utf8.ensures) (omega arith)

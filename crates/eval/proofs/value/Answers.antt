@@ -1,24 +1,23 @@
-use mathlib.Core.Path.{refl}
 use Rattle.model.specs.Limits.{heap_cells, max_nesting}
-use Rattle.eval.proofs.Whole.{whole_task, whole_operating, whole_prepared, left_less, left_over, whole_stops, whole_gives}
+use Rattle.eval.proofs.Whole.{whole_task, whole_operating, left_less, left_over, whole_stops, whole_gives}
 use Rattle.eval.proofs.value.Goals as goal
 
 pub operands-requires : goal.operands-requires
 unfolding heap_cells max_nesting
-operands-requires c = (whole_operating c.operand-task.result c.requires (whole_task _ c.args.limit c.operand-task.result c.load.result c.state-s.result c.operand-task.ensures c.load.ensures c.state-s.ensures), whole_prepared c.requires)
+operands-requires c = whole_operating _ c.requires (whole_task _ c.args.limit c.load.ensures)
 
 pub overflow_sub-result : goal.overflow_sub-result
 unfolding heap_cells max_nesting
-overflow_sub-result c = left_less c.operand-task.result (whole_task _ c.args.limit c.operand-task.result c.load.result c.state-s.result c.operand-task.ensures c.load.ensures c.state-s.ensures) c.requires c.operands.ensures c.in-Denies.fault c.in-Denies.left c.in-Denies.is
+overflow_sub-result c = left_over _ (whole_task _ c.args.limit c.load.ensures) c.requires c.operands.ensures c.in-Ok.given c.in-Ok.is
 
-pub overflow_sub-result-in-Gives : goal.overflow_sub-result-in-Gives
+pub overflow_sub-result-in-Err : goal.overflow_sub-result-in-Err
 unfolding heap_cells max_nesting
-overflow_sub-result-in-Gives c = left_over c.operand-task.result (whole_task _ c.args.limit c.operand-task.result c.load.result c.state-s.result c.operand-task.ensures c.load.ensures c.state-s.ensures) c.requires c.operands.ensures c.in-Gives.h c.in-Gives.t c.in-Gives.is
+overflow_sub-result-in-Err c = left_less _ (whole_task _ c.args.limit c.load.ensures) c.requires c.operands.ensures c.in-Err.denied c.in-Err.is
 
-pub returns-in-Denies : goal.returns-in-Denies
+pub returns-in-Ok : goal.returns-in-Ok
 unfolding heap_cells max_nesting
-returns-in-Denies c = whole_stops c.operand-task.result (whole_task _ c.args.limit c.operand-task.result c.load.result c.state-s.result c.operand-task.ensures c.load.ensures c.state-s.ensures) c.requires c.operands.ensures c.in-Denies.fault c.in-Denies.left c.number.result _ c.in-Denies.is c.number.ensures refl
+returns-in-Ok c = whole_gives _ (whole_task _ c.args.limit c.load.ensures) c.requires c.operands.ensures c.in-Ok.given c.in-Ok.is
 
-pub returns-in-Gives : goal.returns-in-Gives
+pub returns-in-Err : goal.returns-in-Err
 unfolding heap_cells max_nesting
-returns-in-Gives c = whole_gives c.operand-task.result (whole_task _ c.args.limit c.operand-task.result c.load.result c.state-s.result c.operand-task.ensures c.load.ensures c.state-s.ensures) c.requires c.operands.ensures c.in-Gives.h c.in-Gives.t _ c.in-Gives.is refl
+returns-in-Err c = whole_stops _ (whole_task _ c.args.limit c.load.ensures) c.requires c.operands.ensures c.in-Err.denied c.in-Err.is

@@ -12,8 +12,10 @@ use Rattle.std.proofs.Math.Seq.{length-sets}
 use Rattle.area.specs.Words.{word, word_at}
 use Rattle.area.specs.Laws.{word_at_word, word_at_sets, word_at_sets_before, word_at_sets_behind}
 use Rattle.model.specs.Bytes.{Bytes}
-use Rattle.heap.specs.Cells.{cell_bytes, packed, span_tag, parts_tag, packed_of, of_packed, Packs, Small, packed_at, cell_handle, second_word, cell_of, stored}
+use Rattle.heap.specs.Cells.{cell_bytes, packed, packed_of, tag_number, tag_at, of_packed, Packs, Small, packed_at, cell_handle, second_word, cell_of, stored}
 use Rattle.heap.specs.declared.cell.Packed.{Packed}
+use Rattle.heap.specs.declared.cell.Tag.{Tag}
+use Rattle.heap.specs.declared.cell.Tag.TheVariants as tags
 use Rattle.heap.specs.declared.handle.Handle.{Handle}
 use Rattle.heap.specs.declared.handle.Handle.TheVariants.{Null, False, True, Integer, Instant, String, Compound}
 use Rattle.heap.specs.declared.handle.Area.{Area}
@@ -42,34 +44,41 @@ unpacked (Compound p) = go p.form
     go List = refl
     go Context = refl
 
-pub small_tag : (h : Handle) → (packed_of h).tag ≤ 10
-small_tag Null = omega arith
-small_tag False = omega arith
-small_tag True = omega arith
-small_tag (Integer n) = omega arith
-small_tag (Instant n) = omega arith
-small_tag (String s) = go s.area
-  where
-    go : (a : Area) → span_tag a ≤ 10
-    go Rule = omega arith
-    go Record = omega arith
-small_tag (Compound p) = go p.form
-  where
-    go : (f : Form) → parts_tag f ≤ 10
-    go Items = omega arith
-    go Members = omega arith
-    go List = omega arith
-    go Context = omega arith
+pub small_tag : (t : Tag) → tag_number t ≤ 10
+small_tag tags.Null = omega arith
+small_tag tags.False = omega arith
+small_tag tags.True = omega arith
+small_tag tags.Integer = omega arith
+small_tag tags.Instant = omega arith
+small_tag tags.RuleString = omega arith
+small_tag tags.RecordString = omega arith
+small_tag tags.Items = omega arith
+small_tag tags.Members = omega arith
+small_tag tags.List = omega arith
+small_tag tags.Context = omega arith
+
+tag_there : (t : Tag) → tag_at (tag_number t) ≡ t
+tag_there tags.Null = refl
+tag_there tags.False = refl
+tag_there tags.True = refl
+tag_there tags.Integer = refl
+tag_there tags.Instant = refl
+tag_there tags.RuleString = refl
+tag_there tags.RecordString = refl
+tag_there tags.Items = refl
+tag_there tags.Members = refl
+tag_there tags.List = refl
+tag_there tags.Context = refl
 
 -- ---- a cell that was stored
 module _ (p : Packed) (s : Packs p) where
-  tag_back : second_word p / 16777216 ≡ p.tag
-  tag_back = rw (mod-eq_of_lt s.high, add-mul-div_right p.high p.tag (lit< tt), div-eq_of_lt s.high) (omega arith)
+  tag_back : second_word p / 16777216 ≡ tag_number p.tag
+  tag_back = rw (mod-eq_of_lt s.high, add-mul-div_right p.high (tag_number p.tag) (lit< tt), div-eq_of_lt s.high) (omega arith)
 
   high_back : second_word p % 16777216 ≡ p.high
   high_back = rw (mod-eq_of_lt s.high, add-mul-mod_self_right, mod-eq_of_lt s.high)
 
-  module _ (t : p.tag ≤ 10) (C : Bytes) (at : ℕ) (room : at + 8 ≤ length C) where
+  module _ (C : Bytes) (at : ℕ) (room : at + 8 ≤ length C) where
     first_back : word_at (sets C at (cell_of p)) at ≡ p.low
     unfolding word word_at
     first_back =
@@ -78,10 +87,10 @@ module _ (p : Packed) (s : Packs p) where
 
     second_back : word_at (sets C at (cell_of p)) (at + 4) ≡ second_word p
     unfolding word word_at
-    second_back = word_at_sets (cell_of p) C at 4 room (omega arith) ∙ word_at_word (second_word p) [] (omega (arith, mod-eq_of_lt s.high))
+    second_back = word_at_sets (cell_of p) C at 4 room (omega arith) ∙ word_at_word (second_word p) [] (omega (arith, mod-eq_of_lt s.high, small_tag p.tag))
 
     cell_back : packed_at (sets C at (cell_of p)) at ≡ p
-    cell_back = rw (second_back, first_back) (λ i. packed (tag_back i) p.low (high_back i))
+    cell_back = rw (second_back, first_back) (λ i. packed ((ap tag_at tag_back ∙ tag_there p.tag) i) p.low (high_back i))
 
 -- ---- stores
 pub length_stored : (C : Bytes) (j : ℕ) (h : Handle) → length (stored C j h) ≡ length C
@@ -96,7 +105,7 @@ pub stored_here : (C : Bytes) (j : ℕ) (h : Handle) → j < length C / cell_byt
 unfolding stored cell_handle cell_bytes
 stored_here C j h l s =
     rw (lt-ltb j (length C / 8) l, length-sets, lt-ltb j (length C / 8) l)
-    (ap of_packed (cell_back (packed_of h) s (small_tag h) C (j * 8) (omega arith)) ∙ unpacked h)
+    (ap of_packed (cell_back (packed_of h) s C (j * 8) (omega arith)) ∙ unpacked h)
 
 -- Another cell.
 module _ (C : Bytes) (i j : ℕ) (p : Packed) (apart : i ≡ j → ⊥) where

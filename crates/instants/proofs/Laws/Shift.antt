@@ -6,7 +6,7 @@ use Rattle.std.proofs.Math.Decide.{dec_le, dec_lt, ℕ_discrete}
 use Rattle.std.proofs.Math.IntN.{pos-ne-negsuc, +ℤ_comm}
 use Rattle.model.specs.Calendar.{date, day_number, is_leap, month_days, month_table, months, sum_first, year_start}
 use Rattle.model.specs.Instant.{from_year0, in_range, ms_per_day, ranged, since_year0}
-use Rattle.model.specs.Refusal.{out_of_range}
+use Rattle.model.specs.declared.refusal.Fault.TheVariants.{OutOfRange}
 use Rattle.model.specs.Result.{ok, refuse}
 use Rattle.model.specs.Shift.{after, month_first, month_number, month_start, shift}
 use Rattle.model.proofs.Laws.Calendar.{Dated, Valid, dated, date_of_day_lem, day_bound, december, month_28, month_day, sum_step, year_10000, year_mono}
@@ -45,7 +45,7 @@ month_ends c (suc d) j e =
 
 -- ---- the days and the time of day from there
 module _ (days time : ℕ) (days-high : days ≤ 30) (time-high : time < 86400000) where
-  after_early : (n : ℕ) → 30 ≤ n → after days time (negsuc n) ≡ refuse out_of_range
+  after_early : (n : ℕ) → 30 ≤ n → after days time (negsuc n) ≡ refuse OutOfRange
   after_early n h =
       let ms = suc (n - days) * 86400000 in
       let e : negsuc n +ℤ pos days ≡ negsuc (n - days) = minus_below days (suc n) (omega arith) ∙ ap negsuc (omega arith) in
@@ -92,7 +92,7 @@ lands t a u w day v h e f =
       time_is = rw s (omega arith);
     }
 
-not_refused : {t a : ℤ} {u : TimeUnit} {w : Date} → Lands t a u w → ¬ (shifted t a u ≡ refuse out_of_range)
+not_refused : {t a : ℤ} {u : TimeUnit} {w : Date} → Lands t a u w → ¬ (shifted t a u ≡ refuse OutOfRange)
 not_refused l e = let f = l.done in clash cc
 
 -- The date of an instant in range, with its bounds.
@@ -150,17 +150,17 @@ module _ (t a : ℤ) (in_range_lem : T (in_range t)) where
           absurd (omega (arith, december (k / 12), ap (month_days (k / 12)) f))
 
   -- It is out of range exactly where the month is.
-  pub month_out : (shifted t a Month ≡ refuse out_of_range) ↔ (¬ ((k : ℕ) × (month_to t a ≡ pos k) × (k < 120000)))
+  pub month_out : (shifted t a Month ≡ refuse OutOfRange) ↔ (¬ ((k : ℕ) × (month_to t a ≡ pos k) × (k < 120000)))
   month_out = ((λ e p. inside p.0 p.1 p.2 e), outside (month_to t a) refl)
     where
-      inside : (k : ℕ) → month_to t a ≡ pos k → k < 120000 → ¬ (shifted t a Month ≡ refuse out_of_range)
+      inside : (k : ℕ) → month_to t a ≡ pos k → k < 120000 → ¬ (shifted t a Month ≡ refuse OutOfRange)
       inside k e h = go (dec_le (date_of t).day (month_days (k / 12) (suc (k % 12))))
         where
-          go : Dec ((date_of t).day ≤ month_days (k / 12) (suc (k % 12))) → ¬ (shifted t a Month ≡ refuse out_of_range)
+          go : Dec ((date_of t).day ≤ month_days (k / 12) (suc (k % 12))) → ¬ (shifted t a Month ≡ refuse OutOfRange)
           go (yes g) = not_refused (month_kept k e h g)
           go (no g) = not_refused (month_runs_on k e h (omega arith))
 
-      outside : (z : ℤ) → month_to t a ≡ z → ¬ ((k : ℕ) × (month_to t a ≡ pos k) × (k < 120000)) → shifted t a Month ≡ refuse out_of_range
+      outside : (z : ℤ) → month_to t a ≡ z → ¬ ((k : ℕ) × (month_to t a ≡ pos k) × (k < 120000)) → shifted t a Month ≡ refuse OutOfRange
       outside (pos k) e f = shifted_month ∙ rw (e, le-ltb k 120000 (late (dec_lt k 120000)))
         where
           late : Dec (k < 120000) → 120000 ≤ k
@@ -248,17 +248,17 @@ module _ (t a : ℤ) (in_range_lem : T (in_range t)) where
       in_february (no f) = absurd (omega (arith, day_high, other_months y (date_of t).year ((date_of t).month - 1) (λ k. f (omega arith))))
 
   -- It is out of range exactly where the year is.
-  pub year_out : (shifted t a Year ≡ refuse out_of_range) ↔ (¬ ((y : ℕ) × (pos (date_of t).year +ℤ a ≡ pos y) × (y ≤ 9999)))
+  pub year_out : (shifted t a Year ≡ refuse OutOfRange) ↔ (¬ ((y : ℕ) × (pos (date_of t).year +ℤ a ≡ pos y) × (y ≤ 9999)))
   year_out = ((λ e p. inside p.0 p.1 p.2 e), outside)
     where
-      inside : (y : ℕ) → pos (date_of t).year +ℤ a ≡ pos y → y ≤ 9999 → ¬ (shifted t a Year ≡ refuse out_of_range)
+      inside : (y : ℕ) → pos (date_of t).year +ℤ a ≡ pos y → y ≤ 9999 → ¬ (shifted t a Year ≡ refuse OutOfRange)
       inside y e h = go (dec_le (date_of t).day (month_days y (date_of t).month))
         where
-          go : Dec ((date_of t).day ≤ month_days y (date_of t).month) → ¬ (shifted t a Year ≡ refuse out_of_range)
+          go : Dec ((date_of t).day ≤ month_days y (date_of t).month) → ¬ (shifted t a Year ≡ refuse OutOfRange)
           go (yes g) = not_refused (year_kept y e h g)
           go (no g) = not_refused (year_runs_on y e h (omega arith)).2
 
-      outside : ¬ ((y : ℕ) × (pos (date_of t).year +ℤ a ≡ pos y) × (y ≤ 9999)) → shifted t a Year ≡ refuse out_of_range
+      outside : ¬ ((y : ℕ) × (pos (date_of t).year +ℤ a ≡ pos y) × (y ≤ 9999)) → shifted t a Year ≡ refuse OutOfRange
       outside f =
           let high = (own_date t in_range_lem).month_high in
           sym (year_months t a)

@@ -51,33 +51,33 @@ pub returns-then-is_short-2 : goal.returns-then-is_short-2
 returns-then-is_short-2 c = record_short _ _ c.args.limit _ _ _ _ _ _ _ (sym c.cannot_run.ensures ∙ c.if-cannot_run.false) (sym c.is_short.ensures ∙ c.if-is_short.false) (sym c.is_short-2.ensures ∙ c.if-is_short-2.true)
 
 -- src/lib.rt:65:9
-pub judge-e-requires : goal.judge-e-requires
-judge-e-requires c = (record { long = (sym c.is_short.ensures ∙ c.if-is_short.false) }, record { long = (sym c.is_short-2.ensures ∙ c.if-is_short-2.false) }, record { runs = (sym c.cannot_run.ensures ∙ c.if-cannot_run.false) })
+pub judge-judged-requires : goal.judge-judged-requires
+judge-judged-requires c = (record { long = (sym c.is_short.ensures ∙ c.if-is_short.false) }, record { long = (sym c.is_short-2.ensures ∙ c.if-is_short-2.false) }, record { runs = (sym c.cannot_run.ensures ∙ c.if-cannot_run.false) })
 
 -- src/lib.rt:38:1
 pub shape_of-rule_table : goal.shape_of-rule_table
-shape_of-rule_table c = c.settle_text.auto.table ∙ c.judge-e.auto.rule_table
+shape_of-rule_table c = c.settle_text.auto.table ∙ c.judge-judged.auto.rule_table
 
 -- src/lib.rt:38:1
 pub shape_of-rule_strings : goal.shape_of-rule_strings
-shape_of-rule_strings c = c.settle_text.auto.strings ∙ c.judge-e.auto.rule_strings
+shape_of-rule_strings c = c.settle_text.auto.strings ∙ c.judge-judged.auto.rule_strings
 
 -- src/lib.rt:38:1
 pub shape_of-record_table : goal.shape_of-record_table
-shape_of-record_table c = c.settle_text-2.auto.table ∙ c.judge-e.auto.record_table
+shape_of-record_table c = c.settle_text-2.auto.table ∙ c.judge-judged.auto.record_table
 
 -- src/lib.rt:38:1
 pub shape_of-record_strings : goal.shape_of-record_strings
-shape_of-record_strings c = c.settle_text-2.auto.strings ∙ c.judge-e.auto.record_strings
+shape_of-record_strings c = c.settle_text-2.auto.strings ∙ c.judge-judged.auto.record_strings
 
 -- src/lib.rt:38:1
 pub shape_of-cells : goal.shape_of-cells
-shape_of-cells c = c.settle_work.auto.cells ∙ c.judge-e.auto.cells
+shape_of-cells c = c.settle_work.auto.cells ∙ c.judge-judged.auto.cells
 
 -- src/lib.rt:38:1
 pub shape_of-output : goal.shape_of-output
-shape_of-output c = c.settle_work.auto.output ∙ c.judge-e.auto.output
+shape_of-output c = c.settle_work.auto.output ∙ c.judge-judged.auto.output
 
 -- src/lib.rt:38:1
 pub returns : goal.returns
-returns c = evaluated _ _ c.args.limit _ _ _ _ _ _ _ (sym c.cannot_run.ensures ∙ c.if-cannot_run.false) (sym c.is_short.ensures ∙ c.if-is_short.false) (sym c.is_short-2.ensures ∙ c.if-is_short-2.false) c.judge-e.ensures c.settle_text.ensures c.settle_text-2.ensures c.settle_work.ensures
+returns c = evaluated _ _ c.args.limit _ _ _ _ _ _ _ (sym c.cannot_run.ensures ∙ c.if-cannot_run.false) (sym c.is_short.ensures ∙ c.if-is_short.false) (sym c.is_short-2.ensures ∙ c.if-is_short-2.false) c.outcome_told-e.ensures c.judge-judged.ensures c.settle_text.ensures c.settle_text-2.ensures c.settle_work.ensures

@@ -1,4 +1,5 @@
 use mathlib.Core.Path.{sym, ◌∙◌, refl}
+use Rattle.jehvrukam.proofs.Settling.{told_as}
 use Rattle.jehvrukam.proofs.Entries.{checked_cannot, checked_rule_short, checked_sheet_short, checked_record_short, evaluated_checked}
 use Rattle.jehvrukam.proofs.jehvrukam_evaluate_checked.Goals as goal
 
@@ -83,41 +84,41 @@ pub returns-then-is_short-3 : goal.returns-then-is_short-3
 returns-then-is_short-3 c = checked_record_short _ _ _ c.args.limit _ _ _ _ _ _ _ _ _ (sym c.cannot_run.ensures ∙ c.if-cannot_run.false) (sym c.is_short.ensures ∙ c.if-is_short.false) (sym c.is_short-2.ensures ∙ c.if-is_short-2.false) (sym c.is_short-3.ensures ∙ c.if-is_short-3.true)
 
 -- src/lib.rt:203:9
-pub judge-o-requires : goal.judge-o-requires
-judge-o-requires c = (record { long = (sym c.is_short.ensures ∙ c.if-is_short.false) }, record { long = (sym c.is_short-2.ensures ∙ c.if-is_short-2.false) }, record { long = (sym c.is_short-3.ensures ∙ c.if-is_short-3.false) }, record { runs = (sym c.cannot_run.ensures ∙ c.if-cannot_run.false) })
+pub judge-judged-requires : goal.judge-judged-requires
+judge-judged-requires c = (record { long = (sym c.is_short.ensures ∙ c.if-is_short.false) }, record { long = (sym c.is_short-2.ensures ∙ c.if-is_short-2.false) }, record { long = (sym c.is_short-3.ensures ∙ c.if-is_short-3.false) }, record { runs = (sym c.cannot_run.ensures ∙ c.if-cannot_run.false) })
 
 -- src/lib.rt:168:1
 pub shape_of-rule_table : goal.shape_of-rule_table
-shape_of-rule_table c = c.settle_text.auto.table ∙ c.judge-o.auto.rule_table
+shape_of-rule_table c = c.settle_text.auto.table ∙ c.judge-judged.auto.rule_table
 
 -- src/lib.rt:168:1
 pub shape_of-rule_strings : goal.shape_of-rule_strings
-shape_of-rule_strings c = c.settle_text.auto.strings ∙ c.judge-o.auto.rule_strings
+shape_of-rule_strings c = c.settle_text.auto.strings ∙ c.judge-judged.auto.rule_strings
 
 -- src/lib.rt:168:1
 pub shape_of-sheet_table : goal.shape_of-sheet_table
-shape_of-sheet_table c = c.settle_text-2.auto.table ∙ c.judge-o.auto.sheet_table
+shape_of-sheet_table c = c.settle_text-2.auto.table ∙ c.judge-judged.auto.sheet_table
 
 -- src/lib.rt:168:1
 pub shape_of-sheet_strings : goal.shape_of-sheet_strings
-shape_of-sheet_strings c = c.settle_text-2.auto.strings ∙ c.judge-o.auto.sheet_strings
+shape_of-sheet_strings c = c.settle_text-2.auto.strings ∙ c.judge-judged.auto.sheet_strings
 
 -- src/lib.rt:168:1
 pub shape_of-record_table : goal.shape_of-record_table
-shape_of-record_table c = c.settle_text-3.auto.table ∙ c.judge-o.auto.record_table
+shape_of-record_table c = c.settle_text-3.auto.table ∙ c.judge-judged.auto.record_table
 
 -- src/lib.rt:168:1
 pub shape_of-record_strings : goal.shape_of-record_strings
-shape_of-record_strings c = c.settle_text-3.auto.strings ∙ c.judge-o.auto.record_strings
+shape_of-record_strings c = c.settle_text-3.auto.strings ∙ c.judge-judged.auto.record_strings
 
 -- src/lib.rt:168:1
 pub shape_of-cells : goal.shape_of-cells
-shape_of-cells c = c.settle_work.auto.cells ∙ c.judge-o.auto.cells
+shape_of-cells c = c.settle_work.auto.cells ∙ c.judge-judged.auto.cells
 
 -- src/lib.rt:168:1
 pub shape_of-output : goal.shape_of-output
-shape_of-output c = c.settle_work.auto.output ∙ c.judge-o.auto.output
+shape_of-output c = c.settle_work.auto.output ∙ c.judge-judged.auto.output
 
 -- src/lib.rt:168:1
 pub returns : goal.returns
-returns c = evaluated_checked _ _ _ c.args.limit _ _ _ _ _ _ _ _ _ (sym c.cannot_run.ensures ∙ c.if-cannot_run.false) (sym c.is_short.ensures ∙ c.if-is_short.false) (sym c.is_short-2.ensures ∙ c.if-is_short-2.false) (sym c.is_short-3.ensures ∙ c.if-is_short-3.false) c.judge-o.result c.judge-o.ensures c.settle_text.ensures c.settle_text-2.ensures c.settle_text-3.ensures c.settle_work.ensures c.yes_or_no.ensures
+returns c = evaluated_checked _ _ _ c.args.limit _ _ _ _ _ _ _ _ _ (sym c.cannot_run.ensures ∙ c.if-cannot_run.false) (sym c.is_short.ensures ∙ c.if-is_short.false) (sym c.is_short-2.ensures ∙ c.if-is_short-2.false) (sym c.is_short-3.ensures ∙ c.if-is_short-3.false) c.checked_outcome_told-o.result c.checked_outcome_told-o.ensures c.judge-judged.ensures c.settle_text.ensures c.settle_text-2.ensures c.settle_text-3.ensures c.settle_work.ensures (c.from.ensures ∙ told_as _)

@@ -1,4 +1,5 @@
 use mathlib.Core.Path.{sym, ◌∙◌, refl}
+use Rattle.jehvrukam.proofs.Settling.{told_as}
 use Rattle.jehvrukam.proofs.TwoTexts.{fits_sheet_short, fits_record_short, fitted}
 use Rattle.jehvrukam.proofs.jehvrukam_fits.Goals as goal
 
@@ -36,20 +37,20 @@ returns-then-is_short-2 c = fits_record_short _ _ _ _ _ _ _ (sym c.is_short.ensu
 
 -- src/lib.rt:81:1
 pub shape_of-sheet_table : goal.shape_of-sheet_table
-shape_of-sheet_table c = c.settle_text.auto.table ∙ c.fit_texts-f.auto.sheet_table
+shape_of-sheet_table c = c.settle_text.auto.table ∙ c.fit_texts-fitted.auto.sheet_table
 
 -- src/lib.rt:81:1
 pub shape_of-sheet_strings : goal.shape_of-sheet_strings
-shape_of-sheet_strings c = c.settle_text.auto.strings ∙ c.fit_texts-f.auto.sheet_strings
+shape_of-sheet_strings c = c.settle_text.auto.strings ∙ c.fit_texts-fitted.auto.sheet_strings
 
 -- src/lib.rt:81:1
 pub shape_of-record_table : goal.shape_of-record_table
-shape_of-record_table c = c.settle_text-2.auto.table ∙ c.fit_texts-f.auto.record_table
+shape_of-record_table c = c.settle_text-2.auto.table ∙ c.fit_texts-fitted.auto.record_table
 
 -- src/lib.rt:81:1
 pub shape_of-record_strings : goal.shape_of-record_strings
-shape_of-record_strings c = c.settle_text-2.auto.strings ∙ c.fit_texts-f.auto.record_strings
+shape_of-record_strings c = c.settle_text-2.auto.strings ∙ c.fit_texts-fitted.auto.record_strings
 
 -- src/lib.rt:81:1
 pub returns : goal.returns
-returns c = fitted _ _ _ _ _ _ _ (sym c.is_short.ensures ∙ c.if-is_short.false) (sym c.is_short-2.ensures ∙ c.if-is_short-2.false) c.fit_texts-f.ensures (record { first = c.fit_texts-f.auto.sheet_table; second = c.fit_texts-f.auto.sheet_strings }) (record { first = c.fit_texts-f.auto.record_table; second = c.fit_texts-f.auto.record_strings }) c.settle_text.ensures c.settle_text-2.ensures c.yes_or_no.ensures
+returns c = fitted _ _ _ _ _ _ _ (sym c.is_short.ensures ∙ c.if-is_short.false) (sym c.is_short-2.ensures ∙ c.if-is_short-2.false) c.told-f.ensures c.fit_texts-fitted.ensures (record { first = c.fit_texts-fitted.auto.sheet_table; second = c.fit_texts-fitted.auto.sheet_strings }) (record { first = c.fit_texts-fitted.auto.record_table; second = c.fit_texts-fitted.auto.record_strings }) c.settle_text.ensures c.settle_text-2.ensures (c.from.ensures ∙ told_as _)

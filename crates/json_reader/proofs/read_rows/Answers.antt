@@ -3,31 +3,29 @@ use native.Mathlib.Omega.{arith}
 use Rattle.model.proofs.Laws.Widths.{values_below}
 use Rattle.model.specs.Limits.{max_text_bytes, max_values}
 use Rattle.syntax.specs.Layout.{row_bytes, entry_bytes}
-use Rattle.json_reader.proofs.All.{told, number_small, rows_few, law_short_table, law_short_strings, law_refused, law_done}
+use Rattle.json_reader.proofs.All.{rows_few, law_short_table, law_short_strings, law_refused, law_done}
+use Rattle.json_reader.proofs.read_rows.Goals.{then-table-lt-TABLE_BYTES-via-then-table-lt-TABLE_BYTES, then-table-lt-TABLE_BYTES-via-else-table-lt-TABLE_BYTES+then-strings-lt-STRINGS_BYTES}
 use Rattle.json_reader.proofs.read_rows.Goals as goal
 
 pub returns-then-table-lt-TABLE_BYTES : goal.returns-then-table-lt-TABLE_BYTES
 unfolding max_values max_text_bytes row_bytes entry_bytes
-returns-then-table-lt-TABLE_BYTES c = law_short_table c.if-table-lt-TABLE_BYTES.true
+returns-then-table-lt-TABLE_BYTES c =
+    elim c.then-table-lt-TABLE_BYTES.branch [
+      | then-table-lt-TABLE_BYTES-via-then-table-lt-TABLE_BYTES w ↦ law_short_table w.if-table-lt-TABLE_BYTES.true
+      | then-table-lt-TABLE_BYTES-via-else-table-lt-TABLE_BYTES+then-strings-lt-STRINGS_BYTES w ↦ law_short_strings w.if-table-lt-TABLE_BYTES.false w.if-strings-lt-STRINGS_BYTES.true
+    ]
 
-pub returns-then-strings-lt-STRINGS_BYTES : goal.returns-then-strings-lt-STRINGS_BYTES
+pub read_text-requires : goal.read_text-requires
 unfolding max_values max_text_bytes row_bytes entry_bytes
-returns-then-strings-lt-STRINGS_BYTES c = law_short_strings c.if-table-lt-TABLE_BYTES.false c.if-strings-lt-STRINGS_BYTES.true
+read_text-requires c = (c.if-table-lt-TABLE_BYTES.false, c.if-strings-lt-STRINGS_BYTES.false)
 
-pub read_text-s-requires : goal.read_text-s-requires
+pub overflow_mul-last : goal.overflow_mul-last
+overflow_mul-last c = omega (arith, values_below, rows_few c.in-Ok.ensures)
+
+pub returns-in-Err : goal.returns-in-Err
 unfolding max_values max_text_bytes row_bytes entry_bytes
-read_text-s-requires c = (c.if-table-lt-TABLE_BYTES.false, c.if-strings-lt-STRINGS_BYTES.false)
+returns-in-Err c = law_refused c.if-table-lt-TABLE_BYTES.false c.if-strings-lt-STRINGS_BYTES.false c.read_text.auto.table c.read_text.auto.strings c.in-Err.ensures c.clear_from.ensures c.clear_from-in-Err.ensures
 
-pub overflow_cast-result : goal.overflow_cast-result
-overflow_cast-result c = omega (arith, number_small (told c.read_text-s.ensures c.in-NoText.is))
-
-pub overflow_mul-rows : goal.overflow_mul-rows
-overflow_mul-rows c = omega (arith, values_below, rows_few (told c.read_text-s.ensures c.in-Whole.is))
-
-pub returns-in-NoText : goal.returns-in-NoText
+pub returns-in-Ok : goal.returns-in-Ok
 unfolding max_values max_text_bytes row_bytes entry_bytes
-returns-in-NoText c = law_refused c.if-table-lt-TABLE_BYTES.false c.if-strings-lt-STRINGS_BYTES.false c.read_text-s.auto.table c.read_text-s.auto.strings (told c.read_text-s.ensures c.in-NoText.is) c.clear_from.ensures c.clear_from-in-NoText.ensures
-
-pub returns-in-Whole : goal.returns-in-Whole
-unfolding max_values max_text_bytes row_bytes entry_bytes
-returns-in-Whole c = law_done c.if-table-lt-TABLE_BYTES.false c.if-strings-lt-STRINGS_BYTES.false c.read_text-s.auto.table c.read_text-s.auto.strings (told c.read_text-s.ensures c.in-Whole.is) c.clear_between.ensures c.clear_from-in-Whole.ensures
+returns-in-Ok c = law_done c.if-table-lt-TABLE_BYTES.false c.if-strings-lt-STRINGS_BYTES.false c.read_text.auto.table c.read_text.auto.strings c.in-Ok.ensures c.clear_between.ensures c.clear_from-in-Ok.ensures

@@ -1,7 +1,7 @@
 -- Keyed: a name need be sought only among the names of a table that have its key, as its length or its first byte.
 use Rattle.std.specs.Prelude.{◌≡◌, refl, Bool, true, false, ◌||◌, cond, List, [], ◌∷◌, ℕ, T, eqb, get_or, length}
 use Rattle.std.proofs.Common.{sym, ap, ◌∙◌, arith, eqb-true}
-use Rattle.std.proofs.Math.Option.{none, some}
+use Rattle.std.specs.Prelude.{None, Some}
 use Rattle.std.proofs.lemmas.Bool.{eqb-false}
 use types.Run.{OneOf}
 use Rattle.model.specs.Bytes.{Bytes, same_bytes}
@@ -44,7 +44,7 @@ found_keyed key k s [] h = refl
 found_keyed key k s (e ∷ l) h = go (eqb (key e.0) k) refl (found_keyed key k s l h)
   where
     go : (b : Bool) → eqb (key e.0) k ≡ b → find (same_bytes s) (keyed key k l) ≡ find (same_bytes s) l
-        → find (same_bytes s) (cond b (e ∷ keyed key k l) (keyed key k l)) ≡ cond (same_bytes s e.0) (some e.1) (find (same_bytes s) l)
+        → find (same_bytes s) (cond b (e ∷ keyed key k l) (keyed key k l)) ≡ cond (same_bytes s e.0) (Some e.1) (find (same_bytes s) l)
     go true t f = rw f
     go false t f = rw (unlike key s e.0 (λ g. eqb-false (key e.0) k t (sym g ∙ h))) f
 
@@ -70,7 +70,7 @@ not_in (j ∷ js) {k} i h t e = go (eqb i j) refl t (λ u. not_in js i h.0 u e)
     go true q u f = h.1 (e ∙ eqb-true i j q)
     go false q u f = f u
 
-pub not_keyed : {A : Type 0} (key : Bytes → ℕ) (js : List ℕ) (s : Bytes) (l : List (Bytes × A)) → T (all (λ (e : Bytes × A). any (eqb (key e.0)) js) l) → NoneIn js (key s) → none ≡ find (same_bytes s) l
+pub not_keyed : {A : Type 0} (key : Bytes → ℕ) (js : List ℕ) (s : Bytes) (l : List (Bytes × A)) → T (all (λ (e : Bytes × A). any (eqb (key e.0)) js) l) → NoneIn js (key s) → None ≡ find (same_bytes s) l
 not_keyed key js s [] t h = refl
 not_keyed key js s (e ∷ l) t h =
     let here = any (eqb (key e.0)) js in

@@ -1,6 +1,6 @@
 -- Bounds: from a rule and a record within the bounds, evaluation gives a value within the bounds.
 use Rattle.std.specs.Prelude.{◌≡◌, ℕ, T}
-use Rattle.std.proofs.Math.Option.{some}
+use Rattle.std.specs.Prelude.{Some}
 use Rattle.model.specs.Bounds.{bounded}
 use Rattle.model.specs.Bytes.{split_on}
 use Rattle.model.specs.Eval.{run, value, outcome}
@@ -29,5 +29,5 @@ bounded_kept = record {
 }
 
 -- A rule and a record within the bounds give a value within the bounds.
-pub answer_bounded : (rule c : Value) (r : Rule) (n : ℕ) (v : Value) → shape rule ≡ some r → T (bounded rule) → T (bounded c) → outcome (run r c n) ≡ value v → T (bounded v)
+pub answer_bounded : (rule c : Value) (r : Rule) (n : ℕ) (v : Value) → shape rule ≡ Some r → T (bounded rule) → T (bounded c) → outcome (run r c n) ≡ value v → T (bounded v)
 answer_bounded = answer_kept (λ v. T (bounded v)) bounded_kept

@@ -2,8 +2,7 @@
 use Rattle.std.specs.Prelude.{◌≡◌, refl, Bool, true, false, ◌&&◌, ◌||◌, not, cond, List, [], ◌∷◌, ◌++◌, map, ℕ, zero, suc, ◌+◌, ◌*◌, ◌-◌, ◌≤◌, T, eqb, leb, get_or, length, take, drop, ℤ, pos, negsuc, neg_ℤ, ◌+ℤ◌}
 use Rattle.std.proofs.Common.{sym, ◌∙◌, ap, ap₂, subst, one-add, arith, le-leb, lt-ltb, ne_eqb, lit≤, T_not, leb→le, le→leb, eqb→eq}
 use Rattle.std.proofs.Math.Bool.{and-true, and-false, or-false, and_assoc, or_assoc, and-or_distrib_left}
-use Rattle.std.proofs.Math.Option
-use Rattle.std.proofs.Math.Option.{Option, none, some}
+use Rattle.std.specs.Prelude.{Option, None, Some, option_map}
 use Rattle.std.proofs.Math.Dec.{leb-zero, leb-suc-zero, leb-suc-suc, eqb-zero-suc, eqb-suc-zero, eqb-suc-suc}
 use Rattle.model.specs.Bytes.{Bytes, ascii, byte, is_digit}
 use Rattle.model.specs.Calendar.{date, day_number, is_valid, months, sum_first, year_start}
@@ -11,7 +10,7 @@ use Rattle.model.specs.DateForms.{day_forms, time_forms, forms, Mark, byte_that,
 use Rattle.model.specs.DateText.{fits_byte, starts_like, like, max_fraction_digits, digit_run, digit_at, two_digits, year_in, month_in, date_in, last_of_year, last_of_month, midnight, day_text, offset_digits, to_utc, milliseconds, zoned, after_seconds, is_time, time_text, date_text, is_date, is_day}
 use Rattle.model.specs.Instant.{in_range, ranged, ms_per_day, from_year0}
 use Rattle.model.specs.Lists.{any, all}
-use Rattle.model.specs.Refusal.{bad_date}
+use Rattle.model.specs.declared.refusal.Fault.TheVariants.{BadDate}
 use Rattle.model.specs.Result.{Result, refuse, ◌>>=◌, required, provided, is_ok}
 use Rattle.model.proofs.Laws.Calendar.{same_parts}
 use Rattle.model.proofs.Laws.DateText.{begins_length, midnight_ok, ranged_ok, like_begins, unlike, milliseconds_bound}
@@ -214,37 +213,37 @@ cond_last : {A : Type 0} (b c : Bool) (o q v : A) → b || c ≡ false → (c �
 cond_last true c o q v e f = absurd (true→t false (sym e))
 cond_last false c o q v e f = f e
 
-offset_none : (r : Bytes) → is_offset r ≡ false → offset_digits r ≡ none
+offset_none : (r : Bytes) → is_offset r ≡ false → offset_digits r ≡ None
 unfolding is_offset offset_digits
 offset_none r e =
-    cond_last (like (ascii "0") r) _ _ _ none e
-    (λ e. cond_last (like (ascii "00") r) _ _ _ none e
-    (λ e. cond_last (like (ascii "000") r) _ _ _ none e
-    (λ e. cond_last (like (ascii "0000") r) _ _ _ none e
-    (λ e. cond_last (like (ascii "0:00") r) _ _ _ none e
-    (λ e. cond_last (like (ascii "00:00") r) _ _ _ none e
+    cond_last (like (ascii "0") r) _ _ _ None e
+    (λ e. cond_last (like (ascii "00") r) _ _ _ None e
+    (λ e. cond_last (like (ascii "000") r) _ _ _ None e
+    (λ e. cond_last (like (ascii "0000") r) _ _ _ None e
+    (λ e. cond_last (like (ascii "0:00") r) _ _ _ None e
+    (λ e. cond_last (like (ascii "00:00") r) _ _ _ None e
     (λ e. refl))))))
 
-sign_none : (a b c : Bool) (f g : ℕ → ℤ) (o : Option ℕ) → (a || b) && c ≡ false → (c ≡ false → o ≡ none) → cond a (Option.map f o) (cond b (Option.map g o) none) ≡ none
-sign_none true b c f g o e h = ap (Option.map f) (h e)
-sign_none false true c f g o e h = ap (Option.map g) (h e)
+sign_none : (a b c : Bool) (f g : ℕ → ℤ) (o : Option ℕ) → (a || b) && c ≡ false → (c ≡ false → o ≡ None) → cond a (option_map f o) (cond b (option_map g o) None) ≡ None
+sign_none true b c f g o e h = ap (option_map f) (h e)
+sign_none false true c f g o e h = ap (option_map g) (h e)
 sign_none false false c f g o e h = refl
 
-zone_none : (z : Bytes) → is_zone z ≡ false → to_utc z ≡ none
+zone_none : (z : Bytes) → is_zone z ≡ false → to_utc z ≡ None
 unfolding is_zone to_utc
 zone_none z e =
-    cond_last (like (ascii "") z) _ _ _ none e
-    (λ e. cond_last (like (ascii "Z") z) _ _ _ none e
+    cond_last (like (ascii "") z) _ _ _ None e
+    (λ e. cond_last (like (ascii "Z") z) _ _ _ None e
     (λ e. sign_none (starts_like (ascii "+") z) (starts_like (ascii "-") z) (is_offset (drop 1 z)) _ _ _ e (offset_none (drop 1 z))))
 
-zoned_bad : (u : ℕ) (z : Bytes) → is_zone z ≡ false → zoned u z ≡ refuse bad_date
+zoned_bad : (u : ℕ) (z : Bytes) → is_zone z ≡ false → zoned u z ≡ refuse BadDate
 zoned_bad u z e = rw (zone_none z e)
 
-provided_bad : (b c : Bool) (r : Result ℤ) → b && c ≡ false → (c ≡ false → r ≡ refuse bad_date) → provided b bad_date r ≡ refuse bad_date
+provided_bad : (b c : Bool) (r : Result ℤ) → b && c ≡ false → (c ≡ false → r ≡ refuse BadDate) → provided b BadDate r ≡ refuse BadDate
 provided_bad true c r e f = f e
 provided_bad false c r e f = refl
 
-tail_bad : (u : ℕ) (t : Bytes) → is_tail t ≡ false → after_seconds u t ≡ refuse bad_date
+tail_bad : (u : ℕ) (t : Bytes) → is_tail t ≡ false → after_seconds u t ≡ refuse BadDate
 unfolding is_tail after_seconds
 tail_bad u t e = go (starts_like (ascii ".") t) e
   where
@@ -255,28 +254,28 @@ tail_bad u t e = go (starts_like (ascii ".") t) e
     c = leb 1 n && leb n max_fraction_digits
 
     go : (b : Bool) → cond b (c && is_zone (drop (1 + n) t)) (is_zone t) ≡ false
-        → cond b (provided c bad_date (zoned (u + milliseconds (take n (drop 1 t))) (drop (1 + n) t))) (zoned u t) ≡ refuse bad_date
+        → cond b (provided c BadDate (zoned (u + milliseconds (take n (drop 1 t))) (drop (1 + n) t))) (zoned u t) ≡ refuse BadDate
     go true e = provided_bad c (is_zone (drop (1 + n) t)) _ e (zoned_bad (u + milliseconds (take n (drop 1 t))) (drop (1 + n) t))
     go false e = zoned_bad u t e
 
-time_bad : (s : Bytes) → is_tail (drop 19 s) ≡ false → time_text s ≡ refuse bad_date
+time_bad : (s : Bytes) → is_tail (drop 19 s) ≡ false → time_text s ≡ refuse BadDate
 time_bad s e =
     let c = is_valid (date_in s) && is_time (two_digits s 11) (two_digits s 14) (two_digits s 17) in
     provided_bad c false _ (and-false c) (λ f. tail_bad _ (drop 19 s) e)
 
-day_bad : (s : Bytes) → is_day_shape s ≡ false → day_text s ≡ refuse bad_date
+day_bad : (s : Bytes) → is_day_shape s ≡ false → day_text s ≡ refuse BadDate
 unfolding is_day_shape day_text
 day_bad s e =
-    cond_last (like (ascii "0000") s) _ _ _ (refuse bad_date) e
-    (λ e. cond_last (like (ascii "0000-00") s) _ _ _ (refuse bad_date) e
-    (λ e. cond_last (like (ascii "0000-00-00") s) _ _ _ (refuse bad_date) e
+    cond_last (like (ascii "0000") s) _ _ _ (refuse BadDate) e
+    (λ e. cond_last (like (ascii "0000-00") s) _ _ _ (refuse BadDate) e
+    (λ e. cond_last (like (ascii "0000-00-00") s) _ _ _ (refuse BadDate) e
     (λ e. refl)))
 
-shape_bad : (s : Bytes) → is_shape s ≡ false → date_text s ≡ refuse bad_date
+shape_bad : (s : Bytes) → is_shape s ≡ false → date_text s ≡ refuse BadDate
 unfolding is_shape date_text
 shape_bad s e = go (starts_like time_shape s) e
   where
-    go : (b : Bool) → cond b (is_tail (drop 19 s)) (is_day_shape s) ≡ false → cond b (time_text s) (day_text s) ≡ refuse bad_date
+    go : (b : Bool) → cond b (is_tail (drop 19 s)) (is_day_shape s) ≡ false → cond b (time_text s) (day_text s) ≡ refuse BadDate
     go true e = time_bad s e
     go false e = day_bad s e
 
@@ -352,8 +351,8 @@ cond_pick P false c o q f g h = g h
 
 -- An offset is at most a day.
 abbrev Near : Option ℕ → Type 0
-Near none = ⊥
-Near (some k) = T (leb k ms_per_day)
+Near None = ⊥
+Near (Some k) = T (leb k ms_per_day)
 
 offset_ones : (r : Bytes) → T (is_offset r) → Near (offset_digits (with_ones r))
 unfolding is_offset offset_digits
@@ -368,22 +367,22 @@ offset_ones r h =
     (λ k. absurd k)))))) h)
 
 abbrev NearZ : Option ℤ → Type 0
-NearZ none = ⊥
-NearZ (some (pos k)) = T (leb k ms_per_day)
-NearZ (some (negsuc k)) = T (leb (suc k) ms_per_day)
+NearZ None = ⊥
+NearZ (Some (pos k)) = T (leb k ms_per_day)
+NearZ (Some (negsuc k)) = T (leb (suc k) ms_per_day)
 
-sign_near : (a b c : Bool) (o : Option ℕ) → (T c → Near o) → T ((a || b) && c) → NearZ (cond a (Option.map (λ k. neg_ℤ (pos k)) o) (cond b (Option.map pos o) none))
+sign_near : (a b c : Bool) (o : Option ℕ) → (T c → Near o) → T ((a || b) && c) → NearZ (cond a (option_map (λ k. neg_ℤ (pos k)) o) (cond b (option_map pos o) None))
 sign_near true b c o f h = ahead o (f h)
   where
-    ahead : (o : Option ℕ) → Near o → NearZ (Option.map (λ k. neg_ℤ (pos k)) o)
-    ahead none h = h
-    ahead (some zero) h = h
-    ahead (some (suc k)) h = h
+    ahead : (o : Option ℕ) → Near o → NearZ (option_map (λ k. neg_ℤ (pos k)) o)
+    ahead None h = h
+    ahead (Some zero) h = h
+    ahead (Some (suc k)) h = h
 sign_near false true c o f h = behind o (f h)
   where
-    behind : (o : Option ℕ) → Near o → NearZ (Option.map pos o)
-    behind none h = h
-    behind (some k) h = h
+    behind : (o : Option ℕ) → Near o → NearZ (option_map pos o)
+    behind None h = h
+    behind (Some k) h = h
 sign_near false false c o f h = absurd h
 
 zone_ones : (z : Bytes) → T (is_zone z) → NearZ (to_utc (with_ones z))
@@ -395,7 +394,7 @@ zone_ones z h =
     (sign_near (starts_like (ascii "+") z) (starts_like (ascii "-") z) (is_offset (drop 1 z)) (offset_digits (with_ones (drop 1 z))) (offset_ones (drop 1 z)))) h)
 
 -- A time of the years that the 1s give, with an offset, is in range.
-near_in_range : (u : ℕ) (c : ℤ) → ms_per_day ≤ u → u ≤ 60000000000000 → NearZ (some c) → T (in_range (from_year0 u +ℤ c))
+near_in_range : (u : ℕ) (c : ℤ) → ms_per_day ≤ u → u ≤ 60000000000000 → NearZ (Some c) → T (in_range (from_year0 u +ℤ c))
 near_in_range u (pos k) low high h =
     let e = leb→le k ms_per_day h in
     let n = 62167219200000 - suc u in
@@ -409,9 +408,9 @@ near_in_range u (negsuc k) low high h =
 zoned_ones : (u : ℕ) (z : Bytes) → ms_per_day ≤ u → u ≤ 60000000000000 → T (is_zone z) → T (is_ok (zoned u (with_ones z)))
 zoned_ones u z low high h = go (to_utc (with_ones z)) (zone_ones z h)
   where
-    go : (o : Option ℤ) → NearZ o → T (is_ok (required bad_date o >>= λ c. ranged (from_year0 u +ℤ c)))
-    go none k = absurd k
-    go (some c) k = rw (ranged_ok (from_year0 u +ℤ c) (near_in_range u c low high k)) tt
+    go : (o : Option ℤ) → NearZ o → T (is_ok (required BadDate o >>= λ c. ranged (from_year0 u +ℤ c)))
+    go None k = absurd k
+    go (Some c) k = rw (ranged_ok (from_year0 u +ℤ c) (near_in_range u c low high k)) tt
 
 tail_ones : (u : ℕ) (t : Bytes) → ms_per_day ≤ u → u ≤ 50000000000000 → T (is_tail t) → T (is_ok (after_seconds u (with_ones t)))
 unfolding is_tail after_seconds
@@ -433,7 +432,7 @@ tail_ones u t low high h = rw (ones_begins (ascii ".") t tt) (go (starts_like (a
     rest = ones_drop (1 + k) t ∙ ap (λ (i : ℕ). with_ones (drop (1 + i) t)) same
 
     go : (b : Bool) → T (cond b ((leb 1 n && leb n max_fraction_digits) && is_zone (drop (1 + n) t)) (is_zone t))
-        → T (is_ok (cond b (provided (leb 1 k && leb k max_fraction_digits) bad_date (zoned (u + m) (drop (1 + k) (with_ones t)))) (zoned u (with_ones t))))
+        → T (is_ok (cond b (provided (leb 1 k && leb k max_fraction_digits) BadDate (zoned (u + m) (drop (1 + k) (with_ones t)))) (zoned u (with_ones t))))
     go true h =
         let few = and_l (leb 1 n && leb n max_fraction_digits) (is_zone (drop (1 + n) t)) h in
         let c = ap (λ (i : ℕ). leb 1 i && leb i max_fraction_digits) same ∙ T→true (leb 1 n && leb n max_fraction_digits) few in
@@ -470,7 +469,7 @@ day_ones s h =
 
 -- The rest of a text after its seconds.
 abbrev after_time : Date → ℕ → ℕ → ℕ → Bytes → Result ℤ
-after_time w h m c r = provided (is_valid w && is_time h m c) bad_date (after_seconds (day_number w * ms_per_day + ((h * 60 + m) * 60 + c) * 1000) r)
+after_time w h m c r = provided (is_valid w && is_time h m c) BadDate (after_seconds (day_number w * ms_per_day + ((h * 60 + m) * 60 + c) * 1000) r)
 
 time_ones : (s : Bytes) → T (starts_like time_shape s) → T (is_tail (drop 19 s)) → Good (time_text (with_ones s))
 unfolding months sum_first year_start
@@ -512,10 +511,10 @@ shape_same s = simp (ones_begins time_shape s tt, ones_drop 19 s, tail_same, day
 
 -- ---- the theorems
 -- A text of none of the nineteen forms is refused as a bad date.
-pub no_form_bad : (s : Bytes) → is_of forms s ≡ false → date_text s ≡ refuse bad_date
+pub no_form_bad : (s : Bytes) → is_of forms s ≡ false → date_text s ≡ refuse BadDate
 no_form_bad s e = shape_bad s (sym (form_is_shape s) ∙ e)
 
-pub no_day_form_bad : (s : Bytes) → is_of day_forms s ≡ false → day_text s ≡ refuse bad_date
+pub no_day_form_bad : (s : Bytes) → is_of day_forms s ≡ false → day_text s ≡ refuse BadDate
 no_day_form_bad s e = day_bad s (sym (day_fits s) ∙ e)
 
 -- A text is of one of the forms exactly if it is a date once a 1 stands for each of its digits: so a text of a form is refused only for its numbers.

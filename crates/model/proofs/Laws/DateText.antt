@@ -1,12 +1,13 @@
 -- DateText: an instant that is read is in range; a day's text is a date's text; which faults refuse a text.
 use Rattle.std.specs.Prelude.{◌≡◌, refl, Bool, true, false, ◌&&◌, cond, [], ◌∷◌, ◌++◌, ℕ, zero, suc, ◌+◌, ◌*◌, ◌-◌, ◌≤◌, ◌<◌, T, eqb, leb, ltb, get_or, length, drop, take, ℤ, pos, negsuc, ◌+ℤ◌}
 use Rattle.std.proofs.Common.{sym, ◌∙◌, ap, subst, arith, ltb-true, ltb-false, lt-ltb, le-ltb, le-leb, ne_eqb, leb→le, le→leb, eqb→eq}
-use Rattle.std.proofs.Math.Option.{Option, none, some}
+use Rattle.std.specs.Prelude.{Option, None, Some}
 use Rattle.model.specs.Bytes.{Bytes, ascii, byte, is_digit, digit_value}
 use Rattle.model.specs.Calendar.{day_number, is_valid, months, sum_first, year_start}
 use Rattle.model.specs.DateText.{fits_byte, starts_like, like, offset_digits, two_digits, year_in, month_in, date_in, last_of_year, last_of_month, midnight, day_text, to_utc, zoned, after_seconds, is_time, time_text, date_text, is_date, is_day, digit_run, milliseconds, max_fraction_digits}
 use Rattle.model.specs.Instant.{in_range, ranged, ms_per_day, from_year0, since_year0}
-use Rattle.model.specs.Refusal.{Fault, wrong_kind, bad_date, out_of_range}
+use Rattle.model.specs.declared.refusal.Fault.{Fault}
+use Rattle.model.specs.declared.refusal.Fault.TheVariants.{WrongKind, BadDate, OutOfRange}
 use Rattle.model.specs.Result.{Result, ok, refuse, ◌>>=◌, required, is_ok}
 use Rattle.model.proofs.Laws.Calendar.{valid_parts, day_bound}
 use Rattle.model.proofs.Laws.Logic.{and_l, and_r, T→true, true→t}
@@ -48,28 +49,28 @@ abbrev pub Within : (Fault → Bool) → Result ℤ → Type 0
 Within may r = Yields (May may) InRange r
 
 abbrev pub only_bad : Fault → Bool
-only_bad wrong_kind = false
-only_bad bad_date = true
-only_bad out_of_range = false
+only_bad WrongKind = false
+only_bad BadDate = true
+only_bad OutOfRange = false
 
 abbrev pub only_out : Fault → Bool
-only_out wrong_kind = false
-only_out bad_date = false
-only_out out_of_range = true
+only_out WrongKind = false
+only_out BadDate = false
+only_out OutOfRange = true
 
 abbrev pub bad_or_out : Fault → Bool
-bad_or_out wrong_kind = false
-bad_or_out bad_date = true
-bad_or_out out_of_range = true
+bad_or_out WrongKind = false
+bad_or_out BadDate = true
+bad_or_out OutOfRange = true
 
-pub within_ranged : (may : Fault → Bool) → T (may out_of_range) → (t : ℤ) → Within may (ranged t)
-within_ranged may h t = yields_provided (May may) InRange (in_range t) out_of_range (ok t) h (λ k. k)
+pub within_ranged : (may : Fault → Bool) → T (may OutOfRange) → (t : ℤ) → Within may (ranged t)
+within_ranged may h t = yields_provided (May may) InRange (in_range t) OutOfRange (ok t) h (λ k. k)
 
 within_more : (r : Result ℤ) → Within only_bad r → Within bad_or_out r
 within_more (ok t) h = h
-within_more (refuse wrong_kind) h = h
-within_more (refuse bad_date) h = tt
-within_more (refuse out_of_range) h = tt
+within_more (refuse WrongKind) h = h
+within_more (refuse BadDate) h = tt
+within_more (refuse OutOfRange) h = tt
 
 -- ---- shapes
 pub begins_length : (p s : Bytes) → T (starts_like p s) → length p ≤ length s
@@ -113,7 +114,7 @@ midnight_ok w v h = rw (T→true (is_valid w) v) (ranged_ok (from_year0 (day_num
 
 within_midnight : (w : Date) → w.year ≤ 9999 → Within only_bad (midnight w)
 within_midnight w h =
-    yields_provided (May only_bad) InRange (is_valid w) bad_date _ tt
+    yields_provided (May only_bad) InRange (is_valid w) BadDate _ tt
     (λ v. let i = midnight_in_range w v h in rw (ranged_ok (from_year0 (day_number w * ms_per_day)) i) i)
 
 pub day_within : (s : Bytes) → Within only_bad (day_text s)
@@ -143,7 +144,7 @@ day_form s h =
 pub day_in_range : (s : Bytes) (t : ℤ) → day_text s ≡ ok t → T (in_range t)
 day_in_range s t e = subst (Within only_bad) e (day_within s)
 
-pub day_never_out : (s : Bytes) → ¬ (day_text s ≡ refuse out_of_range)
+pub day_never_out : (s : Bytes) → ¬ (day_text s ≡ refuse OutOfRange)
 day_never_out s e = subst (Within only_bad) e (day_within s)
 
 -- ---- fractions
@@ -177,23 +178,23 @@ no_offset u = refl
 within_zoned : (u : ℕ) (z : Bytes) → Within bad_or_out (zoned u z)
 within_zoned u z = go (to_utc z)
   where
-    go : (o : Option ℤ) → Within bad_or_out (required bad_date o >>= λ correction. ranged (from_year0 u +ℤ correction))
-    go none = tt
-    go (some c) = within_ranged bad_or_out tt (from_year0 u +ℤ c)
+    go : (o : Option ℤ) → Within bad_or_out (required BadDate o >>= λ correction. ranged (from_year0 u +ℤ correction))
+    go None = tt
+    go (Some c) = within_ranged bad_or_out tt (from_year0 u +ℤ c)
 
 within_seconds : (u : ℕ) (t : Bytes) → Within bad_or_out (after_seconds u t)
 unfolding after_seconds
 within_seconds u t =
     let digits = digit_run (drop 1 t) in
     yields_cond (May bad_or_out) InRange (starts_like (ascii ".") t) _ _
-    (λ h. yields_provided (May bad_or_out) InRange (leb 1 digits && leb digits max_fraction_digits) bad_date _ tt (λ k. within_zoned (u + milliseconds (take digits (drop 1 t))) (drop (1 + digits) t)))
+    (λ h. yields_provided (May bad_or_out) InRange (leb 1 digits && leb digits max_fraction_digits) BadDate _ tt (λ k. within_zoned (u + milliseconds (take digits (drop 1 t))) (drop (1 + digits) t)))
     (within_zoned u t)
 
 pub date_within : (s : Bytes) → Within bad_or_out (date_text s)
 unfolding date_text
 date_within s =
     yields_cond (May bad_or_out) InRange (starts_like (ascii "0000-00-00T00:00:00") s) _ _
-    (λ h. yields_provided (May bad_or_out) InRange (is_valid (date_in s) && is_time (two_digits s 11) (two_digits s 14) (two_digits s 17)) bad_date _ tt (λ k. within_seconds _ (drop 19 s)))
+    (λ h. yields_provided (May bad_or_out) InRange (is_valid (date_in s) && is_time (two_digits s 11) (two_digits s 14) (two_digits s 17)) BadDate _ tt (λ k. within_seconds _ (drop 19 s)))
     (within_more (day_text s) (day_within s))
 
 -- An instant that is read is in range.
@@ -201,15 +202,15 @@ pub date_in_range : (s : Bytes) (t : ℤ) → date_text s ≡ ok t → T (in_ran
 date_in_range s t e = subst (Within bad_or_out) e (date_within s)
 
 -- A text is refused by bad_date or out_of_range only.
-pub date_never_kind : (s : Bytes) → ¬ (date_text s ≡ refuse wrong_kind)
+pub date_never_kind : (s : Bytes) → ¬ (date_text s ≡ refuse WrongKind)
 date_never_kind s e = subst (Within bad_or_out) e (date_within s)
 
-pub day_never_kind : (s : Bytes) → ¬ (day_text s ≡ refuse wrong_kind)
+pub day_never_kind : (s : Bytes) → ¬ (day_text s ≡ refuse WrongKind)
 day_never_kind s e = subst (Within only_bad) e (day_within s)
 
 -- ---- a day's text is a date's
 -- A text that begins with a time is none of the first three forms.
-pub time_no_day : (s : Bytes) → T (starts_like (ascii "0000-00-00T00:00:00") s) → day_text s ≡ refuse bad_date
+pub time_no_day : (s : Bytes) → T (starts_like (ascii "0000-00-00T00:00:00") s) → day_text s ≡ refuse BadDate
 unfolding day_text
 time_no_day s h =
     let e = begins_length (ascii "0000-00-00T00:00:00") s h in
@@ -223,7 +224,7 @@ unfolding date_text
 day_is_date s t e = go (starts_like (ascii "0000-00-00T00:00:00") s) refl
   where
     go : (b : Bool) → starts_like (ascii "0000-00-00T00:00:00") s ≡ b → cond b (time_text s) (day_text s) ≡ ok t
-    go true f = absurd (ok_no_refusal t bad_date (sym e ∙ time_no_day s (true→t _ f)))
+    go true f = absurd (ok_no_refusal t BadDate (sym e ∙ time_no_day s (true→t _ f)))
     go false f = e
 
 pub is_day→is_date : (s : Bytes) → T (is_day s) → T (is_date s)

@@ -4,7 +4,7 @@ use Rattle.std.specs.Prelude.{◌≡◌, refl, ◌⊎◌, ℕ, zero, suc}
 use Rattle.std.proofs.Common.{sym, ap, ◌∙◌, inl, inr, ⊎_elim, arith}
 use mathlib.Core.List.Memᴰ
 use mathlib.Core.List.{List, [], ◌∷◌, ◌++◌, append-nil, append_assoc, cons-ne-nil, reverse, reverse-reverse, Memᴰ}
-use Rattle.std.proofs.Math.Option.{none, some}
+use Rattle.std.specs.Prelude.{None, Some}
 use Rattle.model.specs.Eval.{branch, context, fold, body, body_all, body_and, eval, run}
 use Rattle.model.proofs.Laws.Induction.{holds_of_eval}
 use Rattle.model.proofs.Laws.Limit.{log_nil}
@@ -12,7 +12,9 @@ use Rattle.model.proofs.Laws.Trace.{all_closed}
 use Rattle.model.proofs.Laws.Unbegun.{Unbegun}
 use Rattle.model.specs.Operations.{operate}
 use Rattle.model.specs.Path.{Path, value_at}
-use Rattle.model.specs.Refusal.{EvalFault, fault, wrong_kind, out_of_steps}
+use Rattle.model.specs.declared.refusal.Fault.TheVariants.{WrongKind}
+use Rattle.model.specs.declared.refusal.EvalFault.{EvalFault}
+use Rattle.model.specs.declared.refusal.EvalFault.TheVariants.{Operation as fault, OutOfSteps}
 use Rattle.model.specs.Rule.{Literal, Rule, literal, var, if, and, reduce, apply, Operation, Rules, no_rules, rule, literal_value}
 use Rattle.model.specs.Run.{Place, Name, Ended, got, failed, Run, trace, log, lift, continue, ◌>>=◌}
 use Rattle.model.specs.Truth.{Truth, truthy, falsy, neither, truth}
@@ -24,7 +26,7 @@ log_log t u (failed e s) = ap (failed e) (sym (append_assoc t u s))
 
 -- ---- steps
 -- Refusal 10: "one step more than the limit would be needed"
-pub no_step_left : (r : Rule) (p : Name) (c : Value) → eval r p c 0 ≡ failed out_of_steps []
+pub no_step_left : (r : Rule) (p : Name) (c : Value) → eval r p c 0 ≡ failed OutOfSteps []
 no_step_left r p c = refl
 
 -- "Beginning to evaluate a rule, literals included, is one step."
@@ -116,7 +118,7 @@ unfolding body_and
 met_falsy no_rules k p c v n h = rw h
 met_falsy (rule r rs) k p c v n h = rw h
 
-met_neither : (rs : Rules) (k : ℕ) (p : Name) (c v : Value) (n : ℕ) → truth v ≡ neither → body_and rs k p c v n ≡ failed (fault wrong_kind) []
+met_neither : (rs : Rules) (k : ℕ) (p : Name) (c v : Value) (n : ℕ) → truth v ≡ neither → body_and rs k p c v n ≡ failed (fault WrongKind) []
 unfolding body_and
 met_neither no_rules k p c v n h = rw h
 met_neither (rule r rs) k p c v n h = rw h
@@ -137,8 +139,8 @@ module _ (r : Rule) (k : ℕ) (p : Name) (c : Value) (n : ℕ) where
   and_last {v} {j} {t} e h = rw (e, h) (ap (got v j) (append-nil t))
 
   -- An instant is 7 when met."
-  pub and_neither : (rs : Rules) {v : Value} {j : ℕ} {t : List Name} → eval r (k ∷ p) c n ≡ got v j t → truth v ≡ neither → and_from r rs k p c n ≡ failed (fault wrong_kind) t
-  and_neither rs {v} {j} {t} e h = rw (e, met_neither rs (suc k) p c v j h) (ap (failed (fault wrong_kind)) (append-nil t))
+  pub and_neither : (rs : Rules) {v : Value} {j : ℕ} {t : List Name} → eval r (k ∷ p) c n ≡ got v j t → truth v ≡ neither → and_from r rs k p c n ≡ failed (fault WrongKind) t
+  and_neither rs {v} {j} {t} e h = rw (e, met_neither rs (suc k) p c v j h) (ap (failed (fault WrongKind)) (append-nil t))
 
   pub and_refused : (rs : Rules) {e : EvalFault} {t : List Name} → eval r (k ∷ p) c n ≡ failed e t → and_from r rs k p c n ≡ failed e t
   and_refused rs h = rw h
@@ -161,12 +163,12 @@ module _ (r lambda initial : Rule) (p : Name) (c : Value) (n : ℕ) where
 
     module _ {i : Value} {m : ℕ} {u : List Name} (initially : eval initial (2 ∷ p) c k ≡ got i m u) where
       -- operand not an array is 7;
-      pub reduce_no_array : as_array v ≡ none → eval (reduce r lambda initial) p c (suc n) ≡ failed (fault wrong_kind) (p ∷ t ++ u)
+      pub reduce_no_array : as_array v ≡ None → eval (reduce r lambda initial) p c (suc n) ≡ failed (fault WrongKind) (p ∷ t ++ u)
       unfolding body
       reduce_no_array h = rw (operand, initially, h, append-nil)
 
       -- then the lambda for each item, in order,
-      pub reduce_array : {vs : Values} → as_array v ≡ some vs → eval (reduce r lambda initial) p c (suc n) ≡ log (p ∷ t ++ u) (folding lambda p vs i m)
+      pub reduce_array : {vs : Values} → as_array v ≡ Some vs → eval (reduce r lambda initial) p c (suc n) ≡ log (p ∷ t ++ u) (folding lambda p vs i m)
       unfolding body
       reduce_array {vs} h = rw (operand, initially, h) (simp (log_nil, log_log))
 

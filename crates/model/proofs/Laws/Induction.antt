@@ -2,7 +2,7 @@
 use Rattle.std.specs.Prelude.{◌≡◌, refl, ℕ, suc, ◌+◌}
 use Rattle.std.proofs.Common.{subst, arith}
 use mathlib.Core.List.{[], ◌∷◌, reverse_aux}
-use Rattle.std.proofs.Math.Option.{some}
+use Rattle.std.specs.Prelude.{Some}
 use Rattle.model.specs.Eval.{branch, go_on, fold, context, body, body_all, body_and, eval}
 use Rattle.model.specs.EvalPlain as Plain
 use Rattle.model.specs.EvalPlain.{Plain, gives, denies, PlainRun, step, plain_body, plain_all, plain_and, eval_plain}
@@ -10,7 +10,9 @@ use Rattle.model.specs.Operations.{operate}
 use Rattle.model.specs.Option.{◌>>=◌}
 use Rattle.model.specs.Path.{value_at}
 use Rattle.model.specs.Place.{rule_at, subrule}
-use Rattle.model.specs.Refusal.{Fault, fault, wrong_kind}
+use Rattle.model.specs.declared.refusal.Fault.{Fault}
+use Rattle.model.specs.declared.refusal.Fault.TheVariants.{WrongKind}
+use Rattle.model.specs.declared.refusal.EvalFault.TheVariants.{Operation}
 use Rattle.model.specs.Result.{Result, ok, refuse, required}
 use Rattle.model.specs.Rule.{Rule, literal, var, if, and, reduce, apply, Rules, no_rules, rule, literal_value}
 use Rattle.model.specs.Run
@@ -22,17 +24,17 @@ use Rattle.model.specs.Value.{Value, Values, no_items, item, as_array}
 -- A property of runs alone is a relation that does not look at the partner.
 pub record Closed (R : (A : Type 0) → Run A → PlainRun A → Type 0) (N : Name → Type 0) : Type 1 where
   pub returns : {A : Type 0} (a : A) → R A (return a) (gives a)
-  pub refuses : {A : Type 0} (e : Fault) → R A (refused (fault e)) (denies (fault e))
+  pub refuses : {A : Type 0} (e : Fault) → R A (refused (Operation e)) (denies (Operation e))
   pub begins : {A : Type 0} (p : Name) {m : Run A} {l : PlainRun A} → N p → R A m l → R A (begin p m) (step l)
   pub chains : {A B : Type 0} {m : Run A} {l : PlainRun A} {f : A → Run B} {g : A → PlainRun B} → R A m l → ((a : A) → R B (f a) (g a)) → R B (Run.◌>>=◌ m f) (Plain.◌>>=◌ l g)
 
 -- N holds of the name of each rule in a rule of this name.
 abbrev pub Named : (Name → Type 0) → Rule → Name → Type 0
-Named N r p = (q : Place) (s : Rule) → subrule q r ≡ some s → N (reverse_aux q p)
+Named N r p = (q : Place) (s : Rule) → subrule q r ≡ Some s → N (reverse_aux q p)
 
 -- N holds of the name of each rule in these operands, the first of which stands at position k.
 abbrev NamedAll : (Name → Type 0) → Rules → ℕ → Name → Type 0
-NamedAll N rs k p = (j : ℕ) (q : Place) (s : Rule) → (rule_at rs j >>= subrule q) ≡ some s → N (reverse_aux q ((j + k) ∷ p))
+NamedAll N rs k p = (j : ℕ) (q : Place) (s : Rule) → (rule_at rs j >>= subrule q) ≡ Some s → N (reverse_aux q ((j + k) ∷ p))
 
 module _ {R : (A : Type 0) → Run A → PlainRun A → Type 0} {N : Name → Type 0} (closed : Closed R N) where
   lifts : {A : Type 0} (r : Result A) → R A (lift r) (Plain.lift r)
@@ -47,7 +49,7 @@ module _ {R : (A : Type 0) → Run A → PlainRun A → Type 0} {N : Name → Ty
   goes_on : (t : Truth) (v : Value) {m : Run Value} {m' : PlainRun Value} → R Value m m' → R Value (go_on t v m) (Plain.go_on t v m')
   goes_on truthy v h = h
   goes_on falsy v h = closed.returns v
-  goes_on neither v h = closed.refuses wrong_kind
+  goes_on neither v h = closed.refuses WrongKind
 
   folds : {f : Value → Value → Run Value} {g : Value → Value → PlainRun Value} → ((a b : Value) → R Value (f a b) (g a b)) → (vs : Values) (acc : Value) → R Value (fold f vs acc) (Plain.fold g vs acc)
   folds h no_items acc = closed.returns acc
@@ -79,7 +81,7 @@ module _ {R : (A : Type 0) → Run A → PlainRun A → Type 0} {N : Name → Ty
         closed.begins p (h [] _ refl)
         (closed.chains (holds_of_eval r (0 ∷ p) c (λ q. h (0 ∷ q)))
         (λ v. closed.chains (holds_of_eval initial (2 ∷ p) c (λ q. h (2 ∷ q)))
-        (λ i. closed.chains (lifts (required wrong_kind (as_array v)))
+        (λ i. closed.chains (lifts (required WrongKind (as_array v)))
         (λ vs. folds (λ cur acc. holds_of_eval lambda (1 ∷ p) (context cur acc) (λ q. h (1 ∷ q))) vs i))))
     holds_of_eval (apply o rs) p c h =
         closed.begins p (h [] _ refl)

@@ -1,7 +1,7 @@
 -- Kept: what evaluation keeps. A property of values that the steps of evaluation keep, and that holds of the rule and of the record, holds of the answer.
 use Rattle.std.specs.Prelude.{◌≡◌, Bool, true, false, ◌&&◌, cond, ℕ, zero, suc, T, ℤ, pos, negsuc, ◌+ℤ◌, length}
 use mathlib.Core.List.{List, [], ◌∷◌}
-use Rattle.std.proofs.Math.Option.{Option, some}
+use Rattle.std.specs.Prelude.{Option, Some}
 use Rattle.std.proofs.Math.Dec.{leb}
 use Rattle.model.specs.Bytes.{Bytes, ascii, same_bytes, split_on}
 use Rattle.model.specs.DateText.{date_text, day_text}
@@ -10,7 +10,7 @@ use Rattle.model.specs.Instant.{in_range}
 use Rattle.model.specs.Operations.{unary, binary, equality, membership, negated, numbers, sum, plus_time, date_of_birth, is_uvci_separator, drop_prefix, nth_string, fragment, extract_from_uvci, operate}
 use Rattle.model.specs.Option.{◌>>=◌}
 use Rattle.model.specs.Path.{path_of}
-use Rattle.model.specs.Refusal.{wrong_kind, out_of_range}
+use Rattle.model.specs.declared.refusal.Fault.TheVariants.{WrongKind, OutOfRange}
 use Rattle.model.specs.Result
 use Rattle.model.specs.Result.{Result, ok, required}
 use Rattle.model.specs.Rule.{Operation, Rule, literal, var, if, and, reduce, apply, Rules, no_rules, rule, literal_value}
@@ -96,7 +96,7 @@ module _ (P : Value → Type 0) (inherited : Inherited P) where
 
   -- A rule of three rules: `if` and `reduce`.
   three_kept : (make : Rule → Rule → Rule → Rule) → ((x y z : Rule) → Literals P x × Literals P y × Literals P z → Literals P (make x y z))
-      → (a b c : Operand) → OfOperand a → OfOperand b → OfOperand c → All (Literals P) (a.as_rule >>= λ x. b.as_rule >>= λ y. c.as_rule >>= λ z. some (make x y z))
+      → (a b c : Operand) → OfOperand a → OfOperand b → OfOperand c → All (Literals P) (a.as_rule >>= λ x. b.as_rule >>= λ y. c.as_rule >>= λ z. Some (make x y z))
   three_kept make m a b c h k j =
       all_bind (Literals P) (Literals P) a.as_rule _ h λ x p.
       all_bind (Literals P) (Literals P) b.as_rule _ k λ y q.
@@ -187,7 +187,7 @@ module _ (P : Value → Type 0) (inherited : Inherited P) where
     all_content (object ms) h = tt
 
   -- The rule that a value is has its literals from the value.
-  pub shape_kept : (v : Value) (r : Rule) → shape v ≡ some r → P v → Literals P r
+  pub shape_kept : (v : Value) (r : Rule) → shape v ≡ Some r → P v → Literals P r
   shape_kept v r e h = all_some (Literals P) (all_shape v h) e
 
 module _ (P : Value → Type 0) (kept : Kept P) where
@@ -215,16 +215,16 @@ module _ (P : Value → Type 0) (kept : Kept P) where
   binary_kept f m (item a (item b (item c vs))) = tt
 
   equality_kept : (a b : Value) → Gives (equality a b)
-  equality_kept a b = gives_any (required wrong_kind (as_scalar a)) _ λ x. gives_any (required wrong_kind (as_scalar b)) _ λ y. kept.of_boolean _
+  equality_kept a b = gives_any (required WrongKind (as_scalar a)) _ λ x. gives_any (required WrongKind (as_scalar b)) _ λ y. kept.of_boolean _
 
   membership_kept : (a b : Value) → Gives (membership a b)
-  membership_kept a b = gives_any (required wrong_kind (as_scalar a)) _ λ x. gives_any (required wrong_kind (as_array b)) _ λ vs. kept.of_boolean _
+  membership_kept a b = gives_any (required WrongKind (as_scalar a)) _ λ x. gives_any (required WrongKind (as_array b)) _ λ vs. kept.of_boolean _
 
   sum_kept : (a b : Value) → Gives (sum a b)
   sum_kept a b =
-      gives_any (required wrong_kind (as_integer a)) _ λ m.
-      gives_any (required wrong_kind (as_integer b)) _ λ n.
-      yields_provided Any P (within_limits (m +ℤ n)) out_of_range _ tt λ h.
+      gives_any (required WrongKind (as_integer a)) _ λ m.
+      gives_any (required WrongKind (as_integer b)) _ λ n.
+      yields_provided Any P (within_limits (m +ℤ n)) OutOfRange _ tt λ h.
       kept.of_integer (m +ℤ n) h
 
   negated_kept : (t : Truth) → Gives (negated t)
@@ -233,11 +233,11 @@ module _ (P : Value → Type 0) (kept : Kept P) where
   negated_kept neither = tt
 
   birth_kept : (v : Value) → Gives (date_of_birth v)
-  birth_kept v = gives_any (required wrong_kind (as_string v)) _ λ s. gives_then (λ t. T (in_range t)) (day_text s) _ (day_in_range s) λ t h. kept.of_instant t h
+  birth_kept v = gives_any (required WrongKind (as_string v)) _ λ s. gives_then (λ t. T (in_range t)) (day_text s) _ (day_in_range s) λ t h. kept.of_instant t h
 
   plus_time_kept : (amount : ℤ) (unit : TimeUnit) (v : Value) → Gives (plus_time amount unit v)
   plus_time_kept amount unit v =
-      gives_any (required wrong_kind (as_string v)) _ λ s.
+      gives_any (required WrongKind (as_string v)) _ λ s.
       gives_any (date_text s) _ λ t.
       gives_then (λ r. T (in_range r)) (shift t amount unit) _ (shift_in_range t amount unit) λ r h.
       kept.of_instant r h
@@ -292,7 +292,7 @@ module _ (P : Value → Type 0) (kept : Kept P) where
   abbrev OfItems : Values → Type 0
   OfItems vs = P (array vs)
 
-  array_kept : (v : Value) → P v → Yields Any OfItems (required wrong_kind (as_array v))
+  array_kept : (v : Value) → P v → Yields Any OfItems (required WrongKind (as_array v))
   array_kept (scalar x) h = tt
   array_kept (instant t) h = tt
   array_kept (array vs) h = h
@@ -322,7 +322,7 @@ module _ (P : Value → Type 0) (kept : Kept P) where
     body_kept (reduce r lambda initial) p c h k =
         eval_then P r (0 ∷ p) c _ (body_kept r (0 ∷ p) c h.0 k) λ v x.
         eval_then P initial (2 ∷ p) c _ (body_kept initial (2 ∷ p) c h.2 k) λ i y.
-        always_bind Any OfItems P (lift (required wrong_kind (as_array v))) _ (always_lift Any Any OfItems (required wrong_kind (as_array v)) (λ e z. tt) (array_kept v x)) λ vs z.
+        always_bind Any OfItems P (lift (required WrongKind (as_array v))) _ (always_lift Any Any OfItems (required WrongKind (as_array v)) (λ e z. tt) (array_kept v x)) λ vs z.
         always_fold Any P P OfItems kept.inherited.by_items (λ cur acc. eval lambda (1 ∷ p) (context cur acc))
         (λ cur acc a b. eval_kept lambda (1 ∷ p) (context cur acc) (body_kept lambda (1 ∷ p) (context cur acc) h.1 (kept.of_context cur acc a b)))
         vs z i y
@@ -350,5 +350,5 @@ module _ (P : Value → Type 0) (kept : Kept P) where
   run_kept r c n v h k = always_value Any P (run r c) (eval_kept r [] c (body_kept r [] c h k)) n v
 
   -- The same of a rule by its value.
-  pub answer_kept : (rule c : Value) (r : Rule) (n : ℕ) (v : Value) → shape rule ≡ some r → P rule → P c → outcome (run r c n) ≡ value v → P v
+  pub answer_kept : (rule c : Value) (r : Rule) (n : ℕ) (v : Value) → shape rule ≡ Some r → P rule → P c → outcome (run r c n) ≡ value v → P v
   answer_kept w c r n v is-rule h k = run_kept r c n v (shape_kept P kept.inherited w r is-rule h) k

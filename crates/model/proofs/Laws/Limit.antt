@@ -5,7 +5,8 @@ use Rattle.std.proofs.Math.Path.{ap, fun_ext}
 use Rattle.std.proofs.Math.Decide.{dec_le}
 use Rattle.model.specs.Eval.{run, Outcome, value, refusal, outcome}
 use Rattle.model.proofs.Laws.Induction.{Closed, holds_of_eval}
-use Rattle.model.specs.Refusal.{Fault, fault, out_of_steps}
+use Rattle.model.specs.declared.refusal.Fault.{Fault}
+use Rattle.model.specs.declared.refusal.EvalFault.TheVariants.{Operation, OutOfSteps}
 use Rattle.model.specs.Rule.{Rule}
 use Rattle.model.specs.Run.{Name, Ended, got, failed, Run, steps, log, return, refused, begin, continue, ◌>>=◌}
 use Rattle.model.specs.Value.{Value}
@@ -19,7 +20,7 @@ pub data End (A : Type 0) : Type 0 where
 -- The run that takes no step and ends so.
 abbrev pub finish : {A : Type 0} → End A → Run A
 finish (ends a) = return a
-finish (faulty e) = refused (fault e)
+finish (faulty e) = refused (Operation e)
 
 -- The run that begins the rules of these names, one after another, and then ends so.
 abbrev pub cut : {A : Type 0} → End A → List Name → Run A
@@ -81,7 +82,7 @@ cut_run r c = holds_of_eval cut_closed r [] c (λ q s e. tt)
 -- ---- what the limit does
 abbrev pub end_of : End Value → Outcome
 end_of (ends v) = value v
-end_of (faulty e) = refusal (fault e)
+end_of (faulty e) = refusal (Operation e)
 
 log_outcome : (x : Name) (r : Ended Value) → outcome (log (x ∷ []) r) ≡ outcome r
 log_outcome x (got v n t) = refl
@@ -101,7 +102,7 @@ enough o (x ∷ t) (suc n) h =
     (log_outcome x (cut o t n) ∙ e.0, log_steps x (cut o t n) ∙ ap suc e.1)
 
 -- Too few: refusal 10, with a step for each that there was.
-short : (o : End Value) (t : List Name) (n : ℕ) → n < length t → (outcome (cut o t n) ≡ refusal out_of_steps) × (steps (cut o t n) ≡ n)
+short : (o : End Value) (t : List Name) (n : ℕ) → n < length t → (outcome (cut o t n) ≡ refusal OutOfSteps) × (steps (cut o t n) ≡ n)
 short o [] n h = absurd (not-suc-le-zero h)
 short o (x ∷ t) zero h = (refl, refl)
 short o (x ∷ t) (suc n) h =
@@ -111,13 +112,13 @@ short o (x ∷ t) (suc n) h =
 -- The steps taken, and left where there is a value, against the steps there were.
 abbrev Counts : ℕ → Ended Value → Type 0
 Counts n (got v k t) = k + length t ≡ n
-Counts n (failed (fault e) t) = length t ≤ n
-Counts n (failed out_of_steps t) = length t ≡ n
+Counts n (failed (Operation e) t) = length t ≤ n
+Counts n (failed OutOfSteps t) = length t ≡ n
 
 log_counts : (n : ℕ) (x : Name) (r : Ended Value) → Counts n r → Counts (suc n) (log (x ∷ []) r)
 log_counts n x (got v k t) h = omega arith
-log_counts n x (failed (fault e) t) h = omega arith
-log_counts n x (failed out_of_steps t) h = ap suc h
+log_counts n x (failed (Operation e) t) h = omega arith
+log_counts n x (failed OutOfSteps t) h = ap suc h
 
 counts : (o : End Value) (t : List Name) (n : ℕ) → Counts n (cut o t n)
 counts (ends v) [] n = add-zero n
@@ -141,14 +142,14 @@ module _ (r : Rule) (c : Value) where
   run_enough : (n : ℕ) → length names ≤ n → (outcome (run r c n) ≡ end_of whole) × (steps (run r c n) ≡ length names)
   run_enough n h = rw (run_is n) (enough whole names n h)
 
-  run_short : (n : ℕ) → n < length names → (outcome (run r c n) ≡ refusal out_of_steps) × (steps (run r c n) ≡ n)
+  run_short : (n : ℕ) → n < length names → (outcome (run r c n) ≡ refusal OutOfSteps) × (steps (run r c n) ≡ n)
   run_short n h = rw (run_is n) (short whole names n h)
 
   run_counts : (n : ℕ) → Counts n (run r c n)
   run_counts n = rw (run_is n) (counts whole names n)
 
   -- A run that does not end in 10 had steps enough.
-  had_enough : (n : ℕ) → ¬ (outcome (run r c n) ≡ refusal out_of_steps) → length names ≤ n
+  had_enough : (n : ℕ) → ¬ (outcome (run r c n) ≡ refusal OutOfSteps) → length names ≤ n
   had_enough n no-ten = go (dec_le (length names) n)
     where
       go : Dec (length names ≤ n) → length names ≤ n
@@ -157,32 +158,32 @@ module _ (r : Rule) (c : Value) where
 
   -- 02, P14: "if a run with a permitted limit ends with s steps in anything but 10, then, all else equal, every permitted limit of s or more gives
   -- the same value or refusal and s,
-  pub same_end : (n m : ℕ) → ¬ (outcome (run r c n) ≡ refusal out_of_steps) → steps (run r c n) ≤ m → (outcome (run r c m) ≡ outcome (run r c n)) × (steps (run r c m) ≡ steps (run r c n))
+  pub same_end : (n m : ℕ) → ¬ (outcome (run r c n) ≡ refusal OutOfSteps) → steps (run r c n) ≤ m → (outcome (run r c m) ≡ outcome (run r c n)) × (steps (run r c m) ≡ steps (run r c n))
   same_end n m no-ten h =
       let e = run_enough n (had_enough n no-ten) in
       let f = run_enough m (rw e.1 at h) in
       (f.0 ∙ sym e.0, f.1 ∙ sym e.1)
 
   -- and every limit below s gives 10."
-  pub same_end_below : (n m : ℕ) → ¬ (outcome (run r c n) ≡ refusal out_of_steps) → m < steps (run r c n) → (outcome (run r c m) ≡ refusal out_of_steps) × (steps (run r c m) ≡ m)
+  pub same_end_below : (n m : ℕ) → ¬ (outcome (run r c n) ≡ refusal OutOfSteps) → m < steps (run r c n) → (outcome (run r c m) ≡ refusal OutOfSteps) × (steps (run r c m) ≡ m)
   same_end_below n m no-ten h = run_short m (rw (run_enough n (had_enough n no-ten)).1 at h)
 
   -- 01: "Refusal 10 reports the limit"
-  pub out_of_steps_reports_limit : (n : ℕ) → outcome (run r c n) ≡ refusal out_of_steps → steps (run r c n) ≡ n
+  pub out_of_steps_reports_limit : (n : ℕ) → outcome (run r c n) ≡ refusal OutOfSteps → steps (run r c n) ≡ n
   out_of_steps_reports_limit n = go (run r c n) (run_counts n)
     where
-      go : (e : Ended Value) → Counts n e → outcome e ≡ refusal out_of_steps → steps e ≡ n
+      go : (e : Ended Value) → Counts n e → outcome e ≡ refusal OutOfSteps → steps e ≡ n
       go (got v k t) h e = cc
-      go (failed (fault f) t) h e = cc
-      go (failed out_of_steps t) h e = h
+      go (failed (Operation f) t) h e = cc
+      go (failed OutOfSteps t) h e = h
 
   pub steps_within_limit : (n : ℕ) → steps (run r c n) ≤ n
   steps_within_limit n = go (run r c n) (run_counts n)
     where
       go : (e : Ended Value) → Counts n e → steps e ≤ n
       go (got v k t) h = omega arith
-      go (failed (fault f) t) h = h
-      go (failed out_of_steps t) h = omega arith
+      go (failed (Operation f) t) h = h
+      go (failed OutOfSteps t) h = omega arith
 
   -- Of a run that gives a value with k steps left.
   pub steps_and_left : (n k : ℕ) (v : Value) (t : List Name) → run r c n ≡ got v k t → k + steps (run r c n) ≡ n

@@ -1,6 +1,6 @@
 -- Lookup: what the parts of a value inherit from the whole holds of the value at each path; so a path leads from a value with no instant in it to another such value.
 use Rattle.std.specs.Prelude.{◌≡◌, [], ◌∷◌, ℕ, zero, suc, T}
-use Rattle.std.proofs.Math.Option.{Option, none, some}
+use Rattle.std.specs.Prelude.{Option, None, Some}
 use Rattle.model.specs.Bytes.{Bytes, same_bytes}
 use Rattle.model.specs.Option.{or_else}
 use Rattle.model.specs.Path.{Path, member_named, index_of, item_at, part, lookup, value_at}
@@ -23,7 +23,7 @@ module _ (P : Value → Type 0) (inherited : Inherited P) where
   all_member f no_members h = tt
   all_member f (member name v ms) h =
       let (here, later) = inherited.by_members name v ms h in
-      all_cond P (same_bytes f name) (some v) (member_named f ms) here (all_member f ms later)
+      all_cond P (same_bytes f name) (Some v) (member_named f ms) here (all_member f ms later)
 
   all_part : (f : Bytes) (c : Value) → P c → All P (part f c)
   all_part f (scalar x) h = tt
@@ -36,7 +36,7 @@ module _ (P : Value → Type 0) (inherited : Inherited P) where
   all_lookup (f ∷ q) c h = all_bind P P (part f c) (lookup q) (all_part f c h) (all_lookup q)
 
   -- What a path leads to,
-  pub lookup_inherits : (q : Path) (c v : Value) → P c → lookup q c ≡ some v → P v
+  pub lookup_inherits : (q : Path) (c v : Value) → P c → lookup q c ≡ Some v → P v
   lookup_inherits q c v h e = all_some P (all_lookup q c h) e
 
   -- and null, which stands for what is absent.
@@ -44,8 +44,8 @@ module _ (P : Value → Type 0) (inherited : Inherited P) where
   value_at_inherits z q c h = go (lookup q c) (all_lookup q c h)
     where
       go : (o : Option Value) → All P o → P (or_else o (scalar null))
-      go none h = z
-      go (some v) h = h
+      go None h = z
+      go (Some v) h = h
 
 -- ---- no instant
 instant_free_inherited : Inherited (λ v. T (instant_free v))
@@ -56,7 +56,7 @@ instant_free_inherited = record {
 }
 
 -- What a path leads to in a record has no instant in it,
-pub lookup_instant_free : (q : Path) (c v : Value) → T (instant_free c) → lookup q c ≡ some v → T (instant_free v)
+pub lookup_instant_free : (q : Path) (c v : Value) → T (instant_free c) → lookup q c ≡ Some v → T (instant_free v)
 lookup_instant_free = lookup_inherits (λ v. T (instant_free v)) instant_free_inherited
 
 -- nor has null, which stands for what is absent.

@@ -5,7 +5,6 @@ use Rattle.model.specs.Eval.{run, value, refusal, outcome}
 use Rattle.model.specs.EvalPlain as Plain
 use Rattle.model.specs.EvalPlain.{Plain, gives, denies, PlainRun, step, eval_plain, plain_outcome, left}
 use Rattle.model.specs.Rule.{Rule}
-use Rattle.model.specs.Run
 use Rattle.model.specs.Run.{Name, Ended, got, failed, Run, steps, log, begin, continue}
 use Rattle.model.specs.Value.{Value}
 use Rattle.model.proofs.Laws.Induction.{Closed, holds_of_eval}

@@ -1,6 +1,6 @@
 -- Result: what holds of the value that a result gives, or of its fault.
 use Rattle.std.specs.Prelude.{◌≡◌, refl, Bool, true, false, cond, T}
-use Rattle.model.specs.Refusal.{Fault}
+use Rattle.model.specs.declared.refusal.Fault.{Fault}
 use Rattle.model.specs.Result.{Result, ok, refuse, ◌>>=◌, provided}
 
 -- Nothing is asked.

@@ -1,6 +1,6 @@
 -- Rows: the starred rows of 01's table "Both sides of the line", each as one theorem by computation, from the value that the rule's text reads as.
 use Rattle.std.specs.Prelude.{◌≡◌, refl, List, [], ◌∷◌, ℕ, pos}
-use Rattle.std.proofs.Math.Option.{Option, some}
+use Rattle.std.specs.Prelude.{Option, Some}
 use Prim.Native.String.{String}
 use Rattle.model.specs.Bytes.{ascii}
 use Rattle.model.specs.Calendar.{months, sum_first, year_start, date_of_day}
@@ -10,7 +10,10 @@ use Rattle.model.specs.InstantText.{instant_text}
 use Rattle.model.specs.Judgement.{Answer, done, refuses, answer_of}
 use Rattle.model.specs.Limits.{max_integer, max_steps, max_text_bytes, max_values, max_nesting}
 use Rattle.model.specs.Option.{◌>>=◌}
-use Rattle.model.specs.Refusal.{Refusal, evaluating, fault, wrong_kind, out_of_range, out_of_steps}
+use Rattle.model.specs.declared.refusal.Fault.TheVariants.{WrongKind, OutOfRange}
+use Rattle.model.specs.declared.refusal.EvalFault.TheVariants.{Operation, OutOfSteps}
+use Rattle.model.specs.declared.refusal.Refusal.{Refusal}
+use Rattle.model.specs.declared.refusal.Refusal.TheVariants.{Evaluating}
 use Rattle.model.specs.Shape.{shape}
 use Rattle.model.specs.Shift.{shift}
 use Rattle.model.specs.Size.{value_count, nesting}
@@ -46,13 +49,13 @@ row_record = object (member (ascii "a") (int 1) no_members)
 abbrev pub judged : Value → ℕ → Option Answer
 judged rule limit = do
   r ← shape rule
-  some (answer_of r row_record limit max_text_bytes)
+  Some (answer_of r row_record limit max_text_bytes)
 
 abbrev pub gives : String → ℕ → Option Answer
-gives s n = some (record { result = done (ascii s); steps_begun = n })
+gives s n = Some (record { result = done (ascii s); steps_begun = n })
 
 abbrev pub denies : Refusal → ℕ → Option Answer
-denies e n = some (record { result = refuses e; steps_begun = n })
+denies e n = Some (record { result = refuses e; steps_begun = n })
 
 -- {"===":[{"var":"a"},1]}
 pub row_equal : judged (op "===" (var "a" ∷ int 1 ∷ [])) max_steps ≡ gives "true" 3
@@ -70,17 +73,17 @@ unfolding shape body value_text value_count nesting max_steps max_text_bytes max
 row_not = refl
 
 -- {">":[3,2,"x"]}
-pub row_greater : judged (op ">" (int 3 ∷ int 2 ∷ str "x" ∷ [])) max_steps ≡ denies (evaluating (fault wrong_kind)) 4
+pub row_greater : judged (op ">" (int 3 ∷ int 2 ∷ str "x" ∷ [])) max_steps ≡ denies (Evaluating (Operation WrongKind)) 4
 unfolding shape body max_steps
 row_greater = refl
 
 -- "Ending a three-operand comparison before the third kind is tested" is a slip: here the first pair fails already. {">":[1,2,"x"]}
-pub third_kind_tested : judged (op ">" (int 1 ∷ int 2 ∷ str "x" ∷ [])) max_steps ≡ denies (evaluating (fault wrong_kind)) 4
+pub third_kind_tested : judged (op ">" (int 1 ∷ int 2 ∷ str "x" ∷ [])) max_steps ≡ denies (Evaluating (Operation WrongKind)) 4
 unfolding shape body max_steps
 third_kind_tested = refl
 
 -- {"+":[9007199254740991,1]}
-pub row_plus : judged (op "+" (int 9007199254740991 ∷ int 1 ∷ [])) max_steps ≡ denies (evaluating (fault out_of_range)) 3
+pub row_plus : judged (op "+" (int 9007199254740991 ∷ int 1 ∷ [])) max_steps ≡ denies (Evaluating (Operation OutOfRange)) 3
 unfolding shape body max_steps max_integer
 row_plus = refl
 
@@ -97,7 +100,7 @@ pub row_reduce_15 : judged reduce_rule 15 ≡ gives "6" 15
 unfolding shape body value_text value_count nesting decimal max_text_bytes max_values max_nesting max_integer
 row_reduce_15 = refl
 
-pub row_reduce_14 : judged reduce_rule 14 ≡ denies (evaluating out_of_steps) 14
+pub row_reduce_14 : judged reduce_rule 14 ≡ denies (Evaluating OutOfSteps) 14
 unfolding shape body max_integer
 row_reduce_14 = refl
 

@@ -2,7 +2,10 @@
 use Rattle.std.specs.Prelude.{◌≡◌, false, List, [], ◌∷◌, ℕ, zero, suc, T}
 use Rattle.std.proofs.Common.{subst}
 use Rattle.model.specs.Eval.{branch, go_on, fold, value, outcome}
-use Rattle.model.specs.Refusal.{Fault, wrong_kind, EvalFault, fault, out_of_steps}
+use Rattle.model.specs.declared.refusal.Fault.{Fault}
+use Rattle.model.specs.declared.refusal.Fault.TheVariants.{WrongKind}
+use Rattle.model.specs.declared.refusal.EvalFault.{EvalFault}
+use Rattle.model.specs.declared.refusal.EvalFault.TheVariants.{Operation, OutOfSteps}
 use Rattle.model.specs.Result.{Result, ok, refuse}
 use Rattle.model.specs.Run.{Name, Ended, got, failed, Run, log, return, refused, lift, begin, continue, ◌>>=◌}
 use Rattle.model.specs.Truth.{Truth, truthy, falsy, neither}
@@ -36,11 +39,11 @@ module _ (R : EvalFault → Type 0) where
   pub always_refused : {A : Type 0} (P : A → Type 0) (e : EvalFault) → R e → Always P (refused e)
   always_refused P e h n = h
 
-  pub always_lift : {A : Type 0} (F : Fault → Type 0) (P : A → Type 0) (r : Result A) → ((e : Fault) → F e → R (fault e)) → Yields F P r → Always P (lift r)
+  pub always_lift : {A : Type 0} (F : Fault → Type 0) (P : A → Type 0) (r : Result A) → ((e : Fault) → F e → R (Operation e)) → Yields F P r → Always P (lift r)
   always_lift F P (ok a) k h = always_return P a h
-  always_lift F P (refuse e) k h = always_refused P (fault e) (k e h)
+  always_lift F P (refuse e) k h = always_refused P (Operation e) (k e h)
 
-  pub always_begin : {A : Type 0} (P : A → Type 0) (p : Name) (m : Run A) → R out_of_steps → Always P m → Always P (begin p m)
+  pub always_begin : {A : Type 0} (P : A → Type 0) (p : Name) (m : Run A) → R OutOfSteps → Always P m → Always P (begin p m)
   always_begin P p m k h zero = k
   always_begin P p m k h (suc n) = ends_log P (p ∷ []) (m n) (h n)
 
@@ -59,10 +62,10 @@ module _ (R : EvalFault → Type 0) where
   always_branch P falsy m l h k = k
   always_branch P neither m l h k = k
 
-  pub always_go_on : (P : Value → Type 0) (t : Truth) (v : Value) (m : Run Value) → (¬ T (decided t) → R (fault wrong_kind)) → P v → Always P m → Always P (go_on t v m)
+  pub always_go_on : (P : Value → Type 0) (t : Truth) (v : Value) (m : Run Value) → (¬ T (decided t) → R (Operation WrongKind)) → P v → Always P m → Always P (go_on t v m)
   always_go_on P truthy v m d h k = k
   always_go_on P falsy v m d h k = always_return P v h
-  always_go_on P neither v m d h k = always_refused P (fault wrong_kind) (d (λ x. x))
+  always_go_on P neither v m d h k = always_refused P (Operation WrongKind) (d (λ x. x))
 
   -- A lambda that keeps P of the accumulator, for each item of which Q holds; R of the items is Q of the first and R of the others.
   pub always_fold : (P Q : Value → Type 0) (R : Values → Type 0) → ((v : Value) (vs : Values) → R (item v vs) → Q v × R vs) → (f : Value → Value → Run Value) → ((v w : Value) → Q v → P w → Always P (f v w)) → (vs : Values) → R vs → (w : Value) → P w → Always P (fold f vs w)

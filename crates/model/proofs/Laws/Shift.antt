@@ -7,7 +7,8 @@ use Rattle.model.specs.Bytes.{ascii}
 use Rattle.model.specs.Calendar.{date, month_days, months, sum_first, year_start, day_number, date_of_day}
 use Rattle.model.specs.DateText.{starts_like, day_text}
 use Rattle.model.specs.Instant.{earliest, in_range, ranged, from_year0, since_year0, ms_per_day, ms_per_hour}
-use Rattle.model.specs.Refusal.{Fault, wrong_kind, bad_date, out_of_range}
+use Rattle.model.specs.declared.refusal.Fault.{Fault}
+use Rattle.model.specs.declared.refusal.Fault.TheVariants.{WrongKind, BadDate, OutOfRange}
 use Rattle.model.specs.Result.{◌>>=◌, Result, ok, refuse, provided}
 use Rattle.model.specs.Shift.{after, month_start, month_first, month_number, shift_months, shift}
 use Rattle.model.proofs.Laws.Calendar.{same_parts, year_cycle, months_cycle, sum_next, sum_step, Valid, date_of_day_lem}
@@ -34,13 +35,13 @@ pub shift_in_range : (t a : ℤ) (u : TimeUnit) (r : ℤ) → shift t a u ≡ ok
 shift_in_range t a u r e = subst (Within only_out) e (shift_within t a u)
 
 -- A shift is refused only as out of range.
-pub shift_never_bad : (t a : ℤ) (u : TimeUnit) (f : Fault) → shift t a u ≡ refuse f → f ≡ out_of_range
+pub shift_never_bad : (t a : ℤ) (u : TimeUnit) (f : Fault) → shift t a u ≡ refuse f → f ≡ OutOfRange
 shift_never_bad t a u f e = only f (subst (Within only_out) e (shift_within t a u))
   where
-    only : (f : Fault) → T (only_out f) → f ≡ out_of_range
-    only wrong_kind h = absurd h
-    only bad_date h = absurd h
-    only out_of_range h = refl
+    only : (f : Fault) → T (only_out f) → f ≡ OutOfRange
+    only WrongKind h = absurd h
+    only BadDate h = absurd h
+    only OutOfRange h = refl
 
 -- ---- cycles of 400 years
 -- The same month 400 years later begins 146,097 days later,
@@ -239,7 +240,7 @@ sum_times k n m = go m
 ranged_is : (t r : ℤ) → ranged t ≡ ok r → t ≡ r
 ranged_is t r e = go (in_range t) e
   where
-    go : (b : Bool) → provided b out_of_range (ok t) ≡ ok r → t ≡ r
+    go : (b : Bool) → provided b OutOfRange (ok t) ≡ ok r → t ≡ r
     go true e = cc
     go false e = cc
 

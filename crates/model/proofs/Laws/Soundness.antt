@@ -1,7 +1,7 @@
 -- Soundness: an accepted rule, on a record that fits the sheet, ends in a value of a type that the check found, or in refusal 9 or 10.
 use Rattle.std.specs.Prelude.{◌≡◌, refl, Bool, true, false, ◌&&◌, cond, List, [], ◌∷◌, ◌++◌, ◌⊎◌, ℕ, zero, suc, T, ltb, ℤ, pos, negsuc, ◌+ℤ◌}
 use Rattle.std.proofs.Common.{sym, subst, ap, ap₂, inl, inr}
-use Rattle.std.proofs.Math.Option.{Option, none, some}
+use Rattle.std.specs.Prelude.{Option, None, Some}
 use Rattle.model.specs.Bytes.{Bytes, same_bytes, split_on}
 use Rattle.model.specs.DateText.{is_date, is_day, date_text, day_text}
 use Rattle.model.specs.Eval.{go_on, current, accumulator, context, body, body_all, body_and, eval, run, Outcome, value, refusal, outcome}
@@ -9,7 +9,11 @@ use Rattle.model.specs.Operations.{unary, binary, equality, membership, negated,
 use Rattle.model.specs.Lists.{find}
 use Rattle.model.specs.Option.{is_some, or_else, when, holds}
 use Rattle.model.specs.Path.{Path, same_path, lookup, value_at}
-use Rattle.model.specs.Refusal.{Fault, wrong_kind, bad_date, out_of_range, EvalFault, fault, out_of_steps, eval_number}
+use Rattle.model.specs.Refusal.{eval_number}
+use Rattle.model.specs.declared.refusal.Fault.{Fault}
+use Rattle.model.specs.declared.refusal.Fault.TheVariants.{WrongKind, BadDate, OutOfRange}
+use Rattle.model.specs.declared.refusal.EvalFault.{EvalFault}
+use Rattle.model.specs.declared.refusal.EvalFault.TheVariants.{Operation as fault, OutOfSteps}
 use Rattle.model.specs.Result.{Result, ok, refuse, required, is_ok}
 use Rattle.model.specs.Rule.{Literal, Operation, Rule, literal, var, if, and, reduce, apply, Rules, no_rules, rule, literal_value}
 use Rattle.model.specs.Run.{Name, Ended, got, failed, Run, return, lift}
@@ -29,7 +33,6 @@ use Rattle.model.specs.declared.TimeUnit.{TimeUnit}
 use Rattle.model.specs.declared.Domain.{Domain}
 use Rattle.model.specs.declared.Domain.TheVariants.{OnIntegers, OnInstants}
 use Rattle.model.specs.declared.Ty.{Ty}
-use Rattle.model.specs.declared.Ty.TheVariants as Ty
 
 -- A value of one of the types.
 abbrev pub Has : Types → Value → Type 0
@@ -47,7 +50,7 @@ path→≡ (f ∷ q) [] h = absurd h
 path→≡ (f ∷ q) (g ∷ r) h = ap₂ ◌∷◌ (bytes→≡ f g (and_l (same_bytes f g) _ h)) (path→≡ q r (and_r (same_bytes f g) _ h))
 
 -- The first entry of a sheet for a path, or what later entries say of it.
-first_entry : (v : Value) (b : Bool) (ts : Types) (later : Option Types) → (T b → Has ts v) → Has (or_else later any_of_record) v → Has (or_else (cond b (some ts) later) any_of_record) v
+first_entry : (v : Value) (b : Bool) (ts : Types) (later : Option Types) → (T b → Has ts v) → Has (or_else later any_of_record) v → Has (or_else (cond b (Some ts) later) any_of_record) v
 first_entry v true ts later h k = h tt
 first_entry v false ts later h k = k
 
@@ -69,7 +72,7 @@ pub lambda_typed : (cur acc : Types) (v w : Value) → Has cur v → Has acc w �
 lambda_typed cur acc v w h k [] = tt
 lambda_typed cur acc v w h k (f ∷ q) = go (same_bytes f current) (same_bytes f accumulator)
   where
-    go : (a b : Bool) → Has (cond a (part_types cur q) (cond b (part_types acc q) (Ty.Null ∷ []))) (or_else (Rattle.model.specs.Option.◌>>=◌ (cond a (some v) (cond b (some w) none)) (lookup q)) (scalar null))
+    go : (a b : Bool) → Has (cond a (part_types cur q) (cond b (part_types acc q) (Ty.Null ∷ []))) (or_else (Rattle.model.specs.Option.◌>>=◌ (cond a (Some v) (cond b (Some w) None)) (lookup q)) (scalar null))
     go true b = part_typed cur v h q
     go false true = part_typed acc w k q
     go false false = tt
@@ -77,23 +80,23 @@ lambda_typed cur acc v w h k (f ∷ q) = go (same_bytes f current) (same_bytes f
 -- ---- results
 -- Refusal 9.
 abbrev Out : Fault → Type 0
-Out e = e ≡ out_of_range
+Out e = e ≡ OutOfRange
 
 -- A value of which P holds, or refusal 9.
 abbrev pub Gives : {A : Type 0} → (A → Type 0) → Result A → Type 0
 Gives P r = Yields Out P r
 
 gives_required : {A : Type 0} (f : A → Bool) (e : Fault) (o : Option A) → T (holds f o) → Gives (λ a. T (f a)) (required e o)
-gives_required f e none h = absurd h
-gives_required f e (some a) h = h
+gives_required f e None h = absurd h
+gives_required f e (Some a) h = h
 
 gives_ok : {A : Type 0} (r : Result A) → T (is_ok r) → Gives Any r
 gives_ok (ok a) h = tt
 gives_ok (refuse e) h = absurd h
 
 gives_some : {A : Type 0} (e : Fault) (o : Option A) → T (is_some o) → Gives Any (required e o)
-gives_some e none h = absurd h
-gives_some e (some a) h = tt
+gives_some e None h = absurd h
+gives_some e (Some a) h = tt
 
 gives_shift : (t amount : ℤ) (unit : TimeUnit) → Gives Any (shift t amount unit)
 gives_shift t amount unit = yields_intro Out Any (shift t amount unit) (λ r e. tt) (shift_never_bad t amount unit)
@@ -150,19 +153,19 @@ scalar_some (object ms) h = h
 
 equal_sound : (a b : Value) → Has scalars a → Has scalars b → Gives (Has (Ty.Boolean ∷ [])) (equality a b)
 equal_sound a b h k =
-    yields_bind Out Any _ (required wrong_kind (as_scalar a)) _ (gives_some wrong_kind (as_scalar a) (scalar_some a h))
-    (λ x e. yields_bind Out Any _ (required wrong_kind (as_scalar b)) _ (gives_some wrong_kind (as_scalar b) (scalar_some b k)) (λ y f. tt))
+    yields_bind Out Any _ (required WrongKind (as_scalar a)) _ (gives_some WrongKind (as_scalar a) (scalar_some a h))
+    (λ x e. yields_bind Out Any _ (required WrongKind (as_scalar b)) _ (gives_some WrongKind (as_scalar b) (scalar_some b k)) (λ y f. tt))
 
 member_sound : (a b : Value) → Has scalars a → Has (Ty.Array ∷ []) b → Gives (Has (Ty.Boolean ∷ [])) (membership a b)
 member_sound a b h k =
-    yields_bind Out Any _ (required wrong_kind (as_scalar a)) _ (gives_some wrong_kind (as_scalar a) (scalar_some a h))
-    (λ x e. yields_bind Out Any _ (required wrong_kind (as_array b)) _ (gives_some wrong_kind (as_array b) (or_f (is_some (as_array b)) k)) (λ vs f. tt))
+    yields_bind Out Any _ (required WrongKind (as_scalar a)) _ (gives_some WrongKind (as_scalar a) (scalar_some a h))
+    (λ x e. yields_bind Out Any _ (required WrongKind (as_array b)) _ (gives_some WrongKind (as_array b) (or_f (is_some (as_array b)) k)) (λ vs f. tt))
 
 sum_sound : (a b : Value) → Has (Ty.Integer ∷ []) a → Has (Ty.Integer ∷ []) b → Gives (Has (Ty.Integer ∷ [])) (sum a b)
 sum_sound a b h k =
-    yields_bind Out Any _ (required wrong_kind (as_integer a)) _ (gives_some wrong_kind (as_integer a) (or_f (is_integer a) h))
-    (λ m e. yields_bind Out Any _ (required wrong_kind (as_integer b)) _ (gives_some wrong_kind (as_integer b) (or_f (is_integer b) k))
-    (λ n f. yields_provided Out _ (within_limits (m +ℤ n)) out_of_range (ok (scalar (integer (m +ℤ n)))) refl (λ x. tt)))
+    yields_bind Out Any _ (required WrongKind (as_integer a)) _ (gives_some WrongKind (as_integer a) (or_f (is_integer a) h))
+    (λ m e. yields_bind Out Any _ (required WrongKind (as_integer b)) _ (gives_some WrongKind (as_integer b) (or_f (is_integer b) k))
+    (λ n f. yields_provided Out _ (within_limits (m +ℤ n)) OutOfRange (ok (scalar (integer (m +ℤ n)))) refl (λ x. tt)))
 
 negated_sound : (t : Truth) → T (decided t) → Gives (Has (Ty.Boolean ∷ [])) (negated t)
 negated_sound truthy h = tt
@@ -176,7 +179,7 @@ number_some OnInstants v h = or_f (is_some (as_instant v)) h
 numbers_sound : (d : Domain) (vs : Values) → T (all_items (λ v. is_some (as_number d v)) vs) → Gives Any (numbers d vs)
 numbers_sound d no_items h = tt
 numbers_sound d (item v vs) h =
-    yields_bind Out Any _ (required wrong_kind (as_number d v)) _ (gives_some wrong_kind (as_number d v) (and_l (is_some (as_number d v)) _ h))
+    yields_bind Out Any _ (required WrongKind (as_number d v)) _ (gives_some WrongKind (as_number d v) (and_l (is_some (as_number d v)) _ h))
     (λ n e. yields_bind Out Any _ (numbers d vs) _ (numbers_sound d vs (and_r (is_some (as_number d v)) _ h)) (λ ns f. tt))
 
 -- Operands that are all numbers of a domain.
@@ -185,12 +188,12 @@ every_number d l vs h k = numbers_sound d vs (every_sound (domain_type d ∷ [])
 
 birth_sound : (v : Value) → Has (Ty.Day ∷ []) v → Gives (Has (Ty.Instant ∷ [])) (date_of_birth v)
 birth_sound v h =
-    yields_bind Out _ _ (required wrong_kind (as_string v)) _ (gives_required is_day wrong_kind (as_string v) (or_f (holds is_day (as_string v)) h))
+    yields_bind Out _ _ (required WrongKind (as_string v)) _ (gives_required is_day WrongKind (as_string v) (or_f (holds is_day (as_string v)) h))
     (λ s k. yields_bind Out Any _ (day_text s) _ (gives_ok (day_text s) k) (λ t e. tt))
 
 plus_time_sound : (amount : ℤ) (unit : TimeUnit) (v : Value) → Has (Ty.Date ∷ []) v → Gives (Has (Ty.Instant ∷ [])) (plus_time amount unit v)
 plus_time_sound amount unit v h =
-    yields_bind Out _ _ (required wrong_kind (as_string v)) _ (gives_required is_date wrong_kind (as_string v) (or_f (holds is_date (as_string v)) h))
+    yields_bind Out _ _ (required WrongKind (as_string v)) _ (gives_required is_date WrongKind (as_string v) (or_f (holds is_date (as_string v)) h))
     (λ s k. yields_bind Out Any _ (date_text s) _ (gives_ok (date_text s) k) (λ t e. yields_bind Out Any _ (shift t amount unit) _ (gives_shift t amount unit) (λ r f. tt)))
 
 fragment_sound : (l : List Bytes) (k : ℤ) → Has (Ty.Null ∷ Ty.String ∷ []) (fragment l k)
@@ -226,7 +229,7 @@ operate_sound (Operation.extract_from_uvci i) l vs h k = unary_sound (extract_fr
 -- ---- runs
 -- The refusals that an accepted rule may end in: 9 and 10.
 abbrev pub Late : EvalFault → Type 0
-Late e = (e ≡ fault out_of_range) ⊎ (e ≡ out_of_steps)
+Late e = (e ≡ fault OutOfRange) ⊎ (e ≡ OutOfSteps)
 
 -- A run ends in a value of which P holds, or in one of these.
 abbrev pub Ends : {A : Type 0} → (A → Type 0) → Ended A → Type 0
@@ -240,7 +243,7 @@ runs_lift : {A : Type 0} (P : A → Type 0) (r : Result A) → Gives P r → Run
 runs_lift P r h = always_lift Late Out P r (λ e x. inl (ap fault x)) h
 
 -- The items of an operand that is an array.
-items_sound : (ts : Types) (v : Value) → Has ts v → Has (Ty.Array ∷ []) v → Gives (λ vs. T (all_items (has_type (items_types ts)) vs)) (required wrong_kind (as_array v))
+items_sound : (ts : Types) (v : Value) → Has ts v → Has (Ty.Array ∷ []) v → Gives (λ vs. T (all_items (has_type (items_types ts)) vs)) (required WrongKind (as_array v))
 items_sound ts (scalar x) h k = absurd k
 items_sound ts (instant t) h k = absurd k
 items_sound ts (array vs) h k = items_types_sound ts vs h
@@ -307,8 +310,8 @@ mutual
       (eval_sound r ts (0 ∷ p) c (body_sound r e (0 ∷ p) c (and_l (accepts r e) _ h) F))
       (λ v x. always_bind Late (Has us) (Has us) (eval initial (2 ∷ p) c) _
       (eval_sound initial us (2 ∷ p) c (body_sound initial e (2 ∷ p) c (and_l (accepts initial e) _ h₁) F))
-      (λ i y. always_bind Late (λ vs. T (all_items (has_type (items_types ts)) vs)) (Has us) (lift (required wrong_kind (as_array v))) _
-      (runs_lift _ (required wrong_kind (as_array v)) (items_sound ts v x (passes_sound v ts (Ty.Array ∷ []) x (and_l (passes ts (Ty.Array ∷ [])) _ h₂))))
+      (λ i y. always_bind Late (λ vs. T (all_items (has_type (items_types ts)) vs)) (Has us) (lift (required WrongKind (as_array v))) _
+      (runs_lift _ (required WrongKind (as_array v)) (items_sound ts v x (passes_sound v ts (Ty.Array ∷ []) x (and_l (passes ts (Ty.Array ∷ [])) _ h₂))))
       (λ vs z. always_fold Late (Has us) (Has (items_types ts)) (λ ws. T (all_items (has_type (items_types ts)) ws)) (λ w ws k. (and_l (has_type (items_types ts) w) _ k, and_r (has_type (items_types ts) w) _ k))
       (λ cur acc. eval lambda (1 ∷ p) (context cur acc))
       (λ cur acc a b. always_map Late (Has ws) (Has us) (eval lambda (1 ∷ p) (context cur acc)) (λ w k. passes_sound w ws us k (and_r (accepts lambda inner) _ h₃))
@@ -343,7 +346,7 @@ mutual
 -- The value is of one of the types, or the refusal is 9 or 10.
 abbrev pub Sound : Types → Outcome → Type 0
 Sound ts (value v) = T (has_type ts v)
-Sound ts (refusal e) = (e ≡ fault out_of_range) ⊎ (e ≡ out_of_steps)
+Sound ts (refusal e) = (e ≡ fault OutOfRange) ⊎ (e ≡ OutOfSteps)
 
 -- An accepted rule, on a record that fits the sheet, ends so under every step limit.
 pub sound : (r : Rule) (sheet : Sheet) (c : Value) (n : ℕ) → T (accepts r (outside sheet)) → T (instant_free c) → T (fits sheet c) → Sound (types_for r (outside sheet)) (outcome (run r c n))
@@ -357,19 +360,19 @@ sound r sheet c n h k f = go (run r c n) (eval_sound r ts [] c (body_sound r (ou
     go (failed e t) h = h
 
 -- The same of the types that a whole check gives.
-pub check_sound : (r : Rule) (sheet : Sheet) (ts : Types) (c : Value) (n : ℕ) → check r sheet ≡ some ts → T (instant_free c) → T (fits sheet c) → Sound ts (outcome (run r c n))
+pub check_sound : (r : Rule) (sheet : Sheet) (ts : Types) (c : Value) (n : ℕ) → check r sheet ≡ Some ts → T (instant_free c) → T (fits sheet c) → Sound ts (outcome (run r c n))
 check_sound r sheet ts c n e k f = go (accepts r (outside sheet)) e (λ h. sound r sheet c n h k f)
   where
     us : Types
     us = types_for r (outside sheet)
 
-    go : (b : Bool) → when b (some us) ≡ some ts → (T b → Sound us (outcome (run r c n))) → Sound ts (outcome (run r c n))
+    go : (b : Bool) → when b (Some us) ≡ Some ts → (T b → Sound us (outcome (run r c n))) → Sound ts (outcome (run r c n))
     go true e h = subst (λ x. Sound (or_else x us) (outcome (run r c n))) e (h tt)
     go false e h = absurd (subst (λ x. T (is_some x)) (sym e) tt)
 
 -- Such a run never ends in refusal 7 or 8.
-pub never_7_or_8 : (r : Rule) (sheet : Sheet) (ts : Types) (c : Value) (n : ℕ) → check r sheet ≡ some ts → T (instant_free c) → T (fits sheet c) → ¬ (outcome (run r c n) ≡ refusal (fault wrong_kind)) × ¬ (outcome (run r c n) ≡ refusal (fault bad_date))
-never_7_or_8 r sheet ts c n e k f = (λ x. none_of wrong_kind tt (subst (Sound ts) x s), λ x. none_of bad_date tt (subst (Sound ts) x s))
+pub never_7_or_8 : (r : Rule) (sheet : Sheet) (ts : Types) (c : Value) (n : ℕ) → check r sheet ≡ Some ts → T (instant_free c) → T (fits sheet c) → ¬ (outcome (run r c n) ≡ refusal (fault WrongKind)) × ¬ (outcome (run r c n) ≡ refusal (fault BadDate))
+never_7_or_8 r sheet ts c n e k f = (λ x. none_of WrongKind tt (subst (Sound ts) x s), λ x. none_of BadDate tt (subst (Sound ts) x s))
   where
     s : Sound ts (outcome (run r c n))
     s = check_sound r sheet ts c n e k f

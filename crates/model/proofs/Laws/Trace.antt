@@ -3,7 +3,7 @@ use Rattle.std.specs.Prelude.{◌≡◌, refl, ℕ, zero, suc}
 use Rattle.std.proofs.Common.{sym, subst, ⊎_elim}
 use mathlib.Core.List.Memᴰ
 use mathlib.Core.List.{List, [], ◌∷◌, ◌++◌, reverse, Memᴰ}
-use Rattle.std.proofs.Math.Option.{some}
+use Rattle.std.specs.Prelude.{Some}
 use Rattle.model.specs.Eval.{run, body}
 use Rattle.model.proofs.Laws.Induction.{Closed, holds_of_eval}
 use Rattle.model.specs.Place.{subrule}
@@ -47,7 +47,7 @@ module _ (N : Name → Type 0) where
 
 -- The name is the place of a rule in r.
 abbrev pub Stands : Rule → Name → Type 0
-Stands r x = (q : Place) × (s : Rule) × (x ≡ reverse q) × (subrule q r ≡ some s)
+Stands r x = (q : Place) × (s : Rule) × (x ≡ reverse q) × (subrule q r ≡ Some s)
 
 -- 01: "A rule is named by its place"
 pub names_are_places : (r : Rule) (c : Value) (n : ℕ) (x : Name) → Memᴰ x (trace (run r c n)) → Stands r x

@@ -3,7 +3,7 @@ use Rattle.std.specs.Prelude.{◌≡◌, refl, Bool, true, false, ◌||◌, cond
 use Rattle.std.proofs.Common.{sym, subst, ap, ap₂, ◌∙◌, mul-one, mul-zero, arith, eqb→eq}
 use Rattle.std.proofs.Math.Path.{fun_ext}
 use Rattle.std.proofs.Math.Bool.{or_assoc}
-use Rattle.std.proofs.Math.Option.{Option, none, some}
+use Rattle.std.specs.Prelude.{Option, None, Some}
 use Rattle.std.specs.Int.Bits.{bit_or, or_step}
 use Rattle.std.proofs.Math.Dec.{eqb_refl}
 use Rattle.model.specs.DateText.{is_date, is_day}
@@ -16,7 +16,6 @@ use Rattle.model.specs.Value.{Value, scalar, instant, array, object, null, boole
 use Rattle.model.proofs.Laws.DateText.{is_day→is_date}
 use Rattle.model.proofs.Laws.Logic.{and_l, and_r, and_i, or_e, or_l, or_r}
 use Rattle.model.specs.declared.Ty.{Ty}
-use Rattle.model.specs.declared.Ty.TheVariants as Ty
 
 -- A truth that is not neither.
 abbrev pub decided : Truth → Bool
@@ -61,12 +60,12 @@ same_ty_refl a = eqb_refl (ty_number a)
 
 -- ---- wider types
 holds_mono : {A : Type 0} (f g : A → Bool) → ((a : A) → T (f a) → T (g a)) → (o : Option A) → T (holds f o) → T (holds g o)
-holds_mono f g m none h = h
-holds_mono f g m (some a) h = m a h
+holds_mono f g m None h = h
+holds_mono f g m (Some a) h = m a h
 
 holds_some : {A : Type 0} (f : A → Bool) (o : Option A) → T (holds f o) → T (is_some o)
-holds_some f none h = h
-holds_some f (some a) h = tt
+holds_some f None h = h
+holds_some f (Some a) h = tt
 
 cons_all : (v : Value) (a : Ty) (ts : Types) → T (belongs v a) → T (all (belongs v) ts) → T (all (belongs v) (a ∷ ts))
 cons_all v a ts h k = and_i (belongs v a) (all (belongs v) ts) h k

@@ -5,7 +5,7 @@ use mathlib.Core.List.Memᴰ
 use mathlib.Core.List.{List, [], ◌∷◌, reverse, reverse_aux, Memᴰ}
 use Rattle.model.specs.Eval.{branch, go_on, context, fold, body, body_all, body_and, eval, run, outcome}
 use Rattle.model.specs.Place.{map_rule, map_operand, replace}
-use Rattle.model.specs.Refusal.{wrong_kind}
+use Rattle.model.specs.declared.refusal.Fault.TheVariants.{WrongKind}
 use Rattle.model.specs.Result.{required}
 use Rattle.model.specs.Rule.{Rule, literal, var, if, and, reduce, apply, Rules, no_rules, rule}
 use Rattle.model.specs.Run.{Place, Name, Ended, got, failed, Run, trace, steps, log, lift, begin, continue, ◌>>=◌}
@@ -107,7 +107,7 @@ alike_operand x f p (reduce r lambda initial) zero h c = alike_bind x (eval r (0
 alike_operand x f p (reduce r lambda initial) (suc zero) h c =
     alike_bind x (eval r (0 ∷ p) c) _ _ _ (alike_refl x _) λ v.
     alike_bind x (eval initial (2 ∷ p) c) _ _ _ (alike_refl x _) λ i.
-    alike_bind x (lift (required wrong_kind (as_array v))) _ _ _ (alike_refl x _) λ vs.
+    alike_bind x (lift (required WrongKind (as_array v))) _ _ _ (alike_refl x _) λ vs.
     alike_fold x _ _ (λ cur acc. h lambda (context cur acc)) vs i
 alike_operand x f p (reduce r lambda initial) (suc (suc zero)) h c =
     alike_bind x (eval r (0 ∷ p) c) _ _ _ (alike_refl x _) (λ v. alike_bind x (eval initial (2 ∷ p) c) _ _ _ (h initial c) (λ i. alike_refl x _))

@@ -3,6 +3,7 @@ use Rattle.std.specs.Prelude.{◌≡◌, refl, Bool, List, [], ◌∷◌, ◌++�
 use Rattle.std.proofs.Common.{ap, ◌∙◌, subst, inl, inr, arith}
 use Rattle.area.specs.Words.{word_at}
 use Rattle.model.specs.Bytes.{Bytes, same_bytes}
+use Rattle.model.specs.Limits.{max_text_bytes}
 use Rattle.model.specs.Lists.{any}
 use Rattle.name_index.specs.Bits.{part}
 use Rattle.name_index.specs.Contract.{entry, Entry, names_of, Named, Between, HasRow, slots, Indexed, EnterRoom, Entered}
@@ -111,18 +112,17 @@ unfolding slots
 slots_append [] e = refl
 slots_append (x ∷ es) e = ap (λ l. (x.row - 1, x.name) ∷ l) (slots_append es e)
 
-pub room_slots : {T A : Bytes} {first row start len : ℕ} → EnterRoom T A first row start len → Slots.Room T A (first - 1) (row - 1) start len
-room_slots m = record {
+pub room_slots : {T A : Bytes} {first row start len : ℕ} {name : Bytes} → EnterRoom T A first row start len → length name ≤ max_text_bytes → Slots.Room T (first - 1) (row - 1) name
+room_slots m short = record {
   table = m.table;
   order = omega (arith, m.order);
   below = omega (arith, m.rows, m.order, m.member);
-  inside = m.strings;
-  short = m.short;
+  short = short;
 }
 
 pub by_rows :
     {T A : Bytes} {first row start len : ℕ} {b : Bool} {T' : Bytes}
-    → EnterRoom T A first row start len → Slots.Entered T A (first - 1) (row - 1) start len b T' → Entered T A first row start len b T'
+    → EnterRoom T A first row start len → Slots.Entered T A (first - 1) (row - 1) (part A start len) b T' → Entered T A first row start len b T'
 by_rows {T} {A} {first} {row} {start} {len} {b} {T'} m s = record {
   size = s.size;
   rows = s.rows;

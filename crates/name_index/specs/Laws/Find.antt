@@ -1,16 +1,15 @@
 -- Find: the law that callers of `find` cite, for an object of a table whose objects are indexed.
-use Rattle.std.specs.Prelude.{◌≡◌, [], ℕ, zero, suc, ◌≤◌, ◌<◌, length}
+use Rattle.std.specs.Prelude.{◌≡◌, [], ℕ, zero, suc, ◌≤◌, ◌<◌, length, Option}
 use Rattle.std.proofs.Common.{ap, arith}
 use Rattle.model.specs.Bytes.{Bytes}
 use Rattle.syntax.specs.Layout.{table_bytes}
 use Rattle.table.specs.declared.node.Rows.{Rows}
-use Rattle.name_index.specs.declared.find.Found.{Found}
 use Rattle.name_index.specs.Contract.{first_named, Finds}
 use Rattle.name_index.specs.Table.{entries_at, IndexedObject}
 
 -- It finds the first member of the name; any that are of that name are one.
 pub found_first :
-    {T B n : Bytes} {q : Rows} {r : Found}
+    {T B n : Bytes} {q : Rows} {r : Option ℕ}
     → table_bytes ≤ length T
     → IndexedObject T B q
     → 1 ≤ q.first

@@ -1,14 +1,12 @@
 -- Names: the place of a name among others that have spaces after them; the one law over tables.
 use Rattle.std.specs.Prelude.{◌≡◌, refl, Bool, true, false, cond, List, [], ◌∷◌, ◌++◌, ℕ, zero, suc, ◌+◌, ◌≤◌, ◌<◌, length, drop}
 use Rattle.std.proofs.Common.{sym, ap, ◌∙◌, arith, length-append, drop-drop}
-use Rattle.std.proofs.Math.Option.{Option, none, some}
+use Rattle.std.specs.Prelude.{Option, None, Some}
 use Rattle.std.proofs.lemmas.Bool.{lt-leb}
 use types.Run.{OneOf}
 use Rattle.std.proofs.Math.Seq.{take-append_seam, drop-append_seam}
 use Rattle.model.specs.Bytes.{Bytes, byte, same_bytes}
 use Rattle.model.specs.Lists.{find}
-use Rattle.octets.specs.declared.names.Position.{Position}
-use Rattle.octets.specs.declared.names.Position.TheVariants.{Nowhere, At}
 use Rattle.octets.specs.Names.{place_from, spaced, lengths, position_from, names_of, entry_at, entry_of}
 
 -- The place is that among the names.
@@ -22,30 +20,30 @@ place_among i name (n ∷ l) =
 
 module _ {A : Type 0} (name : Bytes) where
   -- What g has at a position.
-  abbrev given : (ℕ → Option A) → Position → Option A
-  given g Nowhere = none
-  given g (At i) = g i
+  abbrev given : (ℕ → Option A) → Option ℕ → Option A
+  given g None = None
+  given g (Some i) = g i
 
   found_from : (l : List (Bytes × A)) (i : ℕ) (g : ℕ → Option A) → ((k : ℕ) → g (i + k) ≡ entry_at l k) → find (same_bytes name) l ≡ given g (position_from i name (names_of l))
   found_from [] i g h = refl
   found_from (e ∷ l) i g h = go (same_bytes name e.0) (found_from l (i + 1) g (λ k. ap g (omega arith) ∙ h (suc k)))
     where
       go : (b : Bool) → find (same_bytes name) l ≡ given g (position_from (i + 1) name (names_of l))
-          → cond b (some e.1) (find (same_bytes name) l) ≡ given g (cond b (At i) (position_from (i + 1) name (names_of l)))
+          → cond b (Some e.1) (find (same_bytes name) l) ≡ given g (cond b (Some i) (position_from (i + 1) name (names_of l)))
       go true k = sym (ap g (omega arith) ∙ h 0)
       go false k = k
 
 -- A table has for a name what stands at the name's place.
-pub found_at : {A : Type 0} (l : List (Bytes × A)) (name : Bytes) {names sizes : Bytes} {r : Position}
+pub found_at : {A : Type 0} (l : List (Bytes × A)) (name : Bytes) {names sizes : Bytes} {r : Option ℕ}
     → names ≡ spaced (names_of l) → sizes ≡ lengths (names_of l) → r ≡ place_from 0 name names sizes → find (same_bytes name) l ≡ entry_of l r
 found_at l name {r = r} e f p = found_from name l 0 (entry_at l) (λ k. ap (entry_at l) (omega arith)) ∙ go r (rw (e, f, place_among 0 name (names_of l)) at p)
   where
-    go : (r : Position) {q : Position} → r ≡ q → given name (entry_at l) q ≡ entry_of l r
-    go Nowhere h = ap (given name (entry_at l)) (sym h)
-    go (At i) h = ap (given name (entry_at l)) (sym h)
+    go : (r : Option ℕ) {q : Option ℕ} → r ≡ q → given name (entry_at l) q ≡ entry_of l r
+    go None h = ap (given name (entry_at l)) (sym h)
+    go (Some i) h = ap (given name (entry_at l)) (sym h)
 
 -- So what a function of code answers at that place is what the table has for the name.
-pub answered_at : {A : Type 0} (l : List (Bytes × A)) (name : Bytes) {names sizes : Bytes} {r q : Position} {o : Option A}
+pub answered_at : {A : Type 0} (l : List (Bytes × A)) (name : Bytes) {names sizes : Bytes} {r q : Option ℕ} {o : Option A}
     → names ≡ spaced (names_of l) → sizes ≡ lengths (names_of l) → r ≡ place_from 0 name names sizes → r ≡ q → o ≡ entry_of l q → o ≡ find (same_bytes name) l
 answered_at l name e f p h k = k ∙ sym (found_at l name e f p ∙ ap (entry_of l) h)
 
@@ -59,10 +57,10 @@ none_of zero i h = omega arith
 none_of (suc n) i h = omega (arith, none_of n i h.0, h.1)
 
 -- A table has nothing behind its end.
-past_end : {A : Type 0} (l : List (Bytes × A)) (i : ℕ) → length l ≤ i → none ≡ entry_at l i
+past_end : {A : Type 0} (l : List (Bytes × A)) (i : ℕ) → length l ≤ i → None ≡ entry_at l i
 past_end [] i h = refl
 past_end (e ∷ l) zero h = absurd (omega arith)
 past_end (e ∷ l) (suc i) h = past_end l i (omega arith)
 
-pub no_entry : {A : Type 0} (l : List (Bytes × A)) (i : ℕ) → NoneOf (length l) i → none ≡ entry_at l i
+pub no_entry : {A : Type 0} (l : List (Bytes × A)) (i : ℕ) → NoneOf (length l) i → None ≡ entry_at l i
 no_entry l i h = past_end l i (none_of (length l) i h)

@@ -1,9 +1,8 @@
-use mathlib.Core.Path.{refl}
-use Rattle.op_dates.proofs.Instants.{moves}
+use Rattle.op_dates.proofs.Instants.{error_is, moves}
 use Rattle.op_dates.proofs.moved.Goals as goal
 
-pub returns-in-At : goal.returns-in-At
-returns-in-At c = moves c.signed.ensures (record { sfits = c.signed.type_inv }) c.shift.ensures c.in-At.is c.instant.ensures
+pub returns-in_err-shifted : goal.returns-in_err-shifted
+returns-in_err-shifted c = moves c.signed.ensures (record { sfits = c.signed.type_inv }) c.in_err-shifted.ensures (error_is c.from_residual.ensures.1)
 
-pub returns-in-OutOfRange : goal.returns-in-OutOfRange
-returns-in-OutOfRange c = moves c.signed.ensures (record { sfits = c.signed.type_inv }) c.shift.ensures c.in-OutOfRange.is refl
+pub returns : goal.returns
+returns c = moves c.signed.ensures (record { sfits = c.signed.type_inv }) c.in_ok-shifted.ensures c.instant.ensures

@@ -1,3 +1,4 @@
+use mathlib.Core.Logic.{⊎_elim}
 use Rattle.op_lookup.proofs.Parts.{no_part, items_part, members_part, list_part, context_part}
 use Rattle.op_lookup.proofs.part.Goals as goal
 
@@ -8,10 +9,7 @@ pub returns-in-Context : goal.returns-in-Context
 returns-in-Context c = rw c.in-Compound.is (context_part c.in-Context.is c.member.ensures)
 
 pub returns-in-Items : goal.returns-in-Items
-returns-in-Items c = rw c.in-Compound.is (items_part c.in-Items.is)
-
-pub returns-in-Members : goal.returns-in-Members
-returns-in-Members c = rw c.in-Compound.is (members_part c.in-Members.is)
+returns-in-Items c = rw c.in-Compound.is (⊎_elim items_part members_part c.in-Items.is)
 
 pub returns-in_default : goal.returns-in_default
 returns-in_default c = no_part _ c.in_default.not-Compound

@@ -8,11 +8,8 @@ use Rattle.op_lookup.proofs.value_at.Goals as goal
 pub loop-at-init : goal.loop-at-init
 loop-at-init c = begins
 
-pub find-requires : goal.find-requires
-find-requires c = c.requires
-
-pub returns-in-Record : goal.returns-in-Record
-returns-in-Record c = c.loop-at.invariant.goes _ (walk_record c.args.path.now c.loop-at.at (rw c.in-Record.is at c.place_of-place.ensures) c.find.ensures c.of_node.ensures)
+pub returns-in-Some : goal.returns-in-Some
+returns-in-Some c = c.loop-at.invariant.goes _ (walk_record c.args.path.now c.loop-at.at (rw c.in-Some.is at c.place_of.ensures) c.find.ensures c.from.ensures)
 
 pub slice_bounds-part-count : goal.slice_bounds-part-count
 slice_bounds-part-count c = omega (arith, c.fragment_end-end.ensures)
@@ -24,7 +21,7 @@ pub loop-at-smaller : goal.loop-at-smaller
 loop-at-smaller c = omega (arith, c.fragment_end-end.ensures)
 
 pub loop-at-preserved : goal.loop-at-preserved
-loop-at-preserved c = goes_on c.loop-at.invariant (walk_on c.args.path.now c.loop-at.at (omega arith) c.fragment_end-end.ensures (rw c.in-Cells.is at c.place_of-place.ensures) c.part-h.ensures)
+loop-at-preserved c = goes_on c.loop-at.invariant (walk_on c.args.path.now c.loop-at.at (omega arith) c.fragment_end-end.ensures (rw c.in_default.is at c.place_of.ensures) c.part-h.ensures)
 
 pub returns : goal.returns
 returns c = c.loop-at.invariant.goes _ (walk_ends c.args.path.now c.loop-at.at (omega arith))

@@ -18,9 +18,6 @@ slice_bounds-part-count c = omega (arith, c.fragment_end-end.ensures)
 pub slice_bounds-part-end : goal.slice_bounds-part-end
 slice_bounds-part-end c = omega (arith, c.fragment_end-end.ensures, end_inside (ascii ".") c.args.path.now c.loop-at.at (omega arith))
 
-pub part-n-requires : goal.part-n-requires
-part-n-requires c = c.requires
-
 pub overflow_add-at : goal.overflow_add-at
 overflow_add-at c = omega (arith, c.fragment_end-end.ensures, end_inside (ascii ".") c.args.path.now c.loop-at.at (omega arith))
 
@@ -28,7 +25,7 @@ pub loop-at-smaller : goal.loop-at-smaller
 loop-at-smaller c = omega (arith, c.fragment_end-end.ensures)
 
 pub loop-at-preserved : goal.loop-at-preserved
-loop-at-preserved c = walk_on c.args.table.now c.args.strings.now c.args.path.now c.loop-at.at c.loop-at.n (omega arith) c.fragment_end-end.ensures c.part-n.ensures ∙ c.loop-at.invariant
+loop-at-preserved c = walk_on c.args.text.table.now c.args.text.strings.now c.args.path.now c.loop-at.at c.loop-at.n (omega arith) c.fragment_end-end.ensures c.part-n.ensures ∙ c.loop-at.invariant
 
 pub returns : goal.returns
-returns c = leads_along (walk_ends c.args.table.now c.args.strings.now c.args.path.now c.loop-at.at c.loop-at.n (omega arith) ∙ c.loop-at.invariant)
+returns c = leads_along (walk_ends c.args.text.table.now c.args.text.strings.now c.args.path.now c.loop-at.at c.loop-at.n (omega arith) ∙ c.loop-at.invariant)

@@ -8,4 +8,4 @@ pub returns-in-Object : goal.returns-in-Object
 returns-in-Object c = rw c.in-Object.is c.member.ensures
 
 pub returns-in_default : goal.returns-in_default
-returns-in_default c = no_part c.args.table.now c.args.strings.now c.args.fragment.now c.args.n c.in_default.not-Array c.in_default.not-Object
+returns-in_default c = no_part c.args.text.table.now c.args.text.strings.now c.args.fragment.now c.args.n c.in_default.not-Array c.in_default.not-Object

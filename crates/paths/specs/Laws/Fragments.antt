@@ -2,7 +2,7 @@
 use Rattle.std.specs.Prelude.{◌≡◌, refl, Bool, true, false, cond, ◌&&◌, List, [], ◌∷◌, ℕ, suc, ◌+◌, ◌≤◌, eqb, length, take, drop}
 use Rattle.std.proofs.Common.{ap, ◌∙◌, arith, drop-drop}
 use Rattle.std.proofs.lemmas.Bool.{false≢true}
-use Rattle.std.proofs.Math.Option.{Option, none, some}
+use Rattle.std.specs.Prelude.{Option, None, Some}
 use Rattle.model.specs.Bytes.{Bytes, ascii, byte, cons_head, split_on}
 use Rattle.model.specs.Lists.{all, any}
 use Rattle.model.specs.Option.{◌>>=◌}
@@ -54,23 +54,23 @@ non_empty (x ∷ s) = true
 pub record First (t : Bytes) (q : Path) : Type 0 where
   pub rest : Path
   pub is : q ≡ take (size t) t ∷ rest
-  pub behind : path_of (drop (size t + 1) t) ≡ some rest
+  pub behind : path_of (drop (size t + 1) t) ≡ Some rest
 
 and_true : (a b : Bool) → a && b ≡ true → b ≡ true
 and_true true b e = e
 and_true false b e = clash cc
 
 -- Behind the first fragment: nothing, or a dot and the other fragments.
-path_behind : (u : Bytes) → all non_empty (others is_dot u) ≡ true → path_of (drop 1 u) ≡ some (others is_dot u)
+path_behind : (u : Bytes) → all non_empty (others is_dot u) ≡ true → path_of (drop 1 u) ≡ Some (others is_dot u)
 path_behind [] e = refl
 path_behind (x ∷ []) e = absurd (false≢true e)
 path_behind (x ∷ y ∷ u) e = rw e
 
-pub first : (t : Bytes) (q : Path) → 1 ≤ length t → path_of t ≡ some q → First t q
+pub first : (t : Bytes) (q : Path) → 1 ≤ length t → path_of t ≡ Some q → First t q
 first [] q l e = absurd (omega arith)
 first (x ∷ s) q l e =
     let t = x ∷ s in
-    let (n, f) = when_some (all non_empty (split_on is_dot t)) (some (split_on is_dot t)) e in
+    let (n, f) = when_some (all non_empty (split_on is_dot t)) (Some (split_on is_dot t)) e in
     let g : q ≡ split_on is_dot t = cc in
     let is = first_fragment (ascii ".") is_dot_lem t in
     record {
@@ -79,7 +79,7 @@ first (x ∷ s) q l e =
       behind = rw (← drop-drop 1 (size t) t) (path_behind (drop (size t) t) (and_true (non_empty (take (size t) t)) _ (rw is at n)));
     }
 
-pub path_fragments : (q : Path) (t : Bytes) → path_of t ≡ some q → fragments t ≡ q
+pub path_fragments : (q : Path) (t : Bytes) → path_of t ≡ Some q → fragments t ≡ q
 path_fragments [] [] e = refl
 path_fragments (f ∷ q) [] e = clash cc
 path_fragments [] (x ∷ s) e = let y = first (x ∷ s) [] (omega arith) e in let z = y.is in clash cc
@@ -95,6 +95,6 @@ pub value_on : (f : Bytes) (q : Path) (v : Value) → value_at (f ∷ q) v ≡ v
 value_on f q v = go q (part f v)
   where
     go : (q : Path) (o : Option Value) → or_null (o >>= lookup q) ≡ value_at q (or_null o)
-    go q (some u) = refl
-    go [] none = refl
-    go (g ∷ q) none = refl
+    go q (Some u) = refl
+    go [] None = refl
+    go (g ∷ q) None = refl

@@ -1,13 +1,18 @@
 -- Checked: with a sheet, when evaluation has begun, and that its answer is the one without a sheet.
 use Rattle.std.specs.Prelude.{false, ◌||◌, ◌↔◌, ◌≡◌, refl, ℕ, ◌≤◌, length, replicate}
 use Rattle.std.proofs.Common.{inl, inr, sym, ap, subst, ◌∙◌, arith}
-use Rattle.std.proofs.Math.Option.{Option, none, some}
+use Rattle.std.specs.Prelude.{Option, None, Some}
 use Rattle.model.specs.Bytes.{Bytes}
 use Rattle.model.specs.Eval.{run, Outcome, value, refusal, outcome}
 use Rattle.model.specs.Judgement.{Judged, done, refuses, judged_number, sheet_in, or_refuse, written_within, written, Answer, answer_of}
 use Rattle.model.proofs.Laws.Logic.{or_false_l, or_false_r}
 use Rattle.model.proofs.Main.{found_some}
-use Rattle.model.specs.Refusal.{Refusal, number, not_json, repeated_name, lone_surrogate, bad_number, too_large, not_rule, not_sheet, not_accepted, fault, wrong_kind, bad_date, out_of_range, out_of_steps}
+use Rattle.model.specs.Refusal.{number}
+use Rattle.model.specs.declared.refusal.ReadFault.TheVariants.{NotJson, RepeatedName, LoneSurrogate, BadNumber, TooLarge}
+use Rattle.model.specs.declared.refusal.Fault.TheVariants.{WrongKind, BadDate, OutOfRange}
+use Rattle.model.specs.declared.refusal.EvalFault.TheVariants.{Operation, OutOfSteps}
+use Rattle.model.specs.declared.refusal.Refusal.{Refusal}
+use Rattle.model.specs.declared.refusal.Refusal.TheVariants.{NotRule, NotSheet, NotAccepted}
 use Rattle.model.specs.Rule.{Rule}
 use Rattle.model.specs.Shape.{shape}
 use Rattle.model.specs.Sheet.{Sheet, sheet_of}
@@ -44,15 +49,15 @@ early_bind (refused e w p) f h k = h
 
 read_early : (which : ℕ) (r : Read) → EarlyStage (as_read which r)
 read_early which (readings.done v) = tt
-read_early which (readings.refuse not_json p) = record { not_0 = λ e. omega arith; not_between = λ l m. omega arith }
-read_early which (readings.refuse repeated_name p) = record { not_0 = λ e. omega arith; not_between = λ l m. omega arith }
-read_early which (readings.refuse lone_surrogate p) = record { not_0 = λ e. omega arith; not_between = λ l m. omega arith }
-read_early which (readings.refuse bad_number p) = record { not_0 = λ e. omega arith; not_between = λ l m. omega arith }
-read_early which (readings.refuse too_large p) = record { not_0 = λ e. omega arith; not_between = λ l m. omega arith }
+read_early which (readings.refuse NotJson p) = record { not_0 = λ e. omega arith; not_between = λ l m. omega arith }
+read_early which (readings.refuse RepeatedName p) = record { not_0 = λ e. omega arith; not_between = λ l m. omega arith }
+read_early which (readings.refuse LoneSurrogate p) = record { not_0 = λ e. omega arith; not_between = λ l m. omega arith }
+read_early which (readings.refuse BadNumber p) = record { not_0 = λ e. omega arith; not_between = λ l m. omega arith }
+read_early which (readings.refuse TooLarge p) = record { not_0 = λ e. omega arith; not_between = λ l m. omega arith }
 
 judged_early : {X : Type 0} (e : Refusal) (o : Option X) → Early (number e) → EarlyStage (as_judged (or_refuse e o))
-judged_early e none h = h
-judged_early e (some x) h = tt
+judged_early e None h = h
+judged_early e (Some x) h = tt
 
 text_early : {X : Type 0} (which : ℕ) (e : Refusal) (f : Value → Option X) (s : Bytes) → Early (number e) → EarlyStage (text_stage which (λ v. or_refuse e (f v)) s)
 text_early {X} which e f s h = early_bind (read_as which s) judged (read_early which (readings.read s)) (λ v. early_bind (as_judged (or_refuse e (f v))) (both v) (judged_early e (f v) h) (λ x. tt))
@@ -63,20 +68,20 @@ text_early {X} which e f s h = early_bind (read_as which s) judged (read_early w
     judged : Value → Stage (TextRead X)
     judged v = as_judged (or_refuse e (f v)) >>= both v
 
-before_13 : Early (number not_accepted)
+before_13 : Early (number NotAccepted)
 before_13 = record { not_0 = λ e. omega arith; not_between = λ l m. omega arith }
 
-before_14 : Early (number not_sheet)
+before_14 : Early (number NotSheet)
 before_14 = record { not_0 = λ e. omega arith; not_between = λ l m. omega arith }
 
-before_6 : Early (number not_rule)
+before_6 : Early (number NotRule)
 before_6 = record { not_0 = λ e. omega arith; not_between = λ l m. omega arith }
 
 check_early : (rule sheet : Bytes) → EarlyStage (check_stage rule sheet)
-check_early rule sheet = early_bind (rule_stage rule) with_rule (text_early rule_text not_rule shape rule before_6) (λ r. early_bind (sheet_stage sheet) (with_sheet r) (text_early sheet_text not_sheet sheet_of sheet before_14) (λ s. early_bind (accepted r s) (all_three r s) (judged_early not_accepted (check r.content s.content) before_13) (λ ts. tt)))
+check_early rule sheet = early_bind (rule_stage rule) with_rule (text_early rule_text NotRule shape rule before_6) (λ r. early_bind (sheet_stage sheet) (with_sheet r) (text_early sheet_text NotSheet sheet_of sheet before_14) (λ s. early_bind (accepted r s) (all_three r s) (judged_early NotAccepted (check r.content s.content) before_13) (λ ts. tt)))
   where
     accepted : TextRead Rule → TextRead Sheet → Stage Types
-    accepted r s = as_judged (or_refuse not_accepted (check r.content s.content))
+    accepted r s = as_judged (or_refuse NotAccepted (check r.content s.content))
 
     all_three : TextRead Rule → TextRead Sheet → Types → Stage TextsChecked
     all_three r s ts = passed (record { rule = r; sheet = s; types = ts })
@@ -102,10 +107,10 @@ told_number a t (done x) k = refl
 told_number a t (refuses x) k = refl
 
 judged_after : (a : CheckedAreas) (t : CheckedTextsRead) (room : ℕ) (o : Outcome) (k : ℕ) → AfterEvaluation (checked_answered a t (written room o) k).refusal
-judged_after a t room (refusal (fault wrong_kind)) k = inr (omega arith, omega arith)
-judged_after a t room (refusal (fault bad_date)) k = inr (omega arith, omega arith)
-judged_after a t room (refusal (fault out_of_range)) k = inr (omega arith, omega arith)
-judged_after a t room (refusal out_of_steps) k = inr (omega arith, omega arith)
+judged_after a t room (refusal (Operation WrongKind)) k = inr (omega arith, omega arith)
+judged_after a t room (refusal (Operation BadDate)) k = inr (omega arith, omega arith)
+judged_after a t room (refusal (Operation OutOfRange)) k = inr (omega arith, omega arith)
+judged_after a t room (refusal OutOfSteps) k = inr (omega arith, omega arith)
 judged_after a t room (value v) k = subst AfterEvaluation (sym (told_number a t (written_within room v) k)) (written_number AfterEvaluation room v (inl refl) (inr (omega arith, omega arith)) (inr (omega arith, omega arith)))
 
 -- ---- when evaluation has begun
@@ -113,7 +118,7 @@ pub types_some : (rule sheet : Bytes) (t : TextsChecked) → check_stage rule sh
 types_some rule sheet t e =
     let c = check_held rule sheet t e in
     let s = text_held sheet_text sheet_in sheet t.sheet c.sheet_passes in
-    bits_some t.types (found_some t.sheet.value t.rule.content t.sheet.content t.types (not_refused not_sheet (sheet_of t.sheet.value) t.sheet.content s.judged) c.checks)
+    bits_some t.types (found_some t.sheet.value t.rule.content t.sheet.content t.types (not_refused NotSheet (sheet_of t.sheet.value) t.sheet.content s.judged) c.checks)
 
 pub told_words : (a : CheckedAreas) (t : CheckedTextsRead) (j : Judged Bytes) (k : ℕ) → (checked_answered a t j k).numbers.words ≡ type_bits t.checked.types
 told_words a t (done x) k = refl

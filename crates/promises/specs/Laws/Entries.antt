@@ -5,7 +5,7 @@ use Rattle.model.specs.Bytes.{Bytes}
 use Rattle.model.specs.Judgement.{done, refuses, judged_number, written_within}
 use Rattle.model.proofs.Laws.Logic.{or_false_l}
 use Rattle.model.specs.Limits.{max_steps}
-use Rattle.model.specs.Refusal.{answer_too_large, output_too_short}
+use Rattle.model.specs.declared.refusal.Refusal.TheVariants.{AnswerTooLarge, OutputTooShort}
 use Rattle.model.specs.Rule.{Rule}
 use Rattle.model.specs.Size.{is_too_large}
 use Rattle.model.specs.Value.{Value}
@@ -40,11 +40,11 @@ limit_within limit cells b e = ltb-false max_steps limit (or_false_l (ltb max_st
 pub written_number : (P : ℕ → Type 0) (room : ℕ) (v : Value) → P 0 → P 11 → P 12 → P (judged_number (written_within room v))
 written_number P room v done-so too_large too_short = large (is_too_large v)
   where
-    short : (b : Bool) (x : Bytes) → P (judged_number (cond b (refuses output_too_short) (done x)))
+    short : (b : Bool) (x : Bytes) → P (judged_number (cond b (refuses OutputTooShort) (done x)))
     short true x = too_short
     short false x = done-so
 
-    large : (b : Bool) → P (judged_number (cond b (refuses answer_too_large) (cond (ltb room (length (value_text v))) (refuses output_too_short) (done (value_text v)))))
+    large : (b : Bool) → P (judged_number (cond b (refuses AnswerTooLarge) (cond (ltb room (length (value_text v))) (refuses OutputTooShort) (done (value_text v)))))
     large true = too_large
     large false = short (ltb room (length (value_text v))) (value_text v)
 

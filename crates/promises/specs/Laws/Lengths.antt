@@ -1,6 +1,6 @@
 -- Lengths: the entries' definitions see nothing of the areas but their lengths, and nothing of the numbers.
 use Rattle.std.specs.Prelude.{Bool, true, false, ◌||◌, ◌≡◌, refl, ℕ, ltb, length, replicate}
-use Rattle.std.proofs.Math.Option.{Option, none, some}
+use Rattle.std.specs.Prelude.{Option, None, Some}
 use Rattle.std.proofs.Common.{◌∙◌}
 use Rattle.model.specs.Bytes.{Bytes}
 use Rattle.model.specs.Judgement.{Judged, done, refuses, Answer, answer_of}
@@ -126,5 +126,5 @@ evaluate_checked_lengths rule sheet record' limit a b m n h =
 
 -- ---- the viewer
 pub told_numbers : {N : Type 0} (told : Option N) (m n : N) → SameTold (told_or m told) (told_or n told)
-told_numbers none m n = record { refusal = refl; whole = λ k. absurd (k refl) }
-told_numbers (some x) m n = record { refusal = refl; whole = λ k. refl }
+told_numbers None m n = record { refusal = refl; whole = λ k. absurd (k refl) }
+told_numbers (Some x) m n = record { refusal = refl; whole = λ k. refl }

@@ -8,7 +8,7 @@ use Rattle.model.proofs.Laws.Logic.{or_e, T→true}
 use Rattle.model.proofs.Laws.Types.{same_ty_refl}
 use Rattle.model.specs.Limits.{max_steps}
 use Rattle.model.proofs.Main.{EndsWell}
-use Rattle.model.specs.Refusal.{not_rule, not_sheet}
+use Rattle.model.specs.declared.refusal.Refusal.TheVariants.{NotRule, NotSheet}
 use Rattle.model.specs.Run.{steps}
 use Rattle.model.specs.Shape.{shape}
 use Rattle.model.specs.Sheet.{sheet_of, fits}
@@ -61,9 +61,9 @@ run_named rule sheet record' limit c v passes reads fit within =
     ends_named c.types (outcome (run c.rule.content v limit))
     (demand_3a_bytes rule sheet record' c.rule.value c.sheet.value v c.rule.content c.sheet.content c.types limit
     r.reads
-    (not_refused not_rule (shape c.rule.value) c.rule.content r.judged)
+    (not_refused NotRule (shape c.rule.value) c.rule.content r.judged)
     s.reads
-    (not_refused not_sheet (sheet_of c.sheet.value) c.sheet.content s.judged)
+    (not_refused NotSheet (sheet_of c.sheet.value) c.sheet.content s.judged)
     h.checks
     (record_held record' v reads)
     fit

@@ -1,11 +1,11 @@
 -- Replaced: demand 3b at the entry: another rule in the place of an operand rule that the run never begins.
 use Rattle.std.specs.Prelude.{Bool, true, false, ◌++◌, ◌≡◌, refl, ℕ, length}
-use Rattle.std.proofs.Math.Option.{some}
+use Rattle.std.specs.Prelude.{Some}
 use Rattle.std.proofs.Common.{sym, subst, ◌∙◌}
 use Rattle.model.specs.Bytes.{Bytes}
 use Rattle.model.specs.Eval.{run, outcome}
 use Rattle.model.specs.Judgement.{Judged, done, refuses, rule_in, written}
-use Rattle.model.specs.Refusal.{not_rule}
+use Rattle.model.specs.declared.refusal.Refusal.TheVariants.{NotRule}
 use Rattle.model.specs.Rule.{Rule}
 use Rattle.model.specs.Run.{steps}
 use Rattle.model.specs.Shape.{shape}
@@ -27,8 +27,8 @@ module _ (text record' before old after new : Bytes) (limit : ℕ) (h : Replacem
   of_rule : (s : Bytes) (x : TextRead Rule) → rule_stage s ≡ passed x → TextHeld rule_in s x
   of_rule s x e = text_held rule_text rule_in s x e
 
-  shape_of : (s : Bytes) (x : TextRead Rule) → rule_stage s ≡ passed x → shape x.value ≡ some x.content
-  shape_of s x e = not_refused not_rule (shape x.value) x.content (of_rule s x e).judged
+  shape_of : (s : Bytes) (x : TextRead Rule) → rule_stage s ≡ passed x → shape x.value ≡ Some x.content
+  shape_of s x e = not_refused NotRule (shape x.value) x.content (of_rule s x e).judged
 
   pub demand_3b : RunsAlike h.texts.rule.content h.whole.content h.texts limit
   demand_3b =

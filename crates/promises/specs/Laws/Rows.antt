@@ -1,6 +1,6 @@
 -- Rows: the starred rows, from the bytes of the texts: what they read as, and what the model says of that (model/Laws/Rows.antt).
 use Rattle.std.specs.Prelude.{[], ◌∷◌, ◌≡◌, refl, ℕ, length, replicate}
-use Rattle.std.proofs.Math.Option.{some}
+use Rattle.std.specs.Prelude.{Some}
 use Rattle.std.proofs.Common.{sym, ap, subst, ◌∙◌}
 use Prim.Native.String.{String}
 use Rattle.model.specs.Bytes.{Bytes, ascii}
@@ -9,7 +9,10 @@ use Rattle.model.proofs.Laws.Option.{bind_some}
 use Rattle.model.proofs.Laws.Rows as rows
 use Rattle.model.proofs.Laws.Rows.{arr, op, str, var, int, row_record, reduce_rule}
 use Rattle.model.specs.Limits.{max_text_bytes, max_values, max_nesting, max_integer, max_steps}
-use Rattle.model.specs.Refusal.{Refusal, evaluating, fault, wrong_kind, out_of_range, out_of_steps}
+use Rattle.model.specs.declared.refusal.Fault.TheVariants.{WrongKind, OutOfRange}
+use Rattle.model.specs.declared.refusal.EvalFault.TheVariants.{Operation, OutOfSteps}
+use Rattle.model.specs.declared.refusal.Refusal.{Refusal}
+use Rattle.model.specs.declared.refusal.Refusal.TheVariants.{Evaluating}
 use Rattle.model.specs.Rule.{Rule}
 use Rattle.model.specs.Shape.{shape}
 use Rattle.model.specs.Size.{value_count}
@@ -34,14 +37,14 @@ record Tells (x : Answer) (e : Evaluated) : Type 0 where
   size : e.numbers.size ≡ written_size x.result
   output : e.areas.work.output ≡ written_output x.result max_text_bytes
 
-module _ (rule : String) (limit : ℕ) (v : Value) (x : Answer) (reads : read (ascii rule) ≡ readings.done v) (reads-record : read (ascii "{\"a\":1}") ≡ readings.done row_record) (judged : rows.judged v limit ≡ some x) (a : Areas) (n : Numbers)
+module _ (rule : String) (limit : ℕ) (v : Value) (x : Answer) (reads : read (ascii rule) ≡ readings.done v) (reads-record : read (ascii "{\"a\":1}") ≡ readings.done row_record) (judged : rows.judged v limit ≡ Some x) (a : Areas) (n : Numbers)
     (l : Lent limit a) where
   answered_so : (t : TextsRead) (j : Judged Bytes) (k : ℕ) → Tells (record { result = j; steps_begun = k }) (answered a t j k)
   answered_so t (done s) k = record { refusal = refl; which = refl; place = refl; steps = refl; size = refl; output = ap (λ (room : ℕ). written_output (done s) room) l.output }
   answered_so t (refuses e) k = record { refusal = refl; which = refl; place = refl; steps = refl; size = refl; output = ap (λ (room : ℕ). written_output (refuses e) room) l.output }
 
   -- Of the rule that the value is.
-  of_rule : (r : Rule) → shape v ≡ some r → answer_of r row_record limit max_text_bytes ≡ x → Tells x (called rule limit a n)
+  of_rule : (r : Rule) → shape v ≡ Some r → answer_of r row_record limit max_text_bytes ≡ x → Tells x (called rule limit a n)
   of_rule r is-rule is =
       let t : TextsRead = record { rule = record { value = v; content = r }; «record» = row_record } in
       let passes : evaluate_stage (ascii rule) (ascii "{\"a\":1}") ≡ passed t = rw (reads, is-rule, reads-record) in
@@ -54,7 +57,7 @@ module _ (rule : String) (limit : ℕ) (v : Value) (x : Answer) (reads : read (a
   tells : Tells x (called rule limit a n)
   tells = bind_some (shape v) _ judged (λ r is-rule is. of_rule r is-rule (some_same is))
     where
-      some_same : {y : Answer} → some y ≡ some x → y ≡ x
+      some_same : {y : Answer} → Some y ≡ Some x → y ≡ x
       some_same e = cc
 
 -- ---- the record's text, and the rules', as they read
@@ -92,8 +95,8 @@ starred_rows a n l = record {
   equal = gives "{\"===\":[{\"var\":\"a\"},1]}" max_steps "true" 3 (op "===" (var "a" ∷ int 1 ∷ [])) texts_read.1 rows.row_equal a n l;
   first_falsy = gives "{\"and\":[0,{\"+\":[\"a\",1]}]}" max_steps "0" 2 (op "and" (int 0 ∷ op "+" (str "a" ∷ int 1 ∷ []) ∷ [])) texts_read.2 rows.row_and a n l;
   not_empty = gives "{\"!\":[[]]}" max_steps "true" 2 (op "!" (arr [] ∷ [])) texts_read.3 rows.row_not a n l;
-  third_kind = denies "{\">\":[3,2,\"x\"]}" max_steps 4 7 (op ">" (int 3 ∷ int 2 ∷ str "x" ∷ [])) (evaluating (fault wrong_kind)) refl texts_read.4 rows.row_greater a n l;
-  past_limit = denies "{\"+\":[9007199254740991,1]}" max_steps 3 9 (op "+" (int 9007199254740991 ∷ int 1 ∷ [])) (evaluating (fault out_of_range)) refl texts_read.5 rows.row_plus a n l;
+  third_kind = denies "{\">\":[3,2,\"x\"]}" max_steps 4 7 (op ">" (int 3 ∷ int 2 ∷ str "x" ∷ [])) (Evaluating (Operation WrongKind)) refl texts_read.4 rows.row_greater a n l;
+  past_limit = denies "{\"+\":[9007199254740991,1]}" max_steps 3 9 (op "+" (int 9007199254740991 ∷ int 1 ∷ [])) (Evaluating (Operation OutOfRange)) refl texts_read.5 rows.row_plus a n l;
   reduce = gives reduce_text max_steps "6" 15 (reduce_rule) texts_read.6 rows.row_reduce a n l;
   month = gives "{\"plusTime\":[\"2020-01-31\",1,\"month\"]}" max_steps "\"2020-03-02T00:00:00.000Z\"" 2 (op "plusTime" (str "2020-01-31" ∷ int 1 ∷ str "month" ∷ [])) texts_read.7 rows.row_month a n l;
   year = gives "{\"plusTime\":[\"2020-02-29\",1,\"year\"]}" max_steps "\"2021-03-01T00:00:00.000Z\"" 2 (op "plusTime" (str "2020-02-29" ∷ int 1 ∷ str "year" ∷ [])) texts_read.8 rows.row_year a n l;
@@ -104,4 +107,4 @@ pub reduce_at_15 : (a : Areas) (n : Numbers) → Lent 15 a → Comes (called red
 reduce_at_15 a n l = gives reduce_text 15 "6" 15 (reduce_rule) texts_read.6 rows.row_reduce_15 a n l
 
 pub reduce_at_14 : (a : Areas) (n : Numbers) → Lent 14 a → Comes (called reduce_text 14 a n) 10 0 0 14 0 ""
-reduce_at_14 a n l = denies reduce_text 14 14 10 (reduce_rule) (evaluating out_of_steps) refl texts_read.6 rows.row_reduce_14 a n l
+reduce_at_14 a n l = denies reduce_text 14 14 10 (reduce_rule) (Evaluating OutOfSteps) refl texts_read.6 rows.row_reduce_14 a n l

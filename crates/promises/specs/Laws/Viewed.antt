@@ -4,7 +4,8 @@ use Rattle.std.proofs.Common.{sym, ap, subst, ◌∙◌, ltb-false}
 use Rattle.model.specs.Bytes.{Bytes}
 use Rattle.model.specs.Judgement.{Judged, done, refuses, rule_in, sheet_in, answer_of}
 use Rattle.model.proofs.Laws.Logic.{or_false_l, or_false_r}
-use Rattle.model.specs.Refusal.{number, invalid_argument, reading}
+use Rattle.model.specs.Refusal.{number}
+use Rattle.model.specs.declared.refusal.Refusal.TheVariants.{InvalidArgument, Reading}
 use Rattle.model.specs.Rule.{Rule}
 use Rattle.model.specs.Sheet.{Sheet}
 use Rattle.model.specs.Value.{Value}
@@ -48,17 +49,17 @@ pub read_shown : (text T A : Bytes) (place : ℕ) → (read_entry text T A place
 read_shown text T A place z = by_size (too_short T A) refl z
   where
     unread : ReadAnswer
-    unread = record { refusal = number invalid_argument; place = place; table = T; strings = A }
+    unread = record { refusal = number InvalidArgument; place = place; table = T; strings = A }
 
     entry : Bool → ReadAnswer
     entry b = elim b [ true ↦ unread | false ↦ read_into (read text) (length T) (length A) ]
 
     of_read : (r : Read) → read text ≡ r → too_short T A ≡ false → (read_into r (length T) (length A)).refusal ≡ 0 → ReadShown text (read_into r (length T) (length A)).table (read_into r (length T) (length A)).strings
     of_read (readings.done v) e long z = held_shown text v (text_areas T A) e long
-    of_read (readings.refuse k p) e long z = absurd (number_some (reading k) z)
+    of_read (readings.refuse k p) e long z = absurd (number_some (Reading k) z)
 
     by_size : (b : Bool) → too_short T A ≡ b → (entry b).refusal ≡ 0 → ReadShown text (entry b).table (entry b).strings
-    by_size true e z = absurd (number_some invalid_argument z)
+    by_size true e z = absurd (number_some InvalidArgument z)
     by_size false e z = of_read (read text) refl e z
 
 -- ---- `jehvrukam_check`

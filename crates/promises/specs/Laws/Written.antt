@@ -7,7 +7,8 @@ use Rattle.model.specs.Eval.{run}
 use Rattle.model.specs.Judgement.{Judged, done, refuses, rule_in, answer_of}
 use Rattle.model.proofs.Laws.Logic.{clash}
 use Rattle.model.specs.Limits.{max_text_bytes}
-use Rattle.model.specs.Refusal.{not_json, not_rule}
+use Rattle.model.specs.declared.refusal.ReadFault.TheVariants.{NotJson}
+use Rattle.model.specs.declared.refusal.Refusal.TheVariants.{NotRule}
 use Rattle.model.specs.Run.{steps}
 use Rattle.model.specs.Shape.{shape}
 use Rattle.model.specs.Value.{Value}
@@ -26,7 +27,7 @@ use Rattle.promises.specs.Laws.Checked.{without_sheet}
 use Rattle.promises.specs.Laws.Entries.{behind, zero_not_1}
 
 -- No text without a byte reads.
-nothing_read : read [] ≡ readings.refuse not_json 0
+nothing_read : read [] ≡ readings.refuse NotJson 0
 unfolding read answer text white then ◌>>=◌ give fail if peek eat value on_start start_of is_white max_text_bytes
 nothing_read = refl
 
@@ -45,7 +46,7 @@ module _ (rule record' : Bytes) (limit : ℕ) (a : Areas) where
   of_text t e text w =
       let h = evaluate_held rule record' t e in
       let r = text_held rule_text rule_in rule t.rule h.rule_passes in
-      let b = answer_reads_back rule record' t.rule.value t.«record» t.rule.content limit (length a.work.output) text r.reads (not_refused not_rule (shape t.rule.value) t.rule.content r.judged) (record_held record' t.«record» h.record_passes) w in
+      let b = answer_reads_back rule record' t.rule.value t.«record» t.rule.content limit (length a.work.output) text r.reads (not_refused NotRule (shape t.rule.value) t.rule.content r.judged) (record_held record' t.«record» h.record_passes) w in
       record { answer = b.answer; runs = record { texts = t; read_so = e; outcome_is = b.ends; steps_are = refl }; is_text_lem = b.is_text_lem; length_is = refl; not_empty = some_byte text b.reads; reads = b.reads; reads_back = b.reads_back }
 
   of_stage_lem : (x : Stage TextsRead) → evaluate_stage rule record' ≡ x → (evaluate_answer a limit x).refusal ≡ 0 → Answers rule record' limit (evaluate_answer a limit x).numbers.steps (evaluate_answer a limit x).numbers.size (written_by (evaluate_answer a limit x))

@@ -1,5 +1,5 @@
 -- Holds: the operands of a rule, one by one; a row holds one rule.
-use Rattle.std.proofs.Math.Option.{some}
+use Rattle.std.specs.Prelude.{Some}
 use Rattle.std.specs.Prelude.{◌≡◌, refl, ℕ, suc, ◌≤◌}
 use Rattle.std.proofs.Common.{sym, ap, ◌∙◌, arith}
 use Rattle.model.specs.Bytes.{Bytes}
@@ -19,7 +19,7 @@ use Rattle.rule.specs.Holds.{Holds, HoldsAll, rule_count}
 
 -- ---- rules
 -- There are as many rules as items.
-pub rules_count : (vs : Values) (rs : Rules) → rules_of (operands_of vs) ≡ some rs → item_count vs ≡ rule_count rs
+pub rules_count : (vs : Values) (rs : Rules) → rules_of (operands_of vs) ≡ Some rs → item_count vs ≡ rule_count rs
 unfolding operands_of item_count
 rules_count no_items no_rules e = refl
 rules_count no_items (rule r rs) e = clash cc
@@ -38,7 +38,7 @@ pub holds_parts : {T B : Bytes} {deep : ℕ} {q : Rows} {r : Rule} {rs : Rules} 
 unfolding operands_of items_nesting
 holds_parts {T} {B} {deep} {q} {r} {rs} h = go h.values h.denotes h.shaped h.nests
   where
-    go : (vs : Values) → Denotes T B (array vs) (Array q) → rules_of (operands_of vs) ≡ some (rule r rs) → items_nesting vs ≤ deep → HoldsParts T B deep q r rs
+    go : (vs : Values) → Denotes T B (array vs) (Array q) → rules_of (operands_of vs) ≡ Some (rule r rs) → items_nesting vs ≤ deep → HoldsParts T B deep q r rs
     go no_items d e n = clash cc
     go (item v vs) d e n = bind_some (shape v) _ e λ x f g. bind_some (rules_of (operands_of vs)) _ g λ xs k l.
         let p = DenotesLaws.array_parts d in
@@ -51,5 +51,5 @@ holds_parts {T} {B} {deep} {q} {r} {rs} h = go h.values h.denotes h.shaped h.nes
 -- A row holds one rule.
 pub holds_one : {T B : Bytes} {deep deep' row : ℕ} {ρ ρ' : Rule} → Holds T B deep row ρ → Holds T B deep' row ρ' → ρ ≡ ρ'
 holds_one x y =
-    let e : some _ ≡ some _ = sym x.shaped ∙ ap shape (DenotesLaws.one x.denotes y.denotes) ∙ y.shaped in
+    let e : Some _ ≡ Some _ = sym x.shaped ∙ ap shape (DenotesLaws.one x.denotes y.denotes) ∙ y.shaped in
     cc

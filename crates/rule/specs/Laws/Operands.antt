@@ -2,7 +2,7 @@
 use Rattle.std.specs.Prelude.{◌≡◌, Bool, true, false, ◌&&◌, cond, T as IsSo, eqb, leb, ltb, ℤ, length}
 use Rattle.std.proofs.Math.Path.{refl, ap, subst}
 use Rattle.std.proofs.Common.{sym, ap₂, ◌∙◌, arith, lt-ltb, le-ltb, le-leb, eqb-true}
-use Rattle.std.proofs.Math.Option.{Option, none, some}
+use Rattle.std.specs.Prelude.{Option, None, Some}
 use Prim.Native.Nat.{ℕ, suc, ◌≤◌, ◌<◌}
 use Rattle.std.proofs.Math.Decide.{dec_lt}
 use Rattle.std.proofs.lemmas.Bool.{lt-leb, eqb-false}
@@ -18,7 +18,7 @@ use Rattle.model.specs.Value.{Value, scalar, instant, array, object, null, boole
 use Rattle.model.specs.declared.TimeUnit.{TimeUnit}
 use Rattle.syntax.specs.Layout.{item_count, biased}
 use Rattle.table.specs.declared.node.Node.{Node}
-use Rattle.table.specs.declared.node.Node.TheVariants.{Integer, Array}
+use Rattle.table.specs.declared.node.Node.TheVariants.{Array}
 use Rattle.table.specs.declared.node.Rows.{Rows}
 use Rattle.table.specs.Denotes.{Denotes, denotes_null, denotes_false, denotes_true, denotes_integer, denotes_string, denotes_array, denotes_object, RowItems, no_row_items, row_item}
 use Rattle.table.specs.Node.{node_at, next_row}
@@ -28,12 +28,10 @@ use Rattle.keywords.specs.declared.Keyword.TheVariants as Keywords
 use Rattle.keywords.specs.declared.Op.{Op}
 use Rattle.keywords.specs.declared.Op.TheVariants as Ops
 use Rattle.keywords.specs.Contract.{operation_of, keyword_of, Stands, stands_plus_time, stands_extract}
-use Rattle.rule.specs.declared.view.Shape.{Shape}
-use Rattle.rule.specs.declared.view.Shape.TheVariants as Seen
 use Rattle.rule.specs.declared.view.View.{View}
 use Rattle.rule.specs.declared.view.View.TheVariants as Views
 use Rattle.rule.specs.Holds.{rule_count}
-use Rattle.rule.specs.View.{counted_on, and_on, first_of, unit_at, plus_time_of, plus_time_by, plus_time_on, extract_by, extract_on, operands_on}
+use Rattle.rule.specs.View.{counted_on, and_on, first_of, integer_of, unit_at, plus_time_by, plus_time_on, extract_by, extract_on, operands_on}
 use Rattle.rule.specs.Contract.{Built, built_if, built_and, built_reduce, built_apply, Builds, has_if, has_and, has_reduce, has_apply, Has, Lists, lists_content, Operates, Shaped, shaped_none, shaped_operation}
 use Rattle.rule.specs.Laws.Holds.{rules_count}
 use Rattle.rule.specs.Laws.Chains.{bind_none, one_refused, one_built, three_refused, three_built, unit_chain, operands_length, chain3, Two, two, two_of, ThreeItems, three, three_of_lem, exactly2_none, exactly3_none}
@@ -42,30 +40,30 @@ use Rattle.rule.specs.Laws.Table.{named_stands}
 -- ---- the number of operands
 module _ {T B : Bytes} {v : Value} {q : Rows} where
   -- From `least` to `most` of them.
-  counted_views : (least most : ℕ) (w : View) → (q.count < least → shape v ≡ none) → (most < q.count → shape v ≡ none) → (least ≤ q.count → q.count ≤ most → Operates T B v w q)
+  counted_views : (least most : ℕ) (w : View) → (q.count < least → shape v ≡ None) → (most < q.count → shape v ≡ None) → (least ≤ q.count → q.count ≤ most → Operates T B v w q)
       → Shaped T B v (counted_on least most w q)
   counted_views least most w below above fits = low (dec_lt q.count least)
     where
-      high : least ≤ q.count → Dec (most < q.count) → Shaped T B v (cond (ltb most q.count) Seen.NotRule (Seen.Rule w))
+      high : least ≤ q.count → Dec (most < q.count) → Shaped T B v (cond (ltb most q.count) None (Some w))
       high l (yes p) = rw (lt-ltb most q.count p) (shaped_none (above p))
       high l (no p) = rw (le-ltb most q.count (omega arith)) (shaped_operation (fits l (omega arith)))
 
-      low : Dec (q.count < least) → Shaped T B v (cond (ltb q.count least) Seen.NotRule (cond (ltb most q.count) Seen.NotRule (Seen.Rule w)))
+      low : Dec (q.count < least) → Shaped T B v (cond (ltb q.count least) None (cond (ltb most q.count) None (Some w)))
       low (yes p) = rw (lt-ltb q.count least p) (shaped_none (below p))
       low (no p) = rw (le-ltb q.count least (omega arith)) (high (omega arith) (dec_lt most q.count))
 
-  and_views : (q.count < 2 → shape v ≡ none) → (2 ≤ q.count → Operates T B v (Views.And q) q) → Shaped T B v (and_on q)
+  and_views : (q.count < 2 → shape v ≡ None) → (2 ≤ q.count → Operates T B v (Views.And q) q) → Shaped T B v (and_on q)
   and_views below fits = go (dec_lt q.count 2)
     where
-      go : Dec (q.count < 2) → Shaped T B v (cond (ltb q.count 2) Seen.NotRule (Seen.Rule (Views.And q)))
+      go : Dec (q.count < 2) → Shaped T B v (cond (ltb q.count 2) None (Some (Views.And q)))
       go (yes p) = rw (lt-ltb q.count 2 p) (shaped_none (below p))
       go (no p) = rw (le-ltb q.count 2 (omega arith)) (shaped_operation (fits (omega arith)))
 
 -- Exactly n of them.
-exact_views : {T B : Bytes} {v : Value} (count n : ℕ) {w : Shape} → ((count ≡ n → ⊥) → shape v ≡ none) → (count ≡ n → Shaped T B v w) → Shaped T B v (cond (eqb count n) w Seen.NotRule)
+exact_views : {T B : Bytes} {v : Value} (count n : ℕ) {w : Option View} → ((count ≡ n → ⊥) → shape v ≡ None) → (count ≡ n → Shaped T B v w) → Shaped T B v (when (eqb count n) w)
 exact_views {T} {B} {v} count n {w} others fits = go (eqb count n) refl
   where
-    go : (b : Bool) → eqb count n ≡ b → Shaped T B v (cond b w Seen.NotRule)
+    go : (b : Bool) → eqb count n ≡ b → Shaped T B v (when b w)
     go true e = fits (eqb-true count n e)
     go false e = shaped_none (others (eqb-false count n e))
 
@@ -146,7 +144,7 @@ module _ {T B : Bytes} {vs : Values} {q : Rows} (name : Bytes) (m : Denotes T B 
   -- From `least` to `most` rules, for an operation that stands for the model's.
   module _ (least most : ℕ) (op : Op) (o : Operation) (stands : (n : ℕ) → least ≤ n → n ≤ most → Stands op o n) where
     abbrev counting : Bool → Bool → Option Rule
-    counting a b = when (a && b) (rules_of (operands_of vs) >>= λ rs. some (apply o rs))
+    counting a b = when (a && b) (rules_of (operands_of vs) >>= λ rs. Some (apply o rs))
 
     -- The number of operands is that of items.
     low : (b : Bool) → leb least q.count ≡ b → leb least (length (operands_of vs)) ≡ b
@@ -155,7 +153,7 @@ module _ {T B : Bytes} {vs : Values} {q : Rows} (name : Bytes) (m : Denotes T B 
     high : (b : Bool) → leb q.count most ≡ b → leb (length (operands_of vs)) most ≡ b
     high b e = ap (λ (n : ℕ). leb n most) (operands_length vs ∙ sym count_is) ∙ e
 
-    and_none : (b : Bool) → counting b false ≡ none
+    and_none : (b : Bool) → counting b false ≡ None
     and_none true = refl
     and_none false = refl
 
@@ -166,7 +164,7 @@ module _ {T B : Bytes} {vs : Values} {q : Rows} (name : Bytes) (m : Denotes T B 
         (λ l. e ∙ ap (counting (leb least (length (operands_of vs)))) (high false (lt-leb q.count most l)) ∙ and_none (leb least (length (operands_of vs))))
         (λ l k. operates l k (e ∙ ap₂ counting (low true (le-leb least q.count l)) (high true (le-leb q.count most k))))
       where
-        operates : least ≤ q.count → q.count ≤ most → shape (of name (array vs)) ≡ (rules_of (operands_of vs) >>= λ rs. some (apply o rs)) → Operates T B (of name (array vs)) (Views.Apply op q) q
+        operates : least ≤ q.count → q.count ≤ most → shape (of name (array vs)) ≡ (rules_of (operands_of vs) >>= λ rs. Some (apply o rs)) → Operates T B (of name (array vs)) (Views.Apply op q) q
         operates l k f = record {
           has = has_apply;
           operands = vs;
@@ -175,10 +173,10 @@ module _ {T B : Bytes} {vs : Values} {q : Rows} (name : Bytes) (m : Denotes T B 
           lists = lists_content;
           bare = refl;
           nests = nests;
-          refused = λ x. f ∙ ap (λ (r : Option Rules). r >>= λ rs. some (apply o rs)) x;
+          refused = λ x. f ∙ ap (λ (r : Option Rules). r >>= λ rs. Some (apply o rs)) x;
           builds = λ rs x. record {
             whole = apply o rs;
-            shaped = f ∙ ap (λ (r : Option Rules). r >>= λ rs. some (apply o rs)) x;
+            shaped = f ∙ ap (λ (r : Option Rules). r >>= λ rs. Some (apply o rs)) x;
             built = built_apply (stands (rule_count rs) (omega (arith, count_is, rules_count vs rs x)) (omega (arith, count_is, rules_count vs rs x)));
           };
         }
@@ -186,8 +184,8 @@ module _ {T B : Bytes} {vs : Values} {q : Rows} (name : Bytes) (m : Denotes T B 
 -- ---- bare integers and units
 -- What an integer stands for, and what no integer does.
 data IntegerAt (v : Value) (h : Node) : Type 0 where
-  integer_at : {z : ℤ} {n : ℕ} → h ≡ Integer n → as_integer v ≡ some z → IsSo (within_limits z) → n ≡ biased z → IntegerAt v h
-  other_at : as_integer v ≡ none → ((u : Option TimeUnit) (q : Rows) → plus_time_by h u q ≡ Seen.NotRule) → ((q : Rows) → extract_by h q ≡ Seen.NotRule) → IntegerAt v h
+  integer_at : {z : ℤ} {n : ℕ} → integer_of h ≡ Some n → as_integer v ≡ Some z → IsSo (within_limits z) → n ≡ biased z → IntegerAt v h
+  other_at : as_integer v ≡ None → integer_of h ≡ None → IntegerAt v h
 
 -- ---- one rule and bare operands
 -- Values that are all rules.
@@ -200,21 +198,21 @@ unfolding operands_of
 passing all_passing = refl
 passing (a_passing {v = v} {vs = vs} e p) = go (shape v) (rules_of (operands_of vs)) e (passing p)
   where
-    go : (a : Option Rule) (b : Option Rules) → is_some a ≡ true → is_some b ≡ true → is_some (a >>= λ r. b >>= λ rs. some (rule r rs)) ≡ true
-    go none b e f = clash cc
-    go (some r) none e f = clash cc
-    go (some r) (some rs) e f = refl
+    go : (a : Option Rule) (b : Option Rules) → is_some a ≡ true → is_some b ≡ true → is_some (a >>= λ r. b >>= λ rs. Some (rule r rs)) ≡ true
+    go None b e f = clash cc
+    go (Some r) None e f = clash cc
+    go (Some r) (Some rs) e f = refl
 
 -- With these behind it, the first decides.
-rest_passes : (a : Option Rule) (vs : Values) → Passing vs → is_some (a >>= λ r. rules_of (operands_of vs) >>= λ rs. some (rule r rs)) ≡ is_some (a >>= λ r. some (rule r no_rules))
+rest_passes : (a : Option Rule) (vs : Values) → Passing vs → is_some (a >>= λ r. rules_of (operands_of vs) >>= λ rs. Some (rule r rs)) ≡ is_some (a >>= λ r. Some (rule r no_rules))
 rest_passes a vs p = go a (rules_of (operands_of vs)) (passing p)
   where
-    go : (a : Option Rule) (b : Option Rules) → is_some b ≡ true → is_some (a >>= λ r. b >>= λ rs. some (rule r rs)) ≡ is_some (a >>= λ r. some (rule r no_rules))
-    go none b e = refl
-    go (some r) none e = clash cc
-    go (some r) (some rs) e = refl
+    go : (a : Option Rule) (b : Option Rules) → is_some b ≡ true → is_some (a >>= λ r. b >>= λ rs. Some (rule r rs)) ≡ is_some (a >>= λ r. Some (rule r no_rules))
+    go None b e = refl
+    go (Some r) None e = clash cc
+    go (Some r) (Some rs) e = refl
 
-integer_passes : (v : Value) {z : ℤ} → as_integer v ≡ some z → is_some (shape v) ≡ true
+integer_passes : (v : Value) {z : ℤ} → as_integer v ≡ Some z → is_some (shape v) ≡ true
 unfolding shape
 integer_passes (scalar null) e = none_some e
 integer_passes (scalar (boolean b)) e = none_some e
@@ -224,7 +222,7 @@ integer_passes (instant t) e = none_some e
 integer_passes (array vs) e = none_some e
 integer_passes (object ms) e = none_some e
 
-unit_passes : (v : Value) {u : TimeUnit} → as_string v >>= unit_named ≡ some u → is_some (shape v) ≡ true
+unit_passes : (v : Value) {u : TimeUnit} → as_string v >>= unit_named ≡ Some u → is_some (shape v) ≡ true
 unfolding shape
 unit_passes (scalar null) e = none_some e
 unit_passes (scalar (boolean b)) e = none_some e
@@ -239,7 +237,7 @@ abbrev extracted : Option Rule → Option ℤ → Option Rule
 extracted o i = do
   r ← o
   n ← i
-  some (apply (Operation.extract_from_uvci n) (rule r no_rules))
+  Some (apply (Operation.extract_from_uvci n) (rule r no_rules))
 
 abbrev shifted : Option Rule → Option ℤ → Option Bytes → Option Rule
 shifted o i t = do
@@ -247,7 +245,7 @@ shifted o i t = do
   n ← i
   s ← t
   u ← unit_named s
-  some (apply (Operation.plus_time n u) (rule r no_rules))
+  Some (apply (Operation.plus_time n u) (rule r no_rules))
 
 -- The first item alone, and the others where they lie.
 record Bare (T B : Bytes) (a b : Value) (vs : Values) (q : Rows) : Type 0 where
@@ -257,13 +255,13 @@ record Bare (T B : Bytes) (a b : Value) (vs : Values) (q : Rows) : Type 0 where
 
 module _ {T B : Bytes} where
   integer_of_lem : {v : Value} {h : Node} → Denotes T B v h → IntegerAt v h
-  integer_of_lem denotes_null = other_at refl (λ u q. refl) (λ q. refl)
-  integer_of_lem denotes_false = other_at refl (λ u q. refl) (λ q. refl)
-  integer_of_lem denotes_true = other_at refl (λ u q. refl) (λ q. refl)
+  integer_of_lem denotes_null = other_at refl refl
+  integer_of_lem denotes_false = other_at refl refl
+  integer_of_lem denotes_true = other_at refl refl
   integer_of_lem (denotes_integer w e) = integer_at refl refl w e
-  integer_of_lem (denotes_string l) = other_at refl (λ u q. refl) (λ q. refl)
-  integer_of_lem (denotes_array e f r) = other_at refl (λ u q. refl) (λ q. refl)
-  integer_of_lem (denotes_object e f r) = other_at refl (λ u q. refl) (λ q. refl)
+  integer_of_lem (denotes_string l) = other_at refl refl
+  integer_of_lem (denotes_array e f r) = other_at refl refl
+  integer_of_lem (denotes_object e f r) = other_at refl refl
 
   unit_of_lem : {v : Value} {h : Node} → Denotes T B v h → as_string v >>= unit_named ≡ unit_at B h
   unit_of_lem denotes_null = refl
@@ -287,7 +285,7 @@ module _ {T B : Bytes} where
 
   -- An operation on the first item, the others bare.
   on_first : {v a : Value} {vs : Values} → Lists v (item a vs) → Passing vs → (q : Rows) (op : Op) (o : Operation) → Denotes T B (array (item a no_items)) (Array (first_of q)) → suc (items_nesting (item a no_items)) ≤ nesting v → Stands op o 1
-      → shape v ≡ (shape a >>= λ r. some (apply o (rule r no_rules))) → Shaped T B v (Seen.Rule (Views.Apply op (first_of q)))
+      → shape v ≡ (shape a >>= λ r. Some (apply o (rule r no_rules))) → Shaped T B v (Some (Views.Apply op (first_of q)))
   unfolding operands_of
   on_first {v} {a} {vs} ls ps q op o m n s e = shaped_operation {w = Views.Apply op (first_of q)} {q = first_of q} record {
     has = has_apply;
@@ -304,25 +302,25 @@ module _ {T B : Bytes} where
   }
 
   extract_by_lem : {v a b : Value} {h : Node} → Lists v (item a (item b no_items)) → (q : Rows) → Denotes T B (array (item a no_items)) (Array (first_of q)) → suc (items_nesting (item a no_items)) ≤ nesting v
-      → IntegerAt b h → shape v ≡ extracted (shape a) (as_integer b) → Shaped T B v (extract_by h q)
+      → IntegerAt b h → shape v ≡ extracted (shape a) (as_integer b) → Shaped T B v (extract_by (integer_of h) q)
   extract_by_lem {a = a} {b = b} ls q m n (integer_at {z = z} {n = k} i g w f) e =
       rw i (on_first ls (a_passing (integer_passes b g) all_passing) q (Ops.ExtractFromUvci k) (Operation.extract_from_uvci z) m n (stands_extract refl w f) (e ∙ ap (extracted (shape a)) g))
-  extract_by_lem {a = a} ls q m n (other_at g x y) e =
-      rw (y q) (shaped_none (e ∙ ap (extracted (shape a)) g ∙ bind_none (shape a)))
+  extract_by_lem {a = a} ls q m n (other_at g y) e =
+      rw y (shaped_none (e ∙ ap (extracted (shape a)) g ∙ bind_none (shape a)))
 
   plus_time_of_lem : {v a b c : Value} → Lists v (item a (item b (item c no_items))) → is_some (shape b) ≡ true → (q : Rows) (z : ℤ) {k : ℕ} → Denotes T B (array (item a no_items)) (Array (first_of q)) → suc (items_nesting (item a no_items)) ≤ nesting v
-      → IsSo (within_limits z) → k ≡ biased z → (o : Option TimeUnit) → as_string c >>= unit_named ≡ o → shape v ≡ (shape a >>= λ r. o >>= λ u. some (apply (Operation.plus_time z u) (rule r no_rules))) → Shaped T B v (plus_time_of k o q)
-  plus_time_of_lem {a = a} ls b q z m n w f none u e = shaped_none (e ∙ bind_none (shape a))
-  plus_time_of_lem {c = c} ls b q z {k} m n w f (some u) x e = on_first ls (a_passing b (a_passing (unit_passes c x) all_passing)) q (Ops.PlusTime k u) (Operation.plus_time z u) m n (stands_plus_time refl w f) e
+      → IsSo (within_limits z) → k ≡ biased z → (o : Option TimeUnit) → as_string c >>= unit_named ≡ o → shape v ≡ (shape a >>= λ r. o >>= λ u. Some (apply (Operation.plus_time z u) (rule r no_rules))) → Shaped T B v (plus_time_by (Some k) o q)
+  plus_time_of_lem {a = a} ls b q z m n w f None u e = shaped_none (e ∙ bind_none (shape a))
+  plus_time_of_lem {c = c} ls b q z {k} m n w f (Some u) x e = on_first ls (a_passing b (a_passing (unit_passes c x) all_passing)) q (Ops.PlusTime k u) (Operation.plus_time z u) m n (stands_plus_time refl w f) e
 
   plus_time_by_lem : {v a b c : Value} {h g : Node} → Lists v (item a (item b (item c no_items))) → (q : Rows) → Denotes T B (array (item a no_items)) (Array (first_of q)) → suc (items_nesting (item a no_items)) ≤ nesting v
-      → IntegerAt b h → Denotes T B c g → shape v ≡ shifted (shape a) (as_integer b) (as_string c) → Shaped T B v (plus_time_by h (unit_at B g) q)
+      → IntegerAt b h → Denotes T B c g → shape v ≡ shifted (shape a) (as_integer b) (as_string c) → Shaped T B v (plus_time_by (integer_of h) (unit_at B g) q)
   plus_time_by_lem {a = a} {b = b} {c = c} {g = g} ls q m n (integer_at {z = z} i x w f) y e =
       rw i (plus_time_of_lem ls (integer_passes b x) q z m n w f (unit_at B g) (unit_of_lem y)
       (e ∙ ap (λ (o : Option ℤ). shifted (shape a) o (as_string c)) x
       ∙ unit_chain (shape a) (as_string c) (λ r u. apply (Operation.plus_time z u) (rule r no_rules)) (unit_of_lem y)))
-  plus_time_by_lem {a = a} {c = c} {g = g} ls q m n (other_at x y z) k e =
-      rw (y (unit_at B g) q) (shaped_none
+  plus_time_by_lem {a = a} {c = c} {g = g} ls q m n (other_at x y) k e =
+      rw y (shaped_none
       (e ∙ ap (λ (o : Option ℤ). shifted (shape a) o (as_string c)) x
       ∙ bind_none (shape a)))
 
@@ -338,7 +336,7 @@ module _ {T B : Bytes} where
     where
       go : {ws : Values} → Two ws → Lists v ws → Denotes T B (array ws) (Array q) → suc (items_nesting ws) ≤ nesting v
           → shape v ≡ exactly2 (operands_of ws) (λ a b. extracted a.as_rule (as_integer b.value))
-          → Shaped T B v (extract_by (node_at T (next_row T q.first)) q)
+          → Shaped T B v (extract_by (integer_of (node_at T (next_row T q.first))) q)
       go (two {a = a} {b = b}) ls m n e = let t = bare m in extract_by_lem ls q t.only (omega arith) (integer_of_lem t.second) e
 
   plus_time_views : {v : Value} {vs : Values} {q : Rows} → Lists v vs → Denotes T B (array vs) (Array q) → suc (items_nesting vs) ≤ nesting v
@@ -352,14 +350,13 @@ module _ {T B : Bytes} where
     where
       go : {ws : Values} → ThreeItems ws → Lists v ws → Denotes T B (array ws) (Array q) → suc (items_nesting ws) ≤ nesting v
           → shape v ≡ exactly3 (operands_of ws) (λ a b c. shifted a.as_rule (as_integer b.value) (as_string c.value))
-          → Shaped T B v (plus_time_by (node_at T (next_row T q.first)) (unit_at B (node_at T (next_row T (next_row T q.first)))) q)
+          → Shaped T B v (plus_time_by (integer_of (node_at T (next_row T q.first))) (unit_at B (node_at T (next_row T (next_row T q.first)))) q)
       go (three {a = a} {b = b} {c = c}) ls m n e = let t = bare m in plus_time_by_lem ls q t.only (omega arith) (integer_of_lem t.second) (third t.rest) e
 
   -- Any keyword.
-  pub operands_views_lem : {vs : Values} {q : Rows} (k : Keyword) (name : Bytes) → keyword_of k ≡ keyword_named name → Denotes T B (array vs) (Array q)
+  pub operands_views_lem : {vs : Values} {q : Rows} (k : Keyword) (name : Bytes) → keyword_of (Some k) ≡ keyword_named name → Denotes T B (array vs) (Array q)
       → Shaped T B (of name (array vs)) (operands_on T B k q)
   unfolding content_of
-  operands_views_lem {vs} Keywords.NoKeyword name e m = shaped_none (keyword_shape name (array vs) e)
   operands_views_lem {vs} Keywords.Var name e m = shaped_none (keyword_shape name (array vs) e)
   operands_views_lem {vs} Keywords.If name e m = three_views name m (Views.If _) Rule.if has_if (λ a b c. built_if) (keyword_shape name (array vs) e)
   operands_views_lem {vs} Keywords.Reduce name e m = three_views name m (Views.Reduce _) Rule.reduce has_reduce (λ a b c. built_reduce) (keyword_shape name (array vs) e)

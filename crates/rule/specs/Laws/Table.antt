@@ -1,6 +1,6 @@
 -- Table: how many operands an operation of 01's table has.
 use Rattle.std.specs.Prelude.{◌≡◌, refl, ℕ, ◌≤◌}
-use Rattle.std.proofs.Math.Option.{some}
+use Rattle.std.specs.Prelude.{Some}
 use Rattle.std.proofs.Common.{arith}
 use Rattle.model.specs.Bytes.{Bytes, same_bytes}
 use Rattle.model.proofs.Laws.Option.{All, all_some}
@@ -49,5 +49,5 @@ stands_of least most n (Ops.PlusTime k u) a l m = absurd a
 stands_of least most n (Ops.ExtractFromUvci k) a l m = absurd a
 
 -- An operation that is named, with a right number of operands, stands for the model's.
-pub named_stands : (least most n : ℕ) (op : Op) (s : Bytes) → keyword_named s ≡ some (counted least most (operation_of op)) → least ≤ n → n ≤ most → Stands op (operation_of op) n
+pub named_stands : (least most n : ℕ) (op : Op) (s : Bytes) → keyword_named s ≡ Some (counted least most (operation_of op)) → least ≤ n → n ≤ most → Stands op (operation_of op) n
 named_stands least most n op s k = stands_of least most n op (all_some Listed (listed s) k)

@@ -1,5 +1,4 @@
 use mathlib.Core.Path.{◌∙◌}
-use native.Mathlib.Omega.{arith}
 use Rattle.shape.proofs.Loop.{going_start, going_stop, going_on, going_done, row_length}
 use Rattle.shape.proofs.is_rule.Goals as goal
 
@@ -11,12 +10,6 @@ shape_of-rule_table-then-not-row_is_rule c = row_length c.row_is_rule.ensures �
 
 pub returns-then-not-row_is_rule : goal.returns-then-not-row_is_rule
 returns-then-not-row_is_rule c = going_stop c.loop-row.invariant c.loop-row-test.true c.row_is_rule.ensures c.if-not-row_is_rule.true (rw c.rows_of.ensures at c.next_row-end.ensures)
-
-pub overflow_add-row : goal.overflow_add-row
-overflow_add-row c = omega (arith, c.loop-row-test.true)
-
-pub loop-row-smaller : goal.loop-row-smaller
-loop-row-smaller c = omega (arith, c.loop-row-test.true)
 
 pub loop-row-preserved : goal.loop-row-preserved
 loop-row-preserved c = going_on c.loop-row.invariant c.loop-row-test.true c.row_is_rule.ensures c.if-not-row_is_rule.false

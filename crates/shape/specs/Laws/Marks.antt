@@ -1,4 +1,5 @@
 -- Marks: they lie behind the rows, which stay; and where no row is at fault, every object of these rows has its own.
+use Rattle.std.specs.Prelude.{Option, None, Some}
 use Rattle.std.specs.Prelude.{◌≡◌, refl, Bool, true, false, ◌&&◌, cond, ℕ, zero, suc, ◌+◌, ◌≤◌, ◌<◌, length}
 use Rattle.std.proofs.Common.{sym, ap, ◌∙◌, arith, length-set, get_or-set_same, get_or-set_other}
 use Rattle.std.proofs.Math.Decide.{dec_lt}
@@ -10,8 +11,7 @@ use Rattle.table.specs.declared.node.Node.{Node}
 use Rattle.table.specs.declared.node.Node.TheVariants.{Null, False, True, Integer, String, Array, Object}
 use Rattle.table.specs.declared.node.Rows.{Rows}
 use Rattle.table.specs.Node.{node_at}
-use Rattle.rule.specs.declared.view.Shape.{Shape}
-use Rattle.rule.specs.declared.view.Shape.TheVariants.{NotRule, Rule}
+use Rattle.rule.specs.declared.view.View.{View}
 use Rattle.rule.specs.Mark.{marks_start, mark_at, shape_mark, view_mark}
 use Rattle.rule.specs.View.{object_on}
 use Rattle.shape.specs.Rows.{shape_is_rule, node_is_rule, row_is_rule, rows_are_rules, mark_shape, mark_node, mark_row, mark_rows}
@@ -25,10 +25,10 @@ pub record Kept (T T' : Bytes) (row : ℕ) : Type 0 where
 kept : (T : Bytes) (row : ℕ) → Kept T T row
 kept T row = record { size = refl; rows = refl; before = λ k l. refl }
 
-shape_kept : (T : Bytes) (row : ℕ) (s : Shape) → Kept T (mark_shape T row s) row
+shape_kept : (T : Bytes) (row : ℕ) (s : Option View) → Kept T (mark_shape T row s) row
 unfolding rows_part
-shape_kept T row NotRule = kept T row
-shape_kept T row (Rule w) =
+shape_kept T row None = kept T row
+shape_kept T row (Some w) =
     let m = view_mark w in
     record {
       size = length-set T (marks_start + row) m;
@@ -60,9 +60,9 @@ module _ (R B : Bytes) where
       go false y = row_kept T row
 
   -- ---- the mark of an operation
-  shape_marked : (T : Bytes) (row : ℕ) (s : Shape) → marks_start + row < length T → shape_is_rule B s ≡ true → mark_at (mark_shape T row s) row ≡ shape_mark s
-  shape_marked T row NotRule l e = clash cc
-  shape_marked T row (Rule w) l e = get_or-set_same T (marks_start + row) (view_mark w) 0 l
+  shape_marked : (T : Bytes) (row : ℕ) (s : Option View) → marks_start + row < length T → shape_is_rule B s ≡ true → mark_at (mark_shape T row s) row ≡ shape_mark s
+  shape_marked T row None l e = clash cc
+  shape_marked T row (Some w) l e = get_or-set_same T (marks_start + row) (view_mark w) 0 l
 
   row_marked : (T : Bytes) (row : ℕ) (q : Rows) → marks_start + row < length T → node_at R row ≡ Object q → row_is_rule R B row ≡ true → mark_at (mark_row R B T row) row ≡ shape_mark (object_on R B q)
   row_marked T row q l e f =

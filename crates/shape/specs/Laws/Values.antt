@@ -1,7 +1,7 @@
 -- Values: a value that was read is a rule exactly when none of its rows is at fault; and then each of its objects has its mark.
 use Rattle.std.specs.Prelude.{◌≡◌, refl, Bool, true, false, ◌&&◌, length}
 use Rattle.std.proofs.Common.{sym, ap, subst, ◌∙◌, arith}
-use Rattle.std.proofs.Math.Option.{Option, none, some}
+use Rattle.std.specs.Prelude.{Option, None, Some}
 use Prim.Native.Nat.{ℕ, zero, suc, ◌+◌, ◌*◌, ◌≤◌, ◌<◌}
 use Rattle.std.proofs.Math.Decide.{dec_lt}
 use Rattle.model.specs.Bytes.{Bytes}
@@ -25,7 +25,6 @@ use Rattle.table.specs.WasRead.{WasRead}
 use Rattle.table.specs.Laws.Placed.{array_node, object_node}
 use Rattle.table.specs.Laws.Standing.{Standing, StandingItems, StandingMembers, root_stands, array_items, object_members, item_first, item_rest, member_first, denoted, root_end, row_inside}
 use Rattle.table.specs.Laws.WasRead.{behind_null}
-use Rattle.rule.specs.declared.view.Shape.{Shape as Seen}
 use Rattle.rule.specs.declared.view.View.{View}
 use Rattle.rule.specs.Contract.{Has, has_if, has_and, has_reduce, has_apply, Lists, lists_content, Operates, Shaped, shaped_none, shaped_literal, shaped_var, shaped_operation}
 use Rattle.rule.specs.Mark.{mark_at, shape_mark, Marked}
@@ -40,20 +39,20 @@ operates_is : {T B : Bytes} {v : Value} {w : View} {q : Rows} (o : Operates T B 
 operates_is {v = v} o = go (rules_of (operands_of o.operands)) refl
   where
     go : (r : Option Rules) → rules_of (operands_of o.operands) ≡ r → is_some r ≡ is_some (shape v)
-    go none e = sym (ap is_some (o.refused e))
-    go (some rs) e = sym (ap is_some (o.builds rs e).shaped)
+    go None e = sym (ap is_some (o.refused e))
+    go (Some rs) e = sym (ap is_some (o.builds rs e).shaped)
 
 array_is : (vs : Values) → is_some (shape (array vs)) ≡ is_some (rules_of (operands_of vs))
 unfolding shape
 array_is vs = go (rules_of (operands_of vs))
   where
-    go : (o : Option Rules) → is_some (o >>= λ rs. some (apply Operation.array rs)) ≡ is_some o
-    go none = refl
-    go (some rs) = refl
+    go : (o : Option Rules) → is_some (o >>= λ rs. Some (apply Operation.array rs)) ≡ is_some o
+    go None = refl
+    go (Some rs) = refl
 
-path_is : (o : Option Rule) {A : Type 0} (p : Option A) (f : A → Rule) → o ≡ (p >>= λ q. some (f q)) → is_some p ≡ is_some o
-path_is o none f e = sym (ap is_some e)
-path_is o (some q) f e = sym (ap is_some e)
+path_is : (o : Option Rule) {A : Type 0} (p : Option A) (f : A → Rule) → o ≡ (p >>= λ q. Some (f q)) → is_some p ≡ is_some o
+path_is o None f e = sym (ap is_some e)
+path_is o (Some q) f e = sym (ap is_some e)
 
 has_rule : {w : View} {q : Rows} (B : Bytes) → Has w q → view_is_rule B w ≡ true
 has_rule B has_if = refl
@@ -69,7 +68,7 @@ members_of : {ms ns : Members} → object ms ≡ object ns → ms ≡ ns
 members_of e = cc
 
 -- The rows behind an object's are those of its single member's content: `c` tells whether that is a rule.
-object_rules : {R B : Bytes} (ms : Members) (c : Bool) {s : Seen} → Shaped R B (object ms) s → ((n : Bytes) (v : Value) → ms ≡ member n v no_members → c ≡ is_some (shape v))
+object_rules : {R B : Bytes} (ms : Members) (c : Bool) {s : Option View} → Shaped R B (object ms) s → ((n : Bytes) (v : Value) → ms ≡ member n v no_members → c ≡ is_some (shape v))
     → (shape_is_rule B s && c) ≡ is_some (shape (object ms))
 unfolding shape
 object_rules ms c (shaped_none f) k = sym (ap is_some f)
@@ -112,10 +111,10 @@ rows_split R B row (suc n) m =
     and_assoc true b c = refl
     and_assoc false b c = refl
 
-and_both : (a : Option Rule) (b : Option Rules) → (is_some a && is_some b) ≡ is_some (a >>= λ r. b >>= λ rs. some (rule r rs))
-and_both none b = refl
-and_both (some r) none = refl
-and_both (some r) (some rs) = refl
+and_both : (a : Option Rule) (b : Option Rules) → (is_some a && is_some b) ≡ is_some (a >>= λ r. b >>= λ rs. Some (rule r rs))
+and_both None b = refl
+and_both (Some r) None = refl
+and_both (Some r) (Some rs) = refl
 
 -- ---- all values
 module _ (T B : Bytes) (size : max_values * row_bytes ≤ length T) where

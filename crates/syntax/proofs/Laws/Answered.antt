@@ -1,7 +1,7 @@
 -- Answered: what is written of a rule's answer (model/Judgement.antt: answer_of) reads back.
 use Rattle.std.specs.Prelude.{◌≡◌, refl, ℕ}
 use Rattle.std.proofs.Common.{ap, ◌∙◌}
-use Rattle.std.proofs.Math.Option.{some}
+use Rattle.std.specs.Prelude.{Some}
 use Rattle.model.specs.Bytes.{Bytes}
 use Rattle.model.specs.Eval.{run, Outcome, value, refusal, outcome}
 use Rattle.model.specs.Judgement.{Judged, written, answer_of}
@@ -20,7 +20,7 @@ pub answer_reads :
     (rule record' : Value) (r : Rule) (limit room : ℕ) (t : Bytes)
     → WellFormedValue rule
     → WellFormedValue record'
-    → shape rule ≡ some r
+    → shape rule ≡ Some r
     → (answer_of r record' limit room).result ≡ Judged.done t
     → ReadsBack r record' limit t
 answer_reads rule record' r limit room t rule-formed record-formed is-rule w = go (outcome (run r record' limit)) refl w

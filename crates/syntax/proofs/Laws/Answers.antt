@@ -1,7 +1,7 @@
 -- Answers: what evaluation gives, on texts that read, is well formed.
 use Rattle.std.specs.Prelude.{◌≡◌, refl, Bool, true, false, ◌||◌, not, cond, List, [], ◌∷◌, ◌++◌, ℕ, ◌≤◌, ◌<◌, T, ltb, eqb}
 use Rattle.std.proofs.Common.{sym, subst, arith, eqb→eq}
-use Rattle.std.proofs.Math.Option.{some}
+use Rattle.std.specs.Prelude.{Some}
 use Rattle.model.specs.Bytes.{Bytes, cons_head, split_on}
 use Rattle.model.specs.Eval.{current, accumulator, run, value, outcome}
 use Rattle.model.proofs.Laws.Bounds.{answer_bounded}
@@ -118,7 +118,7 @@ names-kept = record {
 }
 
 -- ---- answers
-pub answer_well_formed : (rule c : Value) (r : Rule) (n : ℕ) (v : Value) → WellFormedValue rule → WellFormedValue c → shape rule ≡ some r → outcome (run r c n) ≡ value v → WellFormedAnswer v
+pub answer_well_formed : (rule c : Value) (r : Rule) (n : ℕ) (v : Value) → WellFormedValue rule → WellFormedValue c → shape rule ≡ Some r → outcome (run r c n) ≡ value v → WellFormedAnswer v
 answer_well_formed rule c r n v h k is-rule ends =
     let strings = answer_kept (AllStrings WellFormed) utf8-kept rule c r n v is-rule h.formed.utf8_strings k.formed.utf8_strings ends in
     record {

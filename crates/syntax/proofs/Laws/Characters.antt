@@ -3,7 +3,7 @@ use Rattle.std.specs.Prelude.{◌≡◌, refl, [], ◌∷◌, ℕ, suc, ◌+◌,
 use Rattle.std.proofs.Common.{sym, ap, ◌∙◌, arith}
 use Rattle.model.specs.Bytes.{Bytes}
 use Rattle.model.proofs.Laws.Logic.{T→true, clash}
-use Rattle.model.specs.Refusal.{not_json}
+use Rattle.model.specs.declared.refusal.ReadFault.TheVariants.{NotJson}
 use Rattle.syntax.specs.declared.Lead.TheVariants.{Char}
 use Rattle.syntax.specs.declared.Escape.TheVariants.{Letter}
 use Rattle.syntax.specs.declared.Unit.{Unit}
@@ -41,7 +41,7 @@ pub hexes_run : {n : ℕ} (hs : Hexes n) (u : ℕ) (z : Bytes) (at : ℕ) → he
 unfolding hexes spell_hexes hex_number on_hex
 hexes_run no_hexes u z at = ap (ok u z) (omega arith)
 hexes_run (hex {n = n} b d h hs) u z at =
-    ap (λ x. on_hex x (λ d t' q. hexes n (u * 16 + d) (spell_hexes hs z) (suc at)) (fail not_json) (b ∷ spell_hexes hs z) at) h
+    ap (λ x. on_hex x (λ d t' q. hexes n (u * 16 + d) (spell_hexes hs z) (suc at)) (fail NotJson) (b ∷ spell_hexes hs z) at) h
     ∙ hexes_run hs (u * 16 + d) z (suc at)
     ∙ ap (ok (hex_number (u * 16 + d) hs) z) (omega arith)
 
@@ -52,14 +52,14 @@ char_closing y at = refl
 pub char_unescaped : (b n lo hi : ℕ) → lead_of b ≡ Char n lo hi → (ts : Tails n lo hi) (z : Bytes) (at : ℕ) → char (b ∷ spell_tails ts z) at ≡ ok (bytes (b ∷ tail_bytes ts)) z (at + suc n)
 unfolding char on_lead then give
 char_unescaped b n lo hi h ts z at =
-    ap (λ x. on_lead x (give closing) (λ t' q. escape (spell_tails ts z) (suc at)) (fail not_json) (λ n lo hi t' q. then (tails n lo hi (spell_tails ts z) (suc at)) (λ bs. give (bytes (b ∷ bs)))) (b ∷ spell_tails ts z) at) h
+    ap (λ x. on_lead x (give closing) (λ t' q. escape (spell_tails ts z) (suc at)) (fail NotJson) (λ n lo hi t' q. then (tails n lo hi (spell_tails ts z) (suc at)) (λ bs. give (bytes (b ∷ bs)))) (b ∷ spell_tails ts z) at) h
     ∙ ap (λ x. then x (λ bs. give (bytes (b ∷ bs)))) (tails_run ts z (suc at))
     ∙ ap (ok (bytes (b ∷ tail_bytes ts)) z) (omega arith)
 
 pub char_escaped : (b d : ℕ) → escape_of b ≡ Letter d → (z : Bytes) (at : ℕ) → char (0x5C ∷ b ∷ z) at ≡ ok (bytes (d ∷ [])) z (at + 2)
 unfolding char on_lead escape on_escape lead_of
 char_escaped b d h z at =
-    ap (λ x. on_escape x (λ d t' q. ok (bytes (d ∷ [])) z (suc (suc at))) (λ t' q. then (hexes 4 0 z (suc (suc at))) (λ u. give (unit u))) (fail not_json) (b ∷ z) (suc at)) h
+    ap (λ x. on_escape x (λ d t' q. ok (bytes (d ∷ [])) z (suc (suc at))) (λ t' q. then (hexes 4 0 z (suc (suc at))) (λ u. give (unit u))) (fail NotJson) (b ∷ z) (suc at)) h
     ∙ ap (ok (bytes (d ∷ [])) z) (omega arith)
 
 pub char_unit : (hs : Hexes 4) (z : Bytes) (at : ℕ) → char (spell_unit hs z) at ≡ ok (unit (hex_number 0 hs)) z (at + 6)

@@ -4,7 +4,9 @@ use Rattle.std.specs.Prelude.{◌≡◌, refl, Bool, true, false, List, [], ◌�
 use Rattle.std.proofs.Common.{sym, subst, ap, ◌∙◌, append_assoc, inl, inr, arith, ltb-true, lt-ltb, take-append-drop, length-append, length-take, length-drop, take-add, drop_at, drop-drop}
 use Rattle.model.specs.Bytes.{Bytes}
 use Rattle.model.specs.Limits.{max_text_bytes}
-use Rattle.model.specs.Refusal.{ReadFault, not_json, repeated_name, lone_surrogate, bad_number, too_large, read_number}
+use Rattle.model.specs.Refusal.{read_number}
+use Rattle.model.specs.declared.refusal.ReadFault.{ReadFault}
+use Rattle.model.specs.declared.refusal.ReadFault.TheVariants.{NotJson as not_json, RepeatedName, LoneSurrogate, BadNumber, TooLarge}
 use Rattle.model.specs.Value.{Value}
 use Rattle.model.proofs.Laws.Logic.{clash}
 use Rattle.syntax.specs.Faults.{Fault, fault, faults, Begins, NotJson, OverLong, spell_unit, Pair, Lone, reach, Unpaired, Stated}
@@ -28,7 +30,7 @@ read_bad s k p e l = go (ltb max_text_bytes (length s)) refl e
     fine (ok v u q) e = clash cc
     fine (bad n q) e = let i : n ≡ k = cc in let j : q ≡ p = cc in ap (λ z. bad z q) i ∙ ap (bad k) j
 
-    go : (b : Bool) → ltb max_text_bytes (length s) ≡ b → elim b [ true ↦ refuse too_large max_text_bytes | false ↦ answer (text (2 * length s + 1) s 0) ] ≡ refuse k p → text (2 * length s + 1) s 0 ≡ bad k p
+    go : (b : Bool) → ltb max_text_bytes (length s) ≡ b → elim b [ true ↦ refuse TooLarge max_text_bytes | false ↦ answer (text (2 * length s + 1) s 0) ] ≡ refuse k p → text (2 * length s + 1) s 0 ≡ bad k p
     go true i e = absurd (let x = ltb-true max_text_bytes (length s) i in omega arith)
     go false i e = fine (text (2 * length s + 1) s 0) e
 
@@ -36,11 +38,11 @@ bad_read : (s : Bytes) (k : ReadFault) (p : ℕ) → text (2 * length s + 1) s 0
 unfolding read answer
 bad_read s k p e l = go (ltb max_text_bytes (length s)) refl
   where
-    go : (b : Bool) → ltb max_text_bytes (length s) ≡ b → elim b [ true ↦ refuse too_large max_text_bytes | false ↦ answer (text (2 * length s + 1) s 0) ] ≡ refuse k p
+    go : (b : Bool) → ltb max_text_bytes (length s) ≡ b → elim b [ true ↦ refuse TooLarge max_text_bytes | false ↦ answer (text (2 * length s + 1) s 0) ] ≡ refuse k p
     go true i = absurd (let x = ltb-true max_text_bytes (length s) i in omega arith)
     go false i = ap answer e
 
-pub over_long : (s : Bytes) → max_text_bytes < length s → read s ≡ refuse too_large max_text_bytes
+pub over_long : (s : Bytes) → max_text_bytes < length s → read s ≡ refuse TooLarge max_text_bytes
 unfolding read
 over_long s l = rw (lt-ltb max_text_bytes (length s) l, read)
 
@@ -73,13 +75,13 @@ through s k p e l = go (begun s k p e)
   where
     at_place : (k : ReadFault) → 3 ≤ read_number k → Begun s k p → (p < length s) × Begins (take (suc p) s)
     at_place not_json l g = absurd (omega arith)
-    at_place repeated_name l g = (g.inside, (g.tree, g.rest, g.begins))
-    at_place lone_surrogate l g =
+    at_place RepeatedName l g = (g.inside, (g.tree, g.rest, g.begins))
+    at_place LoneSurrogate l g =
         let h = g.inside in
         let six : p + 6 ≡ suc p + 5 = omega arith in
         (omega arith, (g.tree, _, shorter s (spell g.tree) g.rest (suc p) 5 (g.begins ∙ ap (λ n. take n s ++ g.rest) six)))
-    at_place bad_number l g = (g.inside, (g.tree, g.rest, g.begins))
-    at_place too_large l g = (g.inside, (g.tree, g.rest, g.begins))
+    at_place BadNumber l g = (g.inside, (g.tree, g.rest, g.begins))
+    at_place TooLarge l g = (g.inside, (g.tree, g.rest, g.begins))
 
     go : OverLong s k p ⊎ (Begun s k p × (length s ≤ max_text_bytes)) → OverLong s k p ⊎ ((p < length s) × Begins (take (suc p) s))
     go (inl x) = inl x
@@ -99,23 +101,23 @@ taken s n l = length-take n s ∙ omega arith
 -- What s and a text that begins so share decides the fault.
 decided : (s u rest : Bytes) (k : ReadFault) (p : ℕ) → 3 ≤ read_number k → reach k p ≤ length s → u ≡ take (reach k p) s ++ rest → Spaced k rest → Decides s u (drop (reach k p) s) rest k p
 decided s u rest not_json p l h e g = absurd (omega arith)
-decided s u rest repeated_name p l h e g = omega (arith, length-drop (suc p) s)
-decided s u rest lone_surrogate p l h e g = (omega (arith, length-drop (p + 6) s), no_pair u (take (p + 6) s) rest g.0 p (taken s (p + 6) h) e g.1)
-decided s u rest bad_number p l h e g = omega (arith, length-drop (suc p) s)
-decided s u rest too_large p l h e g = omega (arith, length-drop (suc p) s)
+decided s u rest RepeatedName p l h e g = omega (arith, length-drop (suc p) s)
+decided s u rest LoneSurrogate p l h e g = (omega (arith, length-drop (p + 6) s), no_pair u (take (p + 6) s) rest g.0 p (taken s (p + 6) h) e g.1)
+decided s u rest BadNumber p l h e g = omega (arith, length-drop (suc p) s)
+decided s u rest TooLarge p l h e g = omega (arith, length-drop (suc p) s)
 
 no_pairs : (k : ReadFault) (t : Bytes) → IsLone k t → Unpaired k t
 no_pairs not_json t h = tt
-no_pairs repeated_name t h = tt
-no_pairs lone_surrogate t h = h.no_pair
-no_pairs bad_number t h = tt
-no_pairs too_large t h = tt
+no_pairs RepeatedName t h = tt
+no_pairs LoneSurrogate t h = h.no_pair
+no_pairs BadNumber t h = tt
+no_pairs TooLarge t h = tt
 
 -- Of a lone surrogate: a complete escape of one stands there, and has no partner.
-pub lone_surrogate_lem : (s : Bytes) (p : ℕ) → read s ≡ refuse lone_surrogate p → Lone (drop p s)
-lone_surrogate_lem s p e = go (begun s lone_surrogate p e)
+pub lone_surrogate_lem : (s : Bytes) (p : ℕ) → read s ≡ refuse LoneSurrogate p → Lone (drop p s)
+lone_surrogate_lem s p e = go (begun s LoneSurrogate p e)
   where
-    go : OverLong s lone_surrogate p ⊎ (Begun s lone_surrogate p × (length s ≤ max_text_bytes)) → Lone (drop p s)
+    go : OverLong s LoneSurrogate p ⊎ (Begun s LoneSurrogate p × (length s ≤ max_text_bytes)) → Lone (drop p s)
     go (inl x) = absurd (let i = ap read_number x.0 in omega (arith, i))
     go (inr x) = x.0.lone
 
@@ -149,10 +151,10 @@ first_bad d k p others e = go (text (suc (2 * length (spell d))) (spell d) 0) (t
 -- What the text shares with s decides its first fault.
 decides : (s u rest : Bytes) (k : ReadFault) (p : ℕ) → 3 ≤ read_number k → length u ≡ reach k p + length rest → Unpaired k (drop p s) → Decides u s rest (drop (reach k p) s) k p
 decides s u rest not_json p l e g = absurd (omega arith)
-decides s u rest repeated_name p l e g = omega (arith, e)
-decides s u rest lone_surrogate p l e g = (sym e, g)
-decides s u rest bad_number p l e g = omega (arith, e)
-decides s u rest too_large p l e g = omega (arith, e)
+decides s u rest RepeatedName p l e g = omega (arith, e)
+decides s u rest LoneSurrogate p l e g = (sym e, g)
+decides s u rest BadNumber p l e g = omega (arith, e)
+decides s u rest TooLarge p l e g = omega (arith, e)
 
 pub none_missed : (s : Bytes) (k : ReadFault) (p : ℕ) → Stated s k p → length s ≤ max_text_bytes → read s ≡ refuse k p
 none_missed s k p g l =

@@ -3,11 +3,12 @@ use Rattle.std.specs.Prelude.{◌≡◌, refl, Bool, true, false, ℕ, suc, ◌+
 use Rattle.std.proofs.Common.{sym, ◌∙◌, arith, leb-true, lit≤}
 use Rattle.std.proofs.Math.Path.{subst, ap}
 use mathlib.Core.List.{List, [], ◌∷◌, ◌++◌}
-use Rattle.std.proofs.Math.Option.{Option, none, some}
+use Rattle.std.specs.Prelude.{Option, None, Some}
 use Rattle.model.specs.Bytes.{Bytes}
 use Rattle.model.proofs.Laws.Logic.{T→true}
 use Rattle.model.specs.Limits.{max_integer}
-use Rattle.model.specs.Refusal.{bad_number, read_number}
+use Rattle.model.specs.Refusal.{read_number}
+use Rattle.model.specs.declared.refusal.ReadFault.TheVariants.{BadNumber}
 use Rattle.model.specs.Value.{Value}
 use Rattle.syntax.specs.Faults.{Fault, fault, faults_digits, faults_int, faults_frac, faults_exp, faults_number}
 use Rattle.syntax.specs.Grammar.{Ws, no_ws, ws, Digits, no_digits, digit, Int, zero_int, int, Frac, no_frac, frac, Exp, no_exp, exp, spell_ws, spell_digits, spell_int, spell_frac, spell_exp, digits_number, int_number, limited, plain}
@@ -21,17 +22,17 @@ use Rattle.syntax.proofs.Laws.Tokens.{positive_digit, positive_value, digit_smal
 
 -- The outcome of a parser on what is derived in front of y, in a text of N bytes: its meaning if it has no fault, and else its first fault.
 abbrev pub Meets : {A : Type 0} → List Fault → Option A → Bytes → ℕ → Parsed A → Type 0
-Meets fs o y N (ok a u q) = (fs ≡ []) × (o ≡ some a) × (u ≡ y) × (q + length y ≡ N)
+Meets fs o y N (ok a u q) = (fs ≡ []) × (o ≡ Some a) × (u ≡ y) × (q + length y ≡ N)
 Meets fs o y N (bad k p) = (3 ≤ read_number k) × ((rest : List Fault) × (fs ≡ fault k p ∷ rest))
 
 module _ {A B : Type 0} (o : Option A) (o₂ : Option B) (z y : Bytes) (N : ℕ) where
   -- One part after another, and a part after which no fault is left.
-  pub meets_then : (fs gs : List Fault) (x : Parsed A) (g : A → Parser B) → Meets fs o z N x → ((a : A) (q : ℕ) → o ≡ some a → q + length z ≡ N → Meets gs o₂ y N (g a z q)) → Meets (fs ++ gs) o₂ y N (then x g)
+  pub meets_then : (fs gs : List Fault) (x : Parsed A) (g : A → Parser B) → Meets fs o z N x → ((a : A) (q : ℕ) → o ≡ Some a → q + length z ≡ N → Meets gs o₂ y N (g a z q)) → Meets (fs ++ gs) o₂ y N (then x g)
   unfolding then
   meets_then fs gs (ok a u q) g h f = subst (λ l. Meets (l ++ gs) o₂ y N (g a u q)) (sym h.0) (subst (λ t. Meets gs o₂ y N (g a t q)) (sym h.2) (f a q h.1 h.3))
   meets_then fs gs (bad k p) g h f = (h.0, (h.1.0 ++ gs, ap (λ l. l ++ gs) h.1.1))
 
-  pub meets_last : (fs : List Fault) (x : Parsed A) (g : A → Parser B) → Meets fs o z N x → ((a : A) (q : ℕ) → o ≡ some a → q + length z ≡ N → Meets [] o₂ y N (g a z q)) → Meets fs o₂ y N (then x g)
+  pub meets_last : (fs : List Fault) (x : Parsed A) (g : A → Parser B) → Meets fs o z N x → ((a : A) (q : ℕ) → o ≡ Some a → q + length z ≡ N → Meets [] o₂ y N (g a z q)) → Meets fs o₂ y N (then x g)
   unfolding then
   meets_last fs (ok a u q) g h f = subst (λ l. Meets l o₂ y N (g a u q)) (sym h.0) (subst (λ t. Meets [] o₂ y N (g a t q)) (sym h.2) (f a q h.1 h.3))
   meets_last fs (bad k p) g h f = h
@@ -75,9 +76,9 @@ zero_ends : (negative : Bool) → Ends negative 0 (after_zero negative)
 unfolding after_zero
 zero_ends negative = record { at_end = λ at. refl; at_byte = λ b t at e. refl }
 
-end_part : (negative : Bool) (n b : ℕ) (t : Bytes) (at : ℕ) → is_part b ≡ true → end_number negative n b (b ∷ t) at ≡ bad bad_number at
+end_part : (negative : Bool) (n b : ℕ) (t : Bytes) (at : ℕ) → is_part b ≡ true → end_number negative n b (b ∷ t) at ≡ bad BadNumber at
 unfolding end_number fail
-end_part negative n b t at e = if_true (λ r. r ≡ bad bad_number at) (b ∷ t) at (is_part b) _ _ e refl
+end_part negative n b t at e = if_true (λ r. r ≡ bad BadNumber at) (b ∷ t) at (is_part b) _ _ e refl
 
 end_number_lem : (negative : Bool) (n b : ℕ) (t : Bytes) (at : ℕ) → is_part b ≡ false → end_number negative n b (b ∷ t) at ≡ ok (signed negative n) (b ∷ t) at
 unfolding end_number give
@@ -97,16 +98,16 @@ part_meets negative n m ends no_frac no_exp N [] at p l h e i = subst (Meets [] 
 part_meets negative n m ends no_frac no_exp N (b ∷ y) at p l h e i =
     subst (Meets [] (limited negative n) (b ∷ y) N) (sym (ends.at_byte b y at h.0 ∙ end_number_lem negative n b y at h.1)) (refl, in_limit negative n l, refl, e)
 part_meets negative n m ends no_frac (exp x g s b k ds) N y at p l h e i =
-    subst (Meets (fault bad_number p ∷ []) none y N) (sym (ends.at_byte x _ at (exponent_no_digit x g) ∙ end_part negative n x _ at (exponent_part x g)))
-    (lit≤ tt, ([], ap (λ q. fault bad_number q ∷ []) (omega (arith, e, i))))
+    subst (Meets (fault BadNumber p ∷ []) None y N) (sym (ends.at_byte x _ at (exponent_no_digit x g) ∙ end_part negative n x _ at (exponent_part x g)))
+    (lit≤ tt, ([], ap (λ q. fault BadNumber q ∷ []) (omega (arith, e, i))))
 part_meets negative n m ends (frac b g ds) ex N y at p l h e i =
-    subst (Meets (fault bad_number at ∷ faults_exp ex p) none y N) (sym (ends.at_byte 0x2E _ at dot_part.0 ∙ end_part negative n 0x2E _ at dot_part.1)) (lit≤ tt, (faults_exp ex p, refl))
+    subst (Meets (fault BadNumber at ∷ faults_exp ex p) None y N) (sym (ends.at_byte 0x2E _ at dot_part.0 ∙ end_part negative n 0x2E _ at dot_part.1)) (lit≤ tt, (faults_exp ex p, refl))
 
 digit_in : (n b : ℕ) (h : T (is_digit b)) (ds : Digits) (at : ℕ) → leb (n * 10 + digit_value b) max_integer ≡ true → faults_digits n (digit b h ds) at ≡ faults_digits (n * 10 + digit_value b) ds (suc at)
 unfolding faults_digits
 digit_in n b h ds at g = rw (g, faults_digits)
 
-digit_out : (n b : ℕ) (h : T (is_digit b)) (ds : Digits) (at : ℕ) → leb (n * 10 + digit_value b) max_integer ≡ false → faults_digits n (digit b h ds) at ≡ fault bad_number at ∷ []
+digit_out : (n b : ℕ) (h : T (is_digit b)) (ds : Digits) (at : ℕ) → leb (n * 10 + digit_value b) max_integer ≡ false → faults_digits n (digit b h ds) at ≡ fault BadNumber at ∷ []
 unfolding faults_digits
 digit_out n b h ds at g = rw (g, faults_digits)
 

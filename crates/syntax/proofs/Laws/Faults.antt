@@ -3,10 +3,11 @@ use Rattle.std.specs.Prelude.{◌≡◌, Bool, true, false, ℕ, zero, suc, ◌+
 use Rattle.std.proofs.Math.Path.{refl, subst, ap}
 use Rattle.std.proofs.Common.{sym, ◌∙◌, arith, ltb-true, eq-eqb, lit≤}
 use mathlib.Core.List.{List, [], ◌∷◌, ◌++◌, append-nil}
-use Rattle.std.proofs.Math.Option.{Option, none, some}
+use Rattle.std.specs.Prelude.{Option, None, Some}
 use Rattle.model.specs.Bytes.{Bytes}
 use Rattle.model.specs.Limits.{max_text_bytes, max_values, max_nesting}
-use Rattle.model.specs.Refusal.{read_number, too_large}
+use Rattle.model.specs.Refusal.{read_number}
+use Rattle.model.specs.declared.refusal.ReadFault.TheVariants.{TooLarge}
 use Rattle.model.specs.Size.{value_count}
 use Rattle.model.specs.Value.{Value, scalar, array, object, string, no_items, item, Members, no_members, member}
 use Rattle.syntax.specs.declared.Start.{Start}
@@ -96,7 +97,7 @@ begin_meets :
 unfolding value then peek on_start fail many_at counted
 begin_meets f row depth y N at b u o x fs i h = subst (λ z. Meets (many_at row at ++ fs) o y N (body_of f row depth z (b ∷ u) at)) (sym i) (go (leb max_values row))
   where
-    go : (c : Bool) → Meets (elim c [ true ↦ fault too_large at ∷ [] | false ↦ [] ] ++ fs) o y N (body_of f row depth (elim c [ true ↦ TooMuch | false ↦ x ]) (b ∷ u) at)
+    go : (c : Bool) → Meets (elim c [ true ↦ fault TooLarge at ∷ [] | false ↦ [] ] ++ fs) o y N (body_of f row depth (elim c [ true ↦ TooMuch | false ↦ x ]) (b ∷ u) at)
     go true = (lit≤ tt, (fs, refl))
     go false = h
 
@@ -112,7 +113,7 @@ deep_meets :
 unfolding on_start fail deep_at nested
 deep_meets f row depth y N at b u o x fs h = go (leb max_nesting depth)
   where
-    go : (c : Bool) → Meets (elim c [ true ↦ fault too_large at ∷ [] | false ↦ [] ] ++ fs) o y N (body_of f row depth (elim c [ true ↦ TooMuch | false ↦ x ]) (b ∷ u) at)
+    go : (c : Bool) → Meets (elim c [ true ↦ fault TooLarge at ∷ [] | false ↦ [] ] ++ fs) o y N (body_of f row depth (elim c [ true ↦ TooMuch | false ↦ x ]) (b ∷ u) at)
     go true = (lit≤ tt, (fs, refl))
     go false = h
 
@@ -125,11 +126,11 @@ module _ {A : Type 0} (close : ℕ) (nil : Value) (wrap : A → Value) (m : Pars
   abbrev inside : Parser Value
   inside = white (peek >>= λ c. if (eqb c close) (eat (give nil)) (λ u q. then (m u q) (λ a. give (wrap a))))
 
-  empty_meets : (w : Ws) (y : Bytes) (N at : ℕ) → is_white close ≡ false → at + length (spell_ws w (close ∷ y)) ≡ N → Meets [] (some nil) y N (inside (spell_ws w (close ∷ y)) at)
+  empty_meets : (w : Ws) (y : Bytes) (N at : ℕ) → is_white close ≡ false → at + length (spell_ws w (close ∷ y)) ≡ N → Meets [] (Some nil) y N (inside (spell_ws w (close ∷ y)) at)
   unfolding ◌>>=◌ then peek eat give
   empty_meets w y N at h e =
-      white_run (Meets [] (some nil) y N) _ w (close ∷ y) at N h e
-      (λ q i. if_true (Meets [] (some nil) y N) (close ∷ y) q (eqb close close) _ _ (eq-eqb close close refl) (refl, refl, refl, omega (arith, i)))
+      white_run (Meets [] (Some nil) y N) _ w (close ∷ y) at N h e
+      (λ q i. if_true (Meets [] (Some nil) y N) (close ∷ y) q (eqb close close) _ _ (eq-eqb close close refl) (refl, refl, refl, omega (arith, i)))
 
   filled_meets :
       (fs : List Fault) (o : Option A) (w : Ws) (t y : Bytes) (N at : ℕ) → (g : First t) → eqb g.b close ≡ false → at + length (spell_ws w t) ≡ N
@@ -148,7 +149,7 @@ module _ {A : Type 0} (close : ℕ) (one : A) (m : Parser A) where
   abbrev after : Parser A
   after = white (peek >>= λ b. on_separator (separator_of close b) (eat (white m)) (eat (give one)))
 
-  last_meets : (o : Option A) (w : Ws) (y : Bytes) (N at : ℕ) → o ≡ some one → is_white close ≡ false → separator_of close close ≡ Close → at + length (spell_ws w (close ∷ y)) ≡ N → Meets [] o y N (after (spell_ws w (close ∷ y)) at)
+  last_meets : (o : Option A) (w : Ws) (y : Bytes) (N at : ℕ) → o ≡ Some one → is_white close ≡ false → separator_of close close ≡ Close → at + length (spell_ws w (close ∷ y)) ≡ N → Meets [] o y N (after (spell_ws w (close ∷ y)) at)
   unfolding ◌>>=◌ then peek on_separator eat give
   last_meets o w y N at j h c e =
       white_run (Meets [] o y N) _ w (close ∷ y) at N h e
@@ -180,23 +181,23 @@ number_meets false (int b k ds) fr ex f row depth N y at h e =
 
 string_meets :
     (f : ℕ) (cs : Chars) (N : ℕ) (y : Bytes) (at : ℕ) → length (spell_chars cs (0x22 ∷ y)) ≤ f → at + length (spell_chars cs (0x22 ∷ y)) ≡ N
-    → Meets (faults_chars cs none at) (map (λ s. scalar (string s)) (chars_meaning cs none)) y N (then (chars f clear (spell_chars cs (0x22 ∷ y)) at) (λ bs. eat (give (scalar (string bs)))))
+    → Meets (faults_chars cs None at) (map (λ s. scalar (string s)) (chars_meaning cs None)) y N (then (chars f clear (spell_chars cs (0x22 ∷ y)) at) (λ bs. eat (give (scalar (string bs)))))
 unfolding eat give map
 string_meets f cs N y at l e =
-    meets_last (chars_meaning cs none) (map (λ s. scalar (string s)) (chars_meaning cs none)) (0x22 ∷ y) y N (faults_chars cs none at) (chars f clear (spell_chars cs (0x22 ∷ y)) at) _ (chars_meet f cs clear N y at l e)
+    meets_last (chars_meaning cs None) (map (λ s. scalar (string s)) (chars_meaning cs None)) (0x22 ∷ y) y N (faults_chars cs None at) (chars f clear (spell_chars cs (0x22 ∷ y)) at) _ (chars_meet f cs clear N y at l e)
     (λ a q i j. (refl, ap (map (λ s. scalar (string s))) i, refl, omega (arith, j)))
 
-map₂_is : {A B C : Type 0} (f : A → B → C) (o : Option A) (a : A) (p : Option B) → o ≡ some a → map₂ f o p ≡ map (f a) p
+map₂_is : {A B C : Type 0} (f : A → B → C) (o : Option A) (a : A) (p : Option B) → o ≡ Some a → map₂ f o p ≡ map (f a) p
 unfolding map₂ map
-map₂_is f o a none i = ap (λ z. map₂ f z none) i
-map₂_is f o a (some b) i = ap (λ z. map₂ f z (some b)) i
+map₂_is f o a None i = ap (λ z. map₂ f z None) i
+map₂_is f o a (Some b) i = ap (λ z. map₂ f z (Some b)) i
 
-member_is : (o : Option Bytes) (n : Bytes) (p : Option Value) (v : Value) (r : Option Members) → o ≡ some n → p ≡ some v → member_of o p r ≡ map (member n v) r
+member_is : (o : Option Bytes) (n : Bytes) (p : Option Value) (v : Value) (r : Option Members) → o ≡ Some n → p ≡ Some v → member_of o p r ≡ map (member n v) r
 unfolding member_of map
-member_is o n p v none i j = ap (λ z. member_of z p none) i ∙ ap (λ z. member_of (some n) z none) j
-member_is o n p v (some ms) i j = ap (λ z. member_of z p (some ms)) i ∙ ap (λ z. member_of (some n) z (some ms)) j
+member_is o n p v None i j = ap (λ z. member_of z p None) i ∙ ap (λ z. member_of (Some n) z None) j
+member_is o n p v (Some ms) i j = ap (λ z. member_of z p (Some ms)) i ∙ ap (λ z. member_of (Some n) z (Some ms)) j
 
-some_mapped : {A B : Type 0} (f : A → B) (o : Option A) (a : A) → o ≡ some a → map f o ≡ some (f a)
+some_mapped : {A B : Type 0} (f : A → B) (o : Option A) (a : A) → o ≡ Some a → map f o ≡ Some (f a)
 unfolding map
 some_mapped f o a i = ap (map f) i
 
@@ -260,10 +261,10 @@ mutual
   members_meet (last_member n w u d x) f row depth seen N y at l e =
       let c = spell_ws x (0x7D ∷ y) in
       let z = spell_ws u (spell_value d c) in
-      let o = fresh seen (chars_meaning n none) in
+      let o = fresh seen (chars_meaning n None) in
       let p = at + length (0x22 ∷ spell_chars n (0x22 ∷ spell_ws w (0x3A ∷ spell_ws u []))) in
       let gs = faults_value d row depth p in
-      let whole = member_of o (value_meaning d) (some no_members) in
+      let whole = member_of o (value_meaning d) (Some no_members) in
       meets_then o whole z y N (faults_name seen n (suc at)) gs (name f seen (0x22 ∷ spell_chars n (0x22 ∷ spell_ws w (0x3A ∷ z))) at) _
       (name_meets f seen N n w z at (omega (arith, l)) (omega (arith, e)))
       (λ a q i j. white_run (Meets gs whole y N) _ u (spell_value d c) q N (not_white (first_value d c)) j
@@ -273,14 +274,14 @@ mutual
       (omega (arith, e, k, spelled_length (name_keeps (record { cs = n; w = w }) & ws_keeps u) (spell_value d c)))
       (value_meets d g row depth N c r (omega (arith, l, t, spelled_longer (name_keeps (record { cs = n; w = w }) & ws_keeps u) (spell_value d c))) (stops_ws x (0x7D ∷ y) mark_ends.1) k)))
       (λ v g t h. last_meets 0x7D (member a v no_members) (λ b m. then (members f (row + value_count v) depth (seen ++ (a ∷ [])) b m) (λ ms. give (member a v ms))) whole x y N g
-      (member_is o a (value_meaning d) v (some no_members) i t ∙ some_mapped (member a v) (some no_members) no_members refl) mark_here.1 closes.1 h)))
+      (member_is o a (value_meaning d) v (Some no_members) i t ∙ some_mapped (member a v) (Some no_members) no_members refl) mark_here.1 closes.1 h)))
   members_meet (jmember n w u d x z₁ ms) f row depth seen N y at l e =
       let c = spell_ws x (0x2C ∷ spell_ws z₁ (spell_members ms y)) in
       let z = spell_ws u (spell_value d c) in
-      let o = fresh seen (chars_meaning n none) in
+      let o = fresh seen (chars_meaning n None) in
       let p = at + length (0x22 ∷ spell_chars n (0x22 ∷ spell_ws w (0x3A ∷ spell_ws u []))) in
       let p₂ = at + length (0x22 ∷ spell_chars n (0x22 ∷ spell_ws w (0x3A ∷ spell_ws u (spell_value d (spell_ws x (0x2C ∷ spell_ws z₁ [])))))) in
-      let seen₂ = seen_with seen (chars_meaning n none) in
+      let seen₂ = seen_with seen (chars_meaning n None) in
       let hs = faults_members ms (row + count_value d) depth seen₂ p₂ in
       let gs = faults_value d row depth p ++ hs in
       let whole = member_of o (value_meaning d) (members_meaning ms seen₂) in
@@ -295,7 +296,7 @@ mutual
       (λ v g t h. more_meets 0x7D (member a v no_members) (λ b m. then (members f (row + value_count v) depth (seen ++ (a ∷ [])) b m) (λ ms. give (member a v ms))) (Meets hs whole y N) x z₁ (spell_members ms y) N g (not_white (first_member ms y)) h
       (λ m b. meets_last (members_meaning ms seen₂) whole y y N hs (members f (row + value_count v) depth (seen ++ (a ∷ [])) (spell_members ms y) m) _
       (one_more (λ g. Meets hs (members_meaning ms seen₂) y N (members g (row + value_count v) depth (seen ++ (a ∷ [])) (spell_members ms y) m)) f (omega (arith, l))
-      (λ g s. subst (λ k. Meets hs (members_meaning ms seen₂) y N (members (suc g) (row + value_count v) depth k (spell_members ms y) m)) (seen_fresh seen (chars_meaning n none) a i)
+      (λ g s. subst (λ k. Meets hs (members_meaning ms seen₂) y N (members (suc g) (row + value_count v) depth k (spell_members ms y) m)) (seen_fresh seen (chars_meaning n None) a i)
       (subst (λ k. Meets hs (members_meaning ms seen₂) y N (members (suc g) (row + k) depth seen₂ (spell_members ms y) m)) (sym (count_value_lem d v t))
       (subst (λ k. Meets (faults_members ms (row + count_value d) depth seen₂ k) (members_meaning ms seen₂) y N (members (suc g) (row + count_value d) depth seen₂ (spell_members ms y) m))
       (omega (arith, e, b, spelled_length (front & value_keeps d & ws_keeps x & byte 0x2C & ws_keeps z₁) (spell_members ms y)))
@@ -304,7 +305,7 @@ mutual
 
 -- ---- texts
 abbrev pub TextMeets : JText → Parsed Value → Type 0
-TextMeets d (ok v u q) = (faults d ≡ []) × (meaning d ≡ some v)
+TextMeets d (ok v u q) = (faults d ≡ []) × (meaning d ≡ Some v)
 TextMeets d (bad k p) = (3 ≤ read_number k) × ((rest : List Fault) × (faults d ≡ fault k p ∷ rest))
 
 pub text_meets : (d : JText) (f : ℕ) → 2 * length (spell d) ≤ f → TextMeets d (text (suc f) (spell d) 0)
@@ -330,6 +331,6 @@ first_fault d l = go (ltb max_text_bytes (length (spell d))) refl
     fine (ok v u q) h = h
     fine (bad k p) h = h.1
 
-    go : (b : Bool) → ltb max_text_bytes (length (spell d)) ≡ b → FirstFault d (elim b [ true ↦ refuse too_large max_text_bytes | false ↦ answer (text (2 * length (spell d) + 1) (spell d) 0) ])
+    go : (b : Bool) → ltb max_text_bytes (length (spell d)) ≡ b → FirstFault d (elim b [ true ↦ refuse TooLarge max_text_bytes | false ↦ answer (text (2 * length (spell d) + 1) (spell d) 0) ])
     go true e = absurd (let x = ltb-true max_text_bytes (length (spell d)) e in omega arith)
     go false e = fine (text (2 * length (spell d) + 1) (spell d) 0) (one_more (λ z. TextMeets d (text z (spell d) 0)) (2 * length (spell d) + 1) (omega arith) (λ g i. text_meets d g (omega (arith, i))))

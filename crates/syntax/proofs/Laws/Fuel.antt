@@ -4,7 +4,7 @@ use Rattle.std.proofs.Math.Path.{refl}
 use Rattle.std.proofs.Common.{sym, subst, ap, ◌∙◌, arith, length-append, drop_at}
 use Rattle.std.proofs.lemmas.List.{length-replicate}
 use Rattle.model.specs.Bytes.{Bytes}
-use Rattle.model.specs.Refusal.{not_json}
+use Rattle.model.specs.declared.refusal.ReadFault.TheVariants.{NotJson}
 use Rattle.model.specs.Size.{value_count}
 use Rattle.model.specs.Value.{Value, array, object, no_items, item, no_members, member}
 use Rattle.model.proofs.Laws.Logic.{clash}
@@ -168,22 +168,22 @@ equal_inside :
 equal_inside L close nil wrap m n h =
     equal_eat L _ _ (equal_white L _ _ (equal_then L peek peek _ _ shrinks_peek (equal_refl L peek) (λ c. equal_if L (eqb c close) _ _ _ _ (equal_refl L _) (equal_map L m n wrap h))))
 
-equal_none : {A : Type 0} (m n : Parser A) → ((at : ℕ) → m [] at ≡ bad not_json at) → ((at : ℕ) → n [] at ≡ bad not_json at) → Equal 0 m n
+equal_none : {A : Type 0} (m n : Parser A) → ((at : ℕ) → m [] at ≡ bad NotJson at) → ((at : ℕ) → n [] at ≡ bad NotJson at) → Equal 0 m n
 equal_none m n h k [] at l = h at ∙ sym (k at)
 equal_none m n h k (b ∷ t) at l = absurd (omega arith)
 
-value_none : (f row depth at : ℕ) → value f row depth [] at ≡ bad not_json at
+value_none : (f row depth at : ℕ) → value f row depth [] at ≡ bad NotJson at
 unfolding value then peek
 value_none zero row depth at = refl
 value_none (suc f) row depth at = refl
 
-items_none : (f row depth at : ℕ) → items f row depth [] at ≡ bad not_json at
+items_none : (f row depth at : ℕ) → items f row depth [] at ≡ bad NotJson at
 unfolding value then
 items_none zero row depth at = refl
 items_none (suc f) row depth at =
     ap (λ z. then z (λ v. white (peek >>= λ b. on_separator (separator_of 0x5D b) (eat (white (λ u q. then (items f (row + value_count v) depth u q) (λ vs. give (item v vs))))) (eat (give (item v no_items)))))) (value_none f row depth at)
 
-members_none : (f row depth : ℕ) (seen : List Bytes) (at : ℕ) → members f row depth seen [] at ≡ bad not_json at
+members_none : (f row depth : ℕ) (seen : List Bytes) (at : ℕ) → members f row depth seen [] at ≡ bad NotJson at
 unfolding value then name ◌>>=◌ peek
 members_none zero row depth seen at = refl
 members_none (suc f) row depth seen at = refl

@@ -8,7 +8,8 @@ use Prim.Native.Nat.{ℕ, zero, suc, ◌+◌, ◌*◌, ◌≤◌, ◌<◌}
 use Rattle.std.proofs.Math.ListN.{length}
 use Rattle.model.specs.Bytes.{Bytes}
 use Rattle.model.specs.Limits.{max_integer}
-use Rattle.model.specs.Refusal.{ReadFault, not_json, repeated_name, lone_surrogate, bad_number, too_large}
+use Rattle.model.specs.declared.refusal.ReadFault.{ReadFault}
+use Rattle.model.specs.declared.refusal.ReadFault.TheVariants.{NotJson, RepeatedName, LoneSurrogate, BadNumber, TooLarge}
 use Rattle.model.specs.Value.{Value}
 use Rattle.syntax.specs.declared.Word.{Word}
 use Rattle.syntax.specs.declared.Word.TheVariants.{TrueWord, FalseWord, NullWord}
@@ -31,11 +32,11 @@ less_or_not m n = go (ltb m n) refl
 module _ (s s' r w : Bytes) where
   -- What s and s' share decides the fault.
   abbrev pub Decides : ReadFault → ℕ → Type 0
-  Decides not_json p = p + length r < length s
-  Decides repeated_name p = p + length r < length s
-  Decides lone_surrogate p = (p + 6 + length r ≡ length s) × (Pair (drop p s') → ⊥)
-  Decides bad_number p = p + length r < length s
-  Decides too_large p = p + length r < length s
+  Decides NotJson p = p + length r < length s
+  Decides RepeatedName p = p + length r < length s
+  Decides LoneSurrogate p = (p + 6 + length r ≡ length s) × (Pair (drop p s') → ⊥)
+  Decides BadNumber p = p + length r < length s
+  Decides TooLarge p = p + length r < length s
 
   -- The outcome on s is x; that on s' is y.
   abbrev pub Claim : {A : Type 0} → Parsed A → Parsed A → Type 0
@@ -52,11 +53,11 @@ module _ (s s' r w : Bytes) where
 
   -- A fault that stands no earlier than where the two part is not decided.
   pub undecided : (k : ReadFault) (p : ℕ) → length s ≤ p + length r → Decides k p → ⊥
-  undecided not_json p l d = omega arith
-  undecided repeated_name p l d = omega arith
-  undecided lone_surrogate p l d = omega (arith, d.0)
-  undecided bad_number p l d = omega arith
-  undecided too_large p l d = omega arith
+  undecided NotJson p l d = omega arith
+  undecided RepeatedName p l d = omega arith
+  undecided LoneSurrogate p l d = omega (arith, d.0)
+  undecided BadNumber p l d = omega arith
+  undecided TooLarge p l d = omega arith
 
   -- Past what they share nothing is claimed.
   pub past : {A : Type 0} (lo at : ℕ) (x y : Parsed A) → Within s lo at x → length s ≤ at + length r → length s ≤ lo + length r → Claim x y
@@ -146,7 +147,7 @@ module _ (s s' r w : Bytes) where
 
   local_end : (negative : Bool) (n b : ℕ) → Local (end_number negative n b)
   unfolding end_number
-  local_end negative n b = local_if (is_part b) _ _ (local_fail Value bad_number) (local_give _)
+  local_end negative n b = local_if (is_part b) _ _ (local_fail Value BadNumber) (local_give _)
 
   agree_digits : (negative : Bool) (n : ℕ) → Agrees (digits negative n)
   unfolding digits fail
@@ -163,7 +164,7 @@ module _ (s s' r w : Bytes) where
 
   pub local_int : (negative : Bool) → Local (int negative)
   unfolding int
-  local_int negative = local_then peek _ local_peek (λ b. local_if (is_digit b) _ _ (local_eat _ (local_first negative (digit_value b))) (local_fail Value not_json))
+  local_int negative = local_then peek _ local_peek (λ b. local_if (is_digit b) _ _ (local_eat _ (local_first negative (digit_value b))) (local_fail Value NotJson))
 
   -- ---- characters
   agree_tails : (n lo hi : ℕ) → Agrees (tails n lo hi)

@@ -5,7 +5,7 @@ use Rattle.std.proofs.Common.{sym, ◌∙◌, inl, inr, arith}
 use Prim.Native.Nat.{ℕ, zero, suc, ◌+◌, ◌≤◌, ◌<◌}
 use Rattle.std.proofs.Math.ListN.{length}
 use Rattle.model.specs.Bytes.{Bytes}
-use Rattle.model.specs.Refusal.{not_json, repeated_name, lone_surrogate}
+use Rattle.model.specs.declared.refusal.ReadFault.TheVariants.{NotJson, RepeatedName, LoneSurrogate}
 use Rattle.syntax.specs.declared.Unit.TheVariants.{High, Low}
 use Rattle.syntax.specs.Faults.{spell_unit, Pair}
 use Rattle.syntax.specs.Grammar.{Hexes, hex_number}
@@ -56,13 +56,13 @@ module _ (s s' r w : Bytes) where
 
   -- ---- after a high surrogate
   -- Where no low one follows it is alone.
-  high_alone : (f v p : ℕ) (u : Bytes) (at : ℕ) → At s' u at → (StartsLow u → ⊥) → chars (suc f) (high v p) u at ≡ bad lone_surrogate p
+  high_alone : (f v p : ℕ) (u : Bytes) (at : ℕ) → At s' u at → (StartsLow u → ⊥) → chars (suc f) (high v p) u at ≡ bad LoneSurrogate p
   unfolding chars lone
   high_alone f v p u at h no-low =
-      lone_law (λ x. x ≡ bad lone_surrogate p) (ReadsChar s' u) (char u at) p _ (char_reads s' u at h)
-      (λ x u' q g. piece_law (λ x. x ≡ bad lone_surrogate p) u' q x _ _ _ (λ i. refl) (λ bs i. refl)
+      lone_law (λ x. x ≡ bad LoneSurrogate p) (ReadsChar s' u) (char u at) p _ (char_reads s' u at h)
+      (λ x u' q g. piece_law (λ x. x ≡ bad LoneSurrogate p) u' q x _ _ _ (λ i. refl) (λ bs i. refl)
       (λ c i. let y : OneUnit s' u c u' q = subst (λ z. ReadsChar s' u (ok z u' q)) i g in
-      unit_law (λ x. x ≡ bad lone_surrogate p) u' q (unit_of c) _ _ _ (λ j. refl) (λ j. refl)
+      unit_law (λ x. x ≡ bad LoneSurrogate p) u' q (unit_of c) _ _ _ (λ j. refl) (λ j. refl)
       (λ j. absurd (no-low (record { low = y.hs; rest = u'; begins = y.is; is_low = ap unit_of y.means ∙ j })))))
       (λ k q g. refl)
 
@@ -81,7 +81,7 @@ module _ (s s' r w : Bytes) where
   -- After a high one whose escape is not wholly shared nothing is claimed.
   high_parted : (at : ℕ) {u : Bytes} {q : ℕ} → At s u q → q ≡ at + 6 → length u < length r → (x y : Parsed Bytes) → HighWithin s at q x → Claim s s' r w x y
   high_parted at h e l (ok bs v p) y g = λ k. absurd (omega (arith, at_length h, at_length g.0, g.1, k))
-  high_parted at h e l (bad k p) y (inl g) = λ d. absurd (let z : Decides s s' r w lone_surrogate p = subst (λ k. Decides s s' r w k p) g.0 d in omega (arith, z.0, g.1, at_length h))
+  high_parted at h e l (bad k p) y (inl g) = λ d. absurd (let z : Decides s s' r w LoneSurrogate p = subst (λ k. Decides s s' r w k p) g.0 d in omega (arith, z.0, g.1, at_length h))
   high_parted at h e l (bad k p) y (inr g) = λ d. absurd (undecided s s' r w k p (omega (arith, g.0, at_length h)) d)
 
   module _ (f : ℕ) (clears : Agrees s s' r w (chars f clear)) (highs : HighAgrees f) where
@@ -153,7 +153,7 @@ module _ (s s' r w : Bytes) where
     unfolding chars or_lone on_piece on_unit lone
     high_agrees v p₀ t u at h i a no-low = go (char t at) (agree_char s s' r w stays_char t u at h i a) (char_within s t at h)
       where
-        alone : Claim s s' r w (bad lone_surrogate p₀) (chars (suc f) (high v p₀) u at)
+        alone : Claim s s' r w (bad LoneSurrogate p₀) (chars (suc f) (high v p₀) u at)
         alone d = high_alone f v p₀ u at i (no-low d.1)
 
         go : (x : Parsed Piece) → Claim s s' r w x (char u at) → CharWithin s at x → Claim s s' r w (or_lone x p₀ (after_high v p₀)) (or_lone (char u at) p₀ (after_high v p₀))
@@ -185,6 +185,6 @@ module _ (s s' r w : Bytes) where
   unfolding name
   local_name f seen =
       local_then s s' r w peek _ (local_peek s s' r w) (λ b. local_if s s' r w (eqb b 0x22) _ _
-      (local_then s s' r w (quoted f) _ (local_quoted f) (λ n. local_if s s' r w (among n seen) _ _ (local_fail s s' r w Bytes repeated_name)
-      (local_eat s s' r w _ (local_white s s' r w _ (local_then s s' r w peek _ (local_peek s s' r w) (λ c. local_if s s' r w (eqb c 0x3A) _ _ (local_eat s s' r w _ (local_give s s' r w n)) (local_fail s s' r w Bytes not_json)))))))
-      (local_fail s s' r w Bytes not_json))
+      (local_then s s' r w (quoted f) _ (local_quoted f) (λ n. local_if s s' r w (among n seen) _ _ (local_fail s s' r w Bytes RepeatedName)
+      (local_eat s s' r w _ (local_white s s' r w _ (local_then s s' r w peek _ (local_peek s s' r w) (λ c. local_if s s' r w (eqb c 0x3A) _ _ (local_eat s s' r w _ (local_give s s' r w n)) (local_fail s s' r w Bytes NotJson)))))))
+      (local_fail s s' r w Bytes NotJson))

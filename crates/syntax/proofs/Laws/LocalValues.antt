@@ -2,7 +2,7 @@
 use Rattle.std.specs.Prelude.{◌≡◌, refl, true, false, List, [], ◌∷◌, ◌++◌, ℕ, zero, suc, ◌+◌, ◌*◌, ◌≤◌, eqb, length}
 use Rattle.std.proofs.Common.{subst, ◌∙◌, arith}
 use Rattle.model.specs.Bytes.{Bytes}
-use Rattle.model.specs.Refusal.{ReadFault}
+use Rattle.model.specs.declared.refusal.ReadFault.{ReadFault}
 use Rattle.model.specs.Size.{value_count}
 use Rattle.model.specs.Value.{Value, scalar, array, object, string, no_items, item, no_members, member}
 use Rattle.syntax.specs.declared.Start.{Start}

@@ -1,7 +1,8 @@
 -- Locate: of a value that stands in a derivation, the bytes around it, its meaning, and what comes of another one in its place.
 use Rattle.std.specs.Prelude.{◌≡◌, refl, Bool, true, false, List, [], ◌∷◌, ◌++◌, ℕ, zero, suc, leb}
 use Rattle.std.proofs.Common.{sym, subst, ap, ◌∙◌, append_assoc}
-use Rattle.std.proofs.Math.Option.{Option, none, some, some-injective}
+use Rattle.std.specs.Prelude.{Option, None, Some}
+use Rattle.std.proofs.lemmas.Option.{same_Some}
 use Rattle.model.specs.Bytes.{Bytes}
 use Rattle.model.proofs.Laws.Option.{none_some, All}
 use Rattle.model.specs.Limits.{max_integer}
@@ -31,25 +32,25 @@ record Put {D A : Type 0} (c : Around D A) (d : D) (s : Site) (pre : Ws) (e : JV
 
 record Stands {D A : Type 0} (c : Around D A) (d : D) (s : Site) : Type 0 where
   splits : (y : Bytes) → c.spelled d y ≡ s.before ++ spell_value s.value (s.after ++ y)
-  part : (a : A) → c.means d ≡ some a → (v : Value) × (c.child a ≡ some v) × (value_meaning s.value ≡ some v)
+  part : (a : A) → c.means d ≡ Some a → (v : Value) × (c.child a ≡ Some v) × (value_meaning s.value ≡ Some v)
   put : (pre : Ws) (e : JValue) (post : Ws) → Put c d s pre e post
 
 -- A site, or no part there.
 abbrev Located : {D A : Type 0} → Around D A → D → Option Site → Type 0
-Located c d none = (a : _) → c.means d ≡ some a → c.child a ≡ none
-Located c d (some s) = Stands c d s
+Located c d None = (a : _) → c.means d ≡ Some a → c.child a ≡ None
+Located c d (Some s) = Stands c d s
 
 -- The same behind some more bytes: `wrap` makes of a derivation a larger one, which has those bytes in front.
 module _ {D A D' A' : Type 0} (c : Around D A) (c' : Around D' A') (d : D) (d' : D') (a : Bytes) (wrap : D → D') where
   record Wraps : Type 0 where
     old : (y : Bytes) → c'.spelled d' y ≡ a ++ c.spelled d y
     new : (x : D) (y : Bytes) → c'.spelled (wrap x) y ≡ a ++ c.spelled x y
-    child_of : (b : A') → c'.means d' ≡ some b → (m : A) × (c.means d ≡ some m) × (c'.child b ≡ c.child m)
+    child_of : (b : A') → c'.means d' ≡ Some b → (m : A) × (c.means d ≡ Some m) × (c'.child b ≡ c.child m)
     changed : (x : D) (f : Value → Value) → c.means x ≡ map (c.change f) (c.means d) → c'.means (wrap x) ≡ map (c'.change f) (c'.means d')
 
-  behind_located : (o : Option Site) → Wraps → Located c d o → Located c' d' (o >>= λ s. some (behind a s))
-  behind_located none w h = λ b e. let (m, i, j) = w.child_of b e in j ∙ h m i
-  behind_located (some s) w h = record {
+  behind_located : (o : Option Site) → Wraps → Located c d o → Located c' d' (o >>= λ s. Some (behind a s))
+  behind_located None w h = λ b e. let (m, i, j) = w.child_of b e in j ∙ h m i
+  behind_located (Some s) w h = record {
     splits = λ y. w.old y ∙ ap (λ t. a ++ t) (h.splits y) ∙ sym (append_assoc a s.before _);
     part = λ b e. let (m, i, j) = w.child_of b e in let (v, k, l) = h.part m i in (v, j ∙ k, l);
     put = λ pre e post. let n = h.put pre e post in record {
@@ -62,42 +63,42 @@ module _ {D A D' A' : Type 0} (c : Around D A) (c' : Around D' A') (d : D) (d' :
 -- Two changes in a row that come to the same.
 twice_mapped : {A B C D : Type 0} (o : Option A) (f : A → B) (g : B → D) (h : A → C) (k : C → D) → ((a : A) → g (f a) ≡ k (h a)) → map g (map f o) ≡ map k (map h o)
 unfolding map
-twice_mapped none f g h k e = refl
-twice_mapped (some a) f g h k e = ap some (e a)
+twice_mapped None f g h k e = refl
+twice_mapped (Some a) f g h k e = ap Some (e a)
 
 -- ---- elements
 -- With the white space before the first.
 abbrev elements : ℕ → Around (Ws × JElements) Values
 elements k = record { spelled = λ d y. spell_ws d.0 (spell_elements d.1 y); means = λ d. elements_meaning d.1; child = λ vs. item_at vs k; change = λ f vs. map_item vs k f }
 
-one_part : (o : Option Value) (vs : Values) → map (λ x. item x no_items) o ≡ some vs → (v : Value) × (item_at vs 0 ≡ some v) × (o ≡ some v)
+one_part : (o : Option Value) (vs : Values) → map (λ x. item x no_items) o ≡ Some vs → (v : Value) × (item_at vs 0 ≡ Some v) × (o ≡ Some v)
 unfolding map
-one_part none vs e = none_some e
-one_part (some x) vs e = (x, cc, refl)
+one_part None vs e = none_some e
+one_part (Some x) vs e = (x, cc, refl)
 
-first_part : (o : Option Value) (p : Option Values) (vs : Values) → map₂ item o p ≡ some vs → (v : Value) × (item_at vs 0 ≡ some v) × (o ≡ some v)
+first_part : (o : Option Value) (p : Option Values) (vs : Values) → map₂ item o p ≡ Some vs → (v : Value) × (item_at vs 0 ≡ Some v) × (o ≡ Some v)
 unfolding map₂
-first_part none p vs e = none_some e
-first_part (some x) none vs e = none_some e
-first_part (some x) (some xs) vs e = (x, cc, refl)
+first_part None p vs e = none_some e
+first_part (Some x) None vs e = none_some e
+first_part (Some x) (Some xs) vs e = (x, cc, refl)
 
 first_changed : (o : Option Value) (p : Option Values) (f : Value → Value) → map₂ item (map f o) p ≡ map (λ vs. map_item vs 0 f) (map₂ item o p)
 unfolding map map₂
-first_changed none p f = refl
-first_changed (some x) none f = refl
-first_changed (some x) (some xs) f = refl
+first_changed None p f = refl
+first_changed (Some x) None f = refl
+first_changed (Some x) (Some xs) f = refl
 
-later_part : (o : Option Value) (p : Option Values) (k : ℕ) (vs : Values) → map₂ item o p ≡ some vs → (us : Values) × (p ≡ some us) × (item_at vs (suc k) ≡ item_at us k)
+later_part : (o : Option Value) (p : Option Values) (k : ℕ) (vs : Values) → map₂ item o p ≡ Some vs → (us : Values) × (p ≡ Some us) × (item_at vs (suc k) ≡ item_at us k)
 unfolding map₂
-later_part none p k vs e = none_some e
-later_part (some x) none k vs e = none_some e
-later_part (some x) (some xs) k vs e = (xs, refl, cc)
+later_part None p k vs e = none_some e
+later_part (Some x) None k vs e = none_some e
+later_part (Some x) (Some xs) k vs e = (xs, refl, cc)
 
 later_changed : (o : Option Value) (p : Option Values) (k : ℕ) (f : Value → Value) → map₂ item o (map (λ vs. map_item vs k f) p) ≡ map (λ vs. map_item vs (suc k) f) (map₂ item o p)
 unfolding map map₂
-later_changed none p k f = refl
-later_changed (some x) none k f = refl
-later_changed (some x) (some xs) k f = refl
+later_changed None p k f = refl
+later_changed (Some x) None k f = refl
+later_changed (Some x) (Some xs) k f = refl
 
 elements_located : (es : JElements) (k : ℕ) → Located (elements k) (no_ws, es) (element_at es k)
 unfolding element_at spell_elements elements_meaning spell_ws
@@ -142,25 +143,25 @@ elements_located (element v w u es) (suc k) =
 abbrev members : ℕ → List Bytes → Around JMembers Members
 members k seen = record { spelled = spell_members; means = λ ms. members_meaning ms seen; child = λ ms. content_at ms k; change = λ f ms. map_content ms k f }
 
-content_part : (o : Option Bytes) (p : Option Value) (r : Option Members) (ms : Members) → member_of o p r ≡ some ms → (v : Value) × (content_at ms 0 ≡ some v) × (p ≡ some v)
+content_part : (o : Option Bytes) (p : Option Value) (r : Option Members) (ms : Members) → member_of o p r ≡ Some ms → (v : Value) × (content_at ms 0 ≡ Some v) × (p ≡ Some v)
 content_part o p r ms e = let (n, v, us, i, j, k, l) = member_some o p r e in (v, ap (λ z. content_at z 0) (sym l), j)
 
 content_changed : (o : Option Bytes) (p : Option Value) (r : Option Members) (f : Value → Value) → member_of o (map f p) r ≡ map (λ ms. map_content ms 0 f) (member_of o p r)
 unfolding map member_of
-content_changed none p r f = refl
-content_changed (some n) none r f = refl
-content_changed (some n) (some v) none f = refl
-content_changed (some n) (some v) (some ms) f = refl
+content_changed None p r f = refl
+content_changed (Some n) None r f = refl
+content_changed (Some n) (Some v) None f = refl
+content_changed (Some n) (Some v) (Some ms) f = refl
 
-members_part : (o : Option Bytes) (p : Option Value) (r : Option Members) (k : ℕ) (ms : Members) → member_of o p r ≡ some ms → (us : Members) × (r ≡ some us) × (content_at ms (suc k) ≡ content_at us k)
+members_part : (o : Option Bytes) (p : Option Value) (r : Option Members) (k : ℕ) (ms : Members) → member_of o p r ≡ Some ms → (us : Members) × (r ≡ Some us) × (content_at ms (suc k) ≡ content_at us k)
 members_part o p r k ms e = let (n, v, us, i, j, l, m) = member_some o p r e in (us, l, ap (λ z. content_at z (suc k)) (sym m))
 
 members_changed : (o : Option Bytes) (p : Option Value) (r : Option Members) (k : ℕ) (f : Value → Value) → member_of o p (map (λ ms. map_content ms k f) r) ≡ map (λ ms. map_content ms (suc k) f) (member_of o p r)
 unfolding map member_of
-members_changed none p r k f = refl
-members_changed (some n) none r k f = refl
-members_changed (some n) (some v) none k f = refl
-members_changed (some n) (some v) (some ms) k f = refl
+members_changed None p r k f = refl
+members_changed (Some n) None r k f = refl
+members_changed (Some n) (Some v) None k f = refl
+members_changed (Some n) (Some v) (Some ms) k f = refl
 
 -- The bytes of a member with another value in it.
 name_put : (n : Chars) (w u pre : Ws) (y : Bytes) → spell_name n w (u ⊕ pre) y ≡ spell_name n w u [] ++ spell_ws pre y
@@ -170,35 +171,35 @@ members_located : (ms : JMembers) (k : ℕ) (seen : List Bytes) → Located (mem
 unfolding member_at spell_members members_meaning
 members_located (last_member n w u v x) zero seen = record {
   splits = λ y. ap (λ t. spell_name n w u (spell_value v t)) (ws_append x (0x7D ∷ []) y) ∙ name_append n w u [] (spell_value v (spell_ws x (0x7D ∷ []) ++ y));
-  part = λ ms e. content_part (fresh seen (chars_meaning n none)) (value_meaning v) (some no_members) ms e;
+  part = λ ms e. content_part (fresh seen (chars_meaning n None)) (value_meaning v) (Some no_members) ms e;
   put = λ pre e post. record {
     tree = last_member n w (u ⊕ pre) e (post ⊕ x);
     spells = λ y. ap (λ t. spell_name n w (u ⊕ pre) (spell_value e t)) (ws_ws post x (0x7D ∷ y) ∙ ap (spell_ws post) (ws_append x (0x7D ∷ []) y)) ∙ name_put n w u pre (spell_value e (spell_ws post (spell_ws x (0x7D ∷ []) ++ y)));
-    changes = λ f h. ap (λ o. member_of (fresh seen (chars_meaning n none)) o (some no_members)) h ∙ content_changed (fresh seen (chars_meaning n none)) (value_meaning v) (some no_members) f;
+    changes = λ f h. ap (λ o. member_of (fresh seen (chars_meaning n None)) o (Some no_members)) h ∙ content_changed (fresh seen (chars_meaning n None)) (value_meaning v) (Some no_members) f;
   };
 }
 members_located (last_member n w u v x) (suc k) seen = λ ms e.
-    let (us, i, j) = members_part (fresh seen (chars_meaning n none)) (value_meaning v) (some no_members) k ms e in
-    j ∙ ap (λ z. content_at z k) (sym (some-injective no_members us i))
+    let (us, i, j) = members_part (fresh seen (chars_meaning n None)) (value_meaning v) (Some no_members) k ms e in
+    j ∙ ap (λ z. content_at z k) (sym (same_Some no_members us i))
 members_located (jmember n w u v x z ms) zero seen = record {
   splits = λ y. ap (λ t. spell_name n w u (spell_value v t)) (after y) ∙ name_append n w u [] (spell_value v (spell_ws x (0x2C ∷ spell_ws z (spell_members ms [])) ++ y));
-  part = λ us e. content_part (fresh seen (chars_meaning n none)) (value_meaning v) rest us e;
+  part = λ us e. content_part (fresh seen (chars_meaning n None)) (value_meaning v) rest us e;
   put = λ pre e post. record {
     tree = jmember n w (u ⊕ pre) e (post ⊕ x) z ms;
     spells = λ y. ap (λ t. spell_name n w (u ⊕ pre) (spell_value e t)) (ws_ws post x (0x2C ∷ spell_ws z (spell_members ms y)) ∙ ap (spell_ws post) (after y))
         ∙ name_put n w u pre (spell_value e (spell_ws post (spell_ws x (0x2C ∷ spell_ws z (spell_members ms [])) ++ y)));
-    changes = λ f h. ap (λ o. member_of (fresh seen (chars_meaning n none)) o rest) h ∙ content_changed (fresh seen (chars_meaning n none)) (value_meaning v) rest f;
+    changes = λ f h. ap (λ o. member_of (fresh seen (chars_meaning n None)) o rest) h ∙ content_changed (fresh seen (chars_meaning n None)) (value_meaning v) rest f;
   };
 }
   where
     rest : Option Members
-    rest = members_meaning ms (seen_with seen (chars_meaning n none))
+    rest = members_meaning ms (seen_with seen (chars_meaning n None))
 
     after : (y : Bytes) → spell_ws x (0x2C ∷ spell_ws z (spell_members ms y)) ≡ spell_ws x (0x2C ∷ spell_ws z (spell_members ms [])) ++ y
     after y = ap (λ t. spell_ws x (0x2C ∷ t)) (ap (spell_ws z) (members_append ms [] y) ∙ ws_append z (spell_members ms []) y) ∙ ws_append x (0x2C ∷ spell_ws z (spell_members ms [])) y
 members_located (jmember n w u v x z ms) (suc k) seen =
-    behind_located (members k (seen_with seen (chars_meaning n none))) (members (suc k) seen) ms (jmember n w u v x z ms) (spell_name n w u (spell_value v (spell_ws x (0x2C ∷ spell_ws z []))))
-    (jmember n w u v x z) (member_at ms k) wraps (members_located ms k (seen_with seen (chars_meaning n none)))
+    behind_located (members k (seen_with seen (chars_meaning n None))) (members (suc k) seen) ms (jmember n w u v x z ms) (spell_name n w u (spell_value v (spell_ws x (0x2C ∷ spell_ws z []))))
+    (jmember n w u v x z) (member_at ms k) wraps (members_located ms k (seen_with seen (chars_meaning n None)))
   where
     front : (y : Bytes) → spell_name n w u (spell_value v (spell_ws x (0x2C ∷ spell_ws z y))) ≡ spell_name n w u (spell_value v (spell_ws x (0x2C ∷ spell_ws z []))) ++ y
     front y =
@@ -207,12 +208,12 @@ members_located (jmember n w u v x z ms) (suc k) seen =
         ∙ ap (spell_name n w u) (value_append v (spell_ws x (0x2C ∷ spell_ws z [])) y)
         ∙ name_append n w u (spell_value v (spell_ws x (0x2C ∷ spell_ws z []))) y
 
-    wraps : Wraps (members k (seen_with seen (chars_meaning n none))) (members (suc k) seen) ms (jmember n w u v x z ms) (spell_name n w u (spell_value v (spell_ws x (0x2C ∷ spell_ws z [])))) (jmember n w u v x z)
+    wraps : Wraps (members k (seen_with seen (chars_meaning n None))) (members (suc k) seen) ms (jmember n w u v x z ms) (spell_name n w u (spell_value v (spell_ws x (0x2C ∷ spell_ws z [])))) (jmember n w u v x z)
     wraps = record {
       old = λ y. front (spell_members ms y);
       new = λ us y. front (spell_members us y);
-      child_of = λ us e. members_part (fresh seen (chars_meaning n none)) (value_meaning v) (members_meaning ms (seen_with seen (chars_meaning n none))) k us e;
-      changed = λ us f h. ap (member_of (fresh seen (chars_meaning n none)) (value_meaning v)) h ∙ members_changed (fresh seen (chars_meaning n none)) (value_meaning v) (members_meaning ms (seen_with seen (chars_meaning n none))) k f;
+      child_of = λ us e. members_part (fresh seen (chars_meaning n None)) (value_meaning v) (members_meaning ms (seen_with seen (chars_meaning n None))) k us e;
+      changed = λ us f h. ap (member_of (fresh seen (chars_meaning n None)) (value_meaning v)) h ∙ members_changed (fresh seen (chars_meaning n None)) (value_meaning v) (members_meaning ms (seen_with seen (chars_meaning n None))) k f;
     }
 
 -- ---- values
@@ -220,30 +221,30 @@ abbrev children : ℕ → Around JValue Value
 children k = record { spelled = spell_value; means = value_meaning; child = λ v. child_at v k; change = λ f v. map_child v k f }
 
 -- A number has no part.
-signed_child : (negative : Bool) (n k : ℕ) → child_at (signed negative n) k ≡ none
+signed_child : (negative : Bool) (n k : ℕ) → child_at (signed negative n) k ≡ None
 unfolding signed
 signed_child false n k = refl
 signed_child true zero k = refl
 signed_child true (suc n) k = refl
 
-number_child : (negative : Bool) (n : ℕ) (fr : Frac) (ex : Exp) (v : Value) (k : ℕ) → plain negative n fr ex ≡ some v → child_at v k ≡ none
+number_child : (negative : Bool) (n : ℕ) (fr : Frac) (ex : Exp) (v : Value) (k : ℕ) → plain negative n fr ex ≡ Some v → child_at v k ≡ None
 unfolding plain limited
 number_child negative n no_frac no_exp v k e = go (leb n max_integer) e
   where
-    go : (b : Bool) → ◌≡◌ {A = Option Value} (elim b [ true ↦ some (signed negative n) | false ↦ none ]) (some v) → child_at v k ≡ none
-    go true e = ap (λ z. child_at z k) (sym (some-injective (signed negative n) v e)) ∙ signed_child negative n k
+    go : (b : Bool) → ◌≡◌ {A = Option Value} (elim b [ true ↦ Some (signed negative n) | false ↦ None ]) (Some v) → child_at v k ≡ None
+    go true e = ap (λ z. child_at z k) (sym (same_Some (signed negative n) v e)) ∙ signed_child negative n k
     go false e = none_some e
 number_child negative n no_frac (exp b h g x d i) v k e = none_some e
 number_child negative n (frac b h ds) ex v k e = none_some e
 
 children_located : (d : JValue) (k : ℕ) → Located (children k) d (child_site d k)
 unfolding child_site spell_value value_meaning spell_ws
-children_located jtrue k = λ v e. ap (λ z. child_at z k) (some-injective v _ (sym e))
-children_located jfalse k = λ v e. ap (λ z. child_at z k) (some-injective v _ (sym e))
-children_located jnull k = λ v e. ap (λ z. child_at z k) (some-injective v _ (sym e))
+children_located jtrue k = λ v e. ap (λ z. child_at z k) (same_Some v _ (sym e))
+children_located jfalse k = λ v e. ap (λ z. child_at z k) (same_Some v _ (sym e))
+children_located jnull k = λ v e. ap (λ z. child_at z k) (same_Some v _ (sym e))
 children_located (jnumber negative i fr ex) k = λ v e. number_child negative (int_number i) fr ex v k e
-children_located (jstring cs) k = λ v e. let (x, i, j) = map_some (λ s. scalar (string s)) (chars_meaning cs none) e in ap (λ z. child_at z k) (sym j)
-children_located (jempty_array w) k = λ v e. ap (λ z. child_at z k) (some-injective v _ (sym e))
+children_located (jstring cs) k = λ v e. let (x, i, j) = map_some (λ s. scalar (string s)) (chars_meaning cs None) e in ap (λ z. child_at z k) (sym j)
+children_located (jempty_array w) k = λ v e. ap (λ z. child_at z k) (same_Some v _ (sym e))
 children_located (jarray w es) k = behind_located (elements k) (children k) (no_ws, es) (jarray w es) (0x5B ∷ spell_ws w []) (λ x. jarray (w ⊕ x.0) x.1) (element_at es k) wraps (elements_located es k)
   where
     wraps : Wraps (elements k) (children k) (no_ws, es) (jarray w es) (0x5B ∷ spell_ws w []) (λ x. jarray (w ⊕ x.0) x.1)
@@ -253,7 +254,7 @@ children_located (jarray w es) k = behind_located (elements k) (children k) (no_
       child_of = λ v e. let (vs, i, j) = map_some array (elements_meaning es) e in (vs, i, ap (λ z. child_at z k) (sym j));
       changed = λ x f h. ap (map array) h ∙ twice_mapped (elements_meaning es) (λ vs. map_item vs k f) array array (λ v. map_child v k f) (λ vs. refl);
     }
-children_located (jempty_object w) k = λ v e. ap (λ z. child_at z k) (some-injective v _ (sym e))
+children_located (jempty_object w) k = λ v e. ap (λ z. child_at z k) (same_Some v _ (sym e))
 children_located (jobject w ms) k = behind_located (members k []) (children k) ms (jobject w ms) (0x7B ∷ spell_ws w []) (jobject w) (member_at ms k) wraps (members_located ms k [])
   where
     wraps : Wraps (members k []) (children k) ms (jobject w ms) (0x7B ∷ spell_ws w []) (jobject w)
@@ -271,12 +272,12 @@ parts q = record { spelled = λ d y. spell_ws d.0 (spell_value d.1 (spell_ws d.2
 
 -- A value in a value that stands in d.
 inside_located : (d : JValue) (k : ℕ) (q : Positions) (s : Site) → Stands (children k) d s → (o : Option Site) → Located (parts q) (no_ws, s.value, no_ws) o
-    → Located (parts (k ∷ q)) (no_ws, d, no_ws) (o >>= λ t. some (inside s t))
+    → Located (parts (k ∷ q)) (no_ws, d, no_ws) (o >>= λ t. Some (inside s t))
 unfolding spell_ws
-inside_located d k q s h none g = λ v e.
+inside_located d k q s h None g = λ v e.
     let (u, i, j) = h.part v e in
     ap (λ o. o >>= part_at q) i ∙ g u j
-inside_located d k q s h (some t) g = record {
+inside_located d k q s h (Some t) g = record {
   splits = λ y. h.splits y ∙ ap (λ x. s.before ++ x) (g.splits (s.after ++ y)) ∙ sym (append_assoc s.before t.before _) ∙ ap (λ x. (s.before ++ t.before) ++ spell_value t.value x) (sym (append_assoc t.after s.after y));
   part = λ v e.
       let (u, i, j) = h.part v e in
@@ -303,17 +304,17 @@ parts_located [] d = record {
 parts_located (k ∷ q) d = go (child_site d k) (children_located d k) (parts_located q)
   where
     go : (o : Option Site) → Located (children k) d o → ((x : JValue) → Located (parts q) (no_ws, x, no_ws) (value_site q x))
-        → Located (parts (k ∷ q)) (no_ws, d, no_ws) (o >>= λ s. value_site q s.value >>= λ t. some (inside s t))
-    go none h g = λ v e. ap (λ o. o >>= part_at q) (h v e)
-    go (some s) h g = inside_located d k q s h (value_site q s.value) (g s.value)
+        → Located (parts (k ∷ q)) (no_ws, d, no_ws) (o >>= λ s. value_site q s.value >>= λ t. Some (inside s t))
+    go None h g = λ v e. ap (λ o. o >>= part_at q) (h v e)
+    go (Some s) h g = inside_located d k q s h (value_site q s.value) (g s.value)
 
 -- ---- the bytes around a site
 abbrev Splits : (Bytes → Bytes) → Site → Type 0
 Splits spelled s = (y : Bytes) → spelled y ≡ s.before ++ spell_value s.value (s.after ++ y)
 
 located_splits : {D A : Type 0} (c : Around D A) (d : D) (o : Option Site) → Located c d o → All (Splits (c.spelled d)) o
-located_splits c d none h = tt
-located_splits c d (some s) h = h.splits
+located_splits c d None h = tt
+located_splits c d (Some s) h = h.splits
 
 pub elements_split : (es : JElements) (k : ℕ) → All (λ s. (y : Bytes) → spell_elements es y ≡ s.before ++ spell_value s.value (s.after ++ y)) (element_at es k)
 unfolding spell_ws
@@ -327,22 +328,22 @@ unfolding spell_ws
 parts_split q d = located_splits (parts q) (no_ws, d, no_ws) (value_site q d) (parts_located q d)
 
 -- A child has the meaning of the part there.
-pub children_part : (d : JValue) (k : ℕ) → All (λ s. (v : Value) → value_meaning d ≡ some v → (u : Value) × (child_at v k ≡ some u) × (value_meaning s.value ≡ some u)) (child_site d k)
+pub children_part : (d : JValue) (k : ℕ) → All (λ s. (v : Value) → value_meaning d ≡ Some v → (u : Value) × (child_at v k ≡ Some u) × (value_meaning s.value ≡ Some u)) (child_site d k)
 children_part d k = go (child_site d k) (children_located d k)
   where
-    go : (o : Option Site) → Located (children k) d o → All (λ s. (v : Value) → value_meaning d ≡ some v → (u : Value) × (child_at v k ≡ some u) × (value_meaning s.value ≡ some u)) o
-    go none h = tt
-    go (some s) h = h.part
+    go : (o : Option Site) → Located (children k) d o → All (λ s. (v : Value) → value_meaning d ≡ Some v → (u : Value) × (child_at v k ≡ Some u) × (value_meaning s.value ≡ Some u)) o
+    go None h = tt
+    go (Some s) h = h.part
 
 -- ---- texts
 pub record InText (d : JText) (q : Positions) (s : Site) : Type 0 where
   pub splits : spell d ≡ s.before ++ (spell_value s.value [] ++ s.after)
-  pub part : (v : Value) → meaning d ≡ some v → (u : Value) × (part_at q v ≡ some u) × (value_meaning s.value ≡ some u)
-  pub put : (e : JText) → (n : JText) × (spell n ≡ s.before ++ (spell e ++ s.after)) × ((v u : Value) → meaning d ≡ some v → meaning e ≡ some u → meaning n ≡ some (replace_part q u v))
+  pub part : (v : Value) → meaning d ≡ Some v → (u : Value) × (part_at q v ≡ Some u) × (value_meaning s.value ≡ Some u)
+  pub put : (e : JText) → (n : JText) × (spell n ≡ s.before ++ (spell e ++ s.after)) × ((v u : Value) → meaning d ≡ Some v → meaning e ≡ Some u → meaning n ≡ Some (replace_part q u v))
 
 abbrev TextLocated : JText → Positions → Option Site → Type 0
-TextLocated d q none = (v : Value) → meaning d ≡ some v → part_at q v ≡ none
-TextLocated d q (some s) = InText d q s
+TextLocated d q None = (v : Value) → meaning d ≡ Some v → part_at q v ≡ None
+TextLocated d q (Some s) = InText d q s
 
 text_located : (q : Positions) (d : JText) → TextLocated d q (site q d)
 unfolding site spell meaning spell_ws map
@@ -352,7 +353,7 @@ text_located q (jtext w d u) = go (value_site q d) (parts_located q d)
     cut a b = ws_append w [] (a ++ b) ∙ sym (append_assoc (spell_ws w []) a b)
 
     put : (s : Site) → Stands (parts q) (no_ws, d, no_ws) s → (e : JText)
-        → (n : JText) × (spell n ≡ (spell_ws w [] ++ s.before) ++ (spell e ++ (s.after ++ spell_ws u []))) × ((v x : Value) → value_meaning d ≡ some v → meaning e ≡ some x → meaning n ≡ some (replace_part q x v))
+        → (n : JText) × (spell n ≡ (spell_ws w [] ++ s.before) ++ (spell e ++ (s.after ++ spell_ws u []))) × ((v x : Value) → value_meaning d ≡ Some v → meaning e ≡ Some x → meaning n ≡ Some (replace_part q x v))
     put s h (jtext a e c) =
         let n = h.put a e c in (
           jtext (w ⊕ n.tree.0) n.tree.1 (n.tree.2 ⊕ u),
@@ -368,22 +369,22 @@ text_located q (jtext w d u) = go (value_site q d) (parts_located q d)
               n.changes (λ old. x) (hx ∙ ap (map (λ old. x)) (sym j)) ∙ ap (map (replace_part q x)) hv,
         )
 
-    go : (o : Option Site) → Located (parts q) (no_ws, d, no_ws) o → TextLocated (jtext w d u) q (o >>= λ s. some (inside (record { before = spell_ws w []; value = d; after = spell_ws u [] }) s))
-    go none h = h
-    go (some s) h = record {
+    go : (o : Option Site) → Located (parts q) (no_ws, d, no_ws) o → TextLocated (jtext w d u) q (o >>= λ s. Some (inside (record { before = spell_ws w []; value = d; after = spell_ws u [] }) s))
+    go None h = h
+    go (Some s) h = record {
       splits = ap (spell_ws w) (h.splits (spell_ws u [])) ∙ cut s.before (spell_value s.value (s.after ++ spell_ws u [])) ∙ ap (λ x. (spell_ws w [] ++ s.before) ++ x) (value_append s.value [] (s.after ++ spell_ws u []));
       part = h.part;
       put = put s h;
     }
 
 -- The value of a derivation at some positions: its bytes, its meaning, and what comes of another text in its place.
-pub in_text : (d : JText) (q : Positions) (s : Site) → site q d ≡ some s → InText d q s
+pub in_text : (d : JText) (q : Positions) (s : Site) → site q d ≡ Some s → InText d q s
 in_text d q s e = subst (TextLocated d q) e (text_located q d)
 
 -- Where the meaning of a derivation has a part, the derivation has a site.
-pub site_there : (d : JText) (q : Positions) (v u : Value) → meaning d ≡ some v → part_at q v ≡ some u → (s : Site) × (site q d ≡ some s)
+pub site_there : (d : JText) (q : Positions) (v u : Value) → meaning d ≡ Some v → part_at q v ≡ Some u → (s : Site) × (site q d ≡ Some s)
 site_there d q v u e h = go (site q d) (text_located q d)
   where
-    go : (o : Option Site) → TextLocated d q o → (s : Site) × (o ≡ some s)
-    go none k = none_some {a = u} (sym (k v e) ∙ h)
-    go (some s) k = (s, refl)
+    go : (o : Option Site) → TextLocated d q o → (s : Site) × (o ≡ Some s)
+    go None k = none_some {a = u} (sym (k v e) ∙ h)
+    go (Some s) k = (s, refl)

@@ -3,7 +3,8 @@
 use Rattle.std.specs.Prelude.{◌≡◌, refl, false, ℕ, zero, suc, ◌*◌, ◌≤◌, T, length}
 use Rattle.std.proofs.Common.{sym, subst, subst₂, ap, ◌∙◌, arith}
 use mathlib.Core.List.{List, [], ◌∷◌, ◌++◌, tail-eq_of_cons-eq, head-eq_of_cons-eq, append_cancel_right, append_assoc}
-use Rattle.std.proofs.Math.Option.{Option, none, some, some-injective}
+use Rattle.std.specs.Prelude.{Option, None, Some}
+use Rattle.std.proofs.lemmas.Option.{same_Some}
 use Rattle.model.specs.Bytes.{Bytes}
 use Rattle.model.proofs.Laws.Option.{none_some, All, all_bind}
 use Rattle.model.specs.Limits.{max_values, max_nesting}
@@ -93,30 +94,30 @@ rest s y = spell_value s.value (s.after ++ y)
 
 -- Two sites from which on the bytes are the same.
 abbrev Once : Bytes → Bytes → Option Site → Option Site → Type 0
-Once y z none none = Unit {0}
-Once y z none (some t) = Unit {0}
-Once y z (some s) none = Unit {0}
-Once y z (some s) (some t) = rest s y ≡ rest t z
+Once y z None None = Unit {0}
+Once y z None (Some t) = Unit {0}
+Once y z (Some s) None = Unit {0}
+Once y z (Some s) (Some t) = rest s y ≡ rest t z
 
-once_none : (y z : Bytes) (o : Option Site) → Once y z o none
-once_none y z none = tt
-once_none y z (some s) = tt
+once_none : (y z : Bytes) (o : Option Site) → Once y z o None
+once_none y z None = tt
+once_none y z (Some s) = tt
 
-none_once : (y z : Bytes) (o : Option Site) → Once y z none o
-none_once y z none = tt
-none_once y z (some s) = tt
+none_once : (y z : Bytes) (o : Option Site) → Once y z None o
+none_once y z None = tt
+none_once y z (Some s) = tt
 
-behind_once : (y z a b : Bytes) (o p : Option Site) → Once y z o p → Once y z (o >>= λ s. some (behind a s)) (p >>= λ s. some (behind b s))
-behind_once y z a b none none h = tt
-behind_once y z a b none (some t) h = tt
-behind_once y z a b (some s) none h = tt
-behind_once y z a b (some s) (some t) h = h
+behind_once : (y z a b : Bytes) (o p : Option Site) → Once y z o p → Once y z (o >>= λ s. Some (behind a s)) (p >>= λ s. Some (behind b s))
+behind_once y z a b None None h = tt
+behind_once y z a b None (Some t) h = tt
+behind_once y z a b (Some s) None h = tt
+behind_once y z a b (Some s) (Some t) h = h
 
 first_once : (y z m n : Bytes) (o p : Option Site) → All (λ s. m ≡ rest s y) o → All (λ t. n ≡ rest t z) p → m ≡ n → Once y z o p
-first_once y z m n none none h k e = tt
-first_once y z m n none (some t) h k e = tt
-first_once y z m n (some s) none h k e = tt
-first_once y z m n (some s) (some t) h k e = sym h ∙ e ∙ k
+first_once y z m n None None h k e = tt
+first_once y z m n None (Some t) h k e = tt
+first_once y z m n (Some s) None h k e = tt
+first_once y z m n (Some s) (Some t) h k e = sym h ∙ e ∙ k
 
 -- The first element is what the elements begin with.
 first_element : (es : JElements) (y : Bytes) → All (λ s. spell_elements es y ≡ rest s y) (element_at es 0)
@@ -133,9 +134,9 @@ record First (ms : JMembers) (y : Bytes) : Type 0 where
   more : Bytes
   is : spell_members ms y ≡ spell_name name before_colon after_colon (spell_value content more)
   there : All (λ s. spell_value content more ≡ rest s y) (member_at ms 0)
-  means : (seen : List Bytes) (us : Members) → members_meaning ms seen ≡ some us → (m : Bytes) × (chars_meaning name none ≡ some m)
+  means : (seen : List Bytes) (us : Members) → members_meaning ms seen ≡ Some us → (m : Bytes) × (chars_meaning name None ≡ Some m)
 
-name_means : (seen : List Bytes) (o : Option Bytes) (p : Option Value) (r : Option Members) {us : Members} → member_of (fresh seen o) p r ≡ some us → (m : Bytes) × (o ≡ some m)
+name_means : (seen : List Bytes) (o : Option Bytes) (p : Option Value) (r : Option Members) {us : Members} → member_of (fresh seen o) p r ≡ Some us → (m : Bytes) × (o ≡ Some m)
 name_means seen o p r e = let (m, v, rs, i, j, k, l) = member_some (fresh seen o) p r e in (m, (fresh_some seen o m i).0)
 
 first_member : (ms : JMembers) (y : Bytes) → First ms y
@@ -148,7 +149,7 @@ first_member (last_member n w u v x) y = record {
   more = spell_ws x (0x7D ∷ y);
   is = refl;
   there = ap (spell_value v) (ws_append x (0x7D ∷ []) y);
-  means = λ seen us e. name_means seen (chars_meaning n none) (value_meaning v) (some no_members) e;
+  means = λ seen us e. name_means seen (chars_meaning n None) (value_meaning v) (Some no_members) e;
 }
 first_member (jmember n w u v x z ms) y = record {
   name = n;
@@ -158,7 +159,7 @@ first_member (jmember n w u v x z ms) y = record {
   more = spell_ws x (0x2C ∷ spell_ws z (spell_members ms y));
   is = refl;
   there = ap (spell_value v) (ap (λ t. spell_ws x (0x2C ∷ t)) (ap (spell_ws z) (members_append ms [] y) ∙ ws_append z (spell_members ms []) y) ∙ ws_append x (0x2C ∷ spell_ws z (spell_members ms [])) y);
-  means = λ seen us e. name_means seen (chars_meaning n none) (value_meaning v) (members_meaning ms (seen_with seen (chars_meaning n none))) e;
+  means = λ seen us e. name_means seen (chars_meaning n None) (value_meaning v) (members_meaning ms (seen_with seen (chars_meaning n None))) e;
 }
 
 -- ---- what follows a site ends a number
@@ -201,7 +202,7 @@ parts_end (k ∷ q) d =
 
 -- ---- one value
 -- A parser ends where the value ends.
-parsed : (d : JValue) (v : Value) (y : Bytes) (f : ℕ) → value_meaning d ≡ some v → Fits v → Stops y → 2 * length (spell_value d y) ≤ f → (a : Value) × (q : ℕ) × (value (suc f) 0 0 (spell_value d y) 0 ≡ ok a y q)
+parsed : (d : JValue) (v : Value) (y : Bytes) (f : ℕ) → value_meaning d ≡ Some v → Fits v → Stops y → 2 * length (spell_value d y) ≤ f → (a : Value) × (q : ℕ) × (value (suc f) 0 0 (spell_value d y) 0 ≡ ok a y q)
 unfolding faults meaning spell_ws
 parsed d v y f e h s l = go (value (suc f) 0 0 (spell_value d y) 0) (value_meets d f 0 0 (length (spell_value d y)) y 0 l s (omega arith))
   where
@@ -217,7 +218,7 @@ rest_of (ok a t q) = t
 rest_of (bad k p) = []
 
 -- So two derivations of the same bytes leave the same bytes.
-once : (d e : JValue) (v w : Value) (y z : Bytes) → value_meaning d ≡ some v → value_meaning e ≡ some w → Fits v → Fits w → Stops y → Stops z → spell_value d y ≡ spell_value e z → y ≡ z
+once : (d e : JValue) (v w : Value) (y z : Bytes) → value_meaning d ≡ Some v → value_meaning e ≡ Some w → Fits v → Fits w → Stops y → Stops z → spell_value d y ≡ spell_value e z → y ≡ z
 once d e v w y z i j h k s t x =
     let long = ap length x in
     let f = 2 * length (spell_value d y) in
@@ -226,7 +227,7 @@ once d e v w y z i j h k s t x =
     ap rest_of (sym r ∙ ap (λ m. value (suc f) 0 0 m 0) x ∙ r')
 
 -- ---- elements and members
-elements_once : (k : ℕ) (es fs : JElements) (y z : Bytes) (vs us : Values) → elements_meaning es ≡ some vs → elements_meaning fs ≡ some us → FitItems vs → FitItems us
+elements_once : (k : ℕ) (es fs : JElements) (y z : Bytes) (vs us : Values) → elements_meaning es ≡ Some vs → elements_meaning fs ≡ Some us → FitItems vs → FitItems us
     → spell_elements es y ≡ spell_elements fs z → Once y z (element_at es k) (element_at fs k)
 unfolding element_at elements_meaning spell_elements items_count items_nesting
 elements_once zero es fs y z vs us i j h k e = first_once y z _ _ (element_at es 0) (element_at fs 0) (first_element es y) (first_element fs z) e
@@ -242,21 +243,21 @@ elements_once (suc n) (element d w u es) (element d' w' u' fs) y z vs us i j h k
     behind_once y z (spell_value d (spell_ws w (0x2C ∷ spell_ws u []))) (spell_value d' (spell_ws w' (0x2C ∷ spell_ws u' []))) (element_at es n) (element_at fs n)
     (elements_once n es fs y z xs xs' i₂ j₂ (omega (arith, f.0), omega (arith, f.1)) (omega (arith, f'.0), omega (arith, f'.1)) r)
 
-name_once : (n n' : Chars) (w u w' u' : Ws) (y z m m' : Bytes) → chars_meaning n none ≡ some m → chars_meaning n' none ≡ some m' → NotWhite y → NotWhite z → spell_name n w u y ≡ spell_name n' w' u' z → y ≡ z
+name_once : (n n' : Chars) (w u w' u' : Ws) (y z m m' : Bytes) → chars_meaning n None ≡ Some m → chars_meaning n' None ≡ Some m' → NotWhite y → NotWhite z → spell_name n w u y ≡ spell_name n' w' u' z → y ≡ z
 unfolding value_meaning spell_value map value_count nesting
 name_once n n' w u w' u' y z m m' i j h k e =
     parted 0x3A w u w' u' y z colon_not_white h k
     (once (jstring n) (jstring n') (scalar (string m)) (scalar (string m')) _ _ (ap (map (λ s. scalar (string s))) i) (ap (map (λ s. scalar (string s))) j) (omega (arith, two_values), omega arith) (omega (arith, two_values), omega arith) (stops_colon w _) (stops_colon w' _) e)
 
-member_means : (seen : List Bytes) (o : Option Bytes) (p : Option Value) (r : Option Members) (us : Members) → member_of (fresh seen o) p r ≡ some us → FitMembers us
-    → (m : Bytes) × (o ≡ some m) × (v : Value) × (p ≡ some v) × Fits v × (rs : Members) × (r ≡ some rs) × FitMembers rs
+member_means : (seen : List Bytes) (o : Option Bytes) (p : Option Value) (r : Option Members) (us : Members) → member_of (fresh seen o) p r ≡ Some us → FitMembers us
+    → (m : Bytes) × (o ≡ Some m) × (v : Value) × (p ≡ Some v) × Fits v × (rs : Members) × (r ≡ Some rs) × FitMembers rs
 unfolding members_count members_nesting
 member_means seen o p r us e h =
     let (m, v, rs, i, j, k, l) = member_some (fresh seen o) p r e in
     let f : FitMembers (member m v rs) = subst FitMembers (sym l) h in
     (m, (fresh_some seen o m i).0, v, j, (omega (arith, f.0), omega (arith, f.1)), rs, k, (omega (arith, f.0), omega (arith, f.1)))
 
-members_once : (k : ℕ) (ms ns : JMembers) (y z : Bytes) (seen seen' : List Bytes) (vs us : Members) → members_meaning ms seen ≡ some vs → members_meaning ns seen' ≡ some us → FitMembers vs → FitMembers us
+members_once : (k : ℕ) (ms ns : JMembers) (y z : Bytes) (seen seen' : List Bytes) (vs us : Members) → members_meaning ms seen ≡ Some vs → members_meaning ns seen' ≡ Some us → FitMembers vs → FitMembers us
     → spell_members ms y ≡ spell_members ns z → Once y z (member_at ms k) (member_at ns k)
 unfolding member_at members_meaning spell_members
 members_once zero ms ns y z seen seen' vs us i j h k e =
@@ -269,15 +270,15 @@ members_once zero ms ns y z seen seen' vs us i j h k e =
 members_once (suc k) (last_member n w u d x) ns y z seen seen' vs us i j h l e = none_once y z (member_at ns (suc k))
 members_once (suc k) (jmember n w u d x o ms) (last_member n' w' u' d' x') y z seen seen' vs us i j h l e = once_none y z (member_at (jmember n w u d x o ms) (suc k))
 members_once (suc k) (jmember n w u d x o ms) (jmember n' w' u' d' x' o' ns) y z seen seen' vs us i j h l e =
-    let (m, i₁, v, i₂, i₃, rs, i₄, i₅) = member_means seen (chars_meaning n none) (value_meaning d) (members_meaning ms (seen_with seen (chars_meaning n none))) vs i h in
-    let (m', j₁, v', j₂, j₃, rs', j₄, j₅) = member_means seen' (chars_meaning n' none) (value_meaning d') (members_meaning ns (seen_with seen' (chars_meaning n' none))) us j l in
+    let (m, i₁, v, i₂, i₃, rs, i₄, i₅) = member_means seen (chars_meaning n None) (value_meaning d) (members_meaning ms (seen_with seen (chars_meaning n None))) vs i h in
+    let (m', j₁, v', j₂, j₃, rs', j₄, j₅) = member_means seen' (chars_meaning n' None) (value_meaning d') (members_meaning ns (seen_with seen' (chars_meaning n' None))) us j l in
     let a = name_once n n' w u w' u' _ _ m m' i₁ j₁ (value_not_white d _) (value_not_white d' _) e in
     let c = once d d' v v' _ _ i₂ j₂ i₃ j₃ (stops_comma x _) (stops_comma x' _) a in
     let r = parted 0x2C x o x' o' _ _ comma_not_white (members_not_white ms y) (members_not_white ns z) c in
     behind_once y z (spell_name n w u (spell_value d (spell_ws x (0x2C ∷ spell_ws o [])))) (spell_name n' w' u' (spell_value d' (spell_ws x' (0x2C ∷ spell_ws o' [])))) (member_at ms k) (member_at ns k)
-    (members_once k ms ns y z (seen_with seen (chars_meaning n none)) (seen_with seen' (chars_meaning n' none)) rs rs' i₄ j₄ i₅ j₅ r)
+    (members_once k ms ns y z (seen_with seen (chars_meaning n None)) (seen_with seen' (chars_meaning n' None)) rs rs' i₄ j₄ i₅ j₅ r)
 
-children_once : (k : ℕ) (d e : JValue) (y z : Bytes) (v u : Value) → value_meaning d ≡ some v → value_meaning e ≡ some u → Fits v → Fits u → spell_value d y ≡ spell_value e z → Once y z (child_site d k) (child_site e k)
+children_once : (k : ℕ) (d e : JValue) (y z : Bytes) (v u : Value) → value_meaning d ≡ Some v → value_meaning e ≡ Some u → Fits v → Fits u → spell_value d y ≡ spell_value e z → Once y z (child_site d k) (child_site e k)
 unfolding child_site value_meaning spell_value value_count nesting
 children_once k jtrue e y z v u i j h l x = none_once y z (child_site e k)
 children_once k jfalse e y z v u i j h l x = none_once y z (child_site e k)
@@ -317,25 +318,25 @@ children_once k (jobject w ms) (jobject w' ns) y z v u i j h l x =
     behind_once y z (0x7B ∷ spell_ws w []) (0x7B ∷ spell_ws w' []) (member_at ms k) (member_at ns k)
     (members_once k ms ns y z [] [] vs us i₁ j₁ (omega (arith, f.0), omega (arith, f.1)) (omega (arith, g.0), omega (arith, g.1)) (ws_once w w' _ _ (members_not_white ms y) (members_not_white ns z) (tail-eq_of_cons-eq x)))
 
-parts_once : (q : Positions) (d e : JValue) (y z : Bytes) (v u : Value) → value_meaning d ≡ some v → value_meaning e ≡ some u → Fits v → Fits u → spell_value d y ≡ spell_value e z → Once y z (value_site q d) (value_site q e)
+parts_once : (q : Positions) (d e : JValue) (y z : Bytes) (v u : Value) → value_meaning d ≡ Some v → value_meaning e ≡ Some u → Fits v → Fits u → spell_value d y ≡ spell_value e z → Once y z (value_site q d) (value_site q e)
 unfolding value_site
 parts_once [] d e y z v u i j h l x = x
 parts_once (k ∷ q) d e y z v u i j h l x = go (child_site d k) (child_site e k) (children_part d k) (children_part e k) (children_once k d e y z v u i j h l x) (parts_once q)
   where
-    inside_once : (s t : Site) (o p : Option Site) → Once (s.after ++ y) (t.after ++ z) o p → Once y z (o >>= λ a. some (inside s a)) (p >>= λ a. some (inside t a))
-    inside_once s t none none h = tt
-    inside_once s t none (some b) h = tt
-    inside_once s t (some a) none h = tt
-    inside_once s t (some a) (some b) h = ap (spell_value a.value) (append_assoc a.after s.after y) ∙ h ∙ ap (spell_value b.value) (sym (append_assoc b.after t.after z))
+    inside_once : (s t : Site) (o p : Option Site) → Once (s.after ++ y) (t.after ++ z) o p → Once y z (o >>= λ a. Some (inside s a)) (p >>= λ a. Some (inside t a))
+    inside_once s t None None h = tt
+    inside_once s t None (Some b) h = tt
+    inside_once s t (Some a) None h = tt
+    inside_once s t (Some a) (Some b) h = ap (spell_value a.value) (append_assoc a.after s.after y) ∙ h ∙ ap (spell_value b.value) (sym (append_assoc b.after t.after z))
 
-    go : (o p : Option Site) → All (λ s. (v : Value) → value_meaning d ≡ some v → (u : Value) × (child_at v k ≡ some u) × (value_meaning s.value ≡ some u)) o
-        → All (λ s. (v : Value) → value_meaning e ≡ some v → (u : Value) × (child_at v k ≡ some u) × (value_meaning s.value ≡ some u)) p
+    go : (o p : Option Site) → All (λ s. (v : Value) → value_meaning d ≡ Some v → (u : Value) × (child_at v k ≡ Some u) × (value_meaning s.value ≡ Some u)) o
+        → All (λ s. (v : Value) → value_meaning e ≡ Some v → (u : Value) × (child_at v k ≡ Some u) × (value_meaning s.value ≡ Some u)) p
         → Once y z o p
-        → ((d e : JValue) (y z : Bytes) (v u : Value) → value_meaning d ≡ some v → value_meaning e ≡ some u → Fits v → Fits u → spell_value d y ≡ spell_value e z → Once y z (value_site q d) (value_site q e))
-        → Once y z (o >>= λ s. value_site q s.value >>= λ a. some (inside s a)) (p >>= λ s. value_site q s.value >>= λ a. some (inside s a))
-    go none p a b c f = none_once y z (p >>= λ s. value_site q s.value >>= λ a. some (inside s a))
-    go (some s) none a b c f = once_none y z (value_site q s.value >>= λ a. some (inside s a))
-    go (some s) (some t) a b c f =
+        → ((d e : JValue) (y z : Bytes) (v u : Value) → value_meaning d ≡ Some v → value_meaning e ≡ Some u → Fits v → Fits u → spell_value d y ≡ spell_value e z → Once y z (value_site q d) (value_site q e))
+        → Once y z (o >>= λ s. value_site q s.value >>= λ a. Some (inside s a)) (p >>= λ s. value_site q s.value >>= λ a. Some (inside s a))
+    go None p a b c f = none_once y z (p >>= λ s. value_site q s.value >>= λ a. Some (inside s a))
+    go (Some s) None a b c f = once_none y z (value_site q s.value >>= λ a. Some (inside s a))
+    go (Some s) (Some t) a b c f =
         let (v', i₁, i₂) = a v i in
         let (u', j₁, j₂) = b u j in
         let m = child_within v k v' i₁ in
@@ -345,7 +346,7 @@ parts_once (k ∷ q) d e y z v u i j h l x = go (child_site d k) (child_site e k
 
 -- ---- texts
 -- From the value on, two derivations of a text have the same bytes.
-sites_rest : (q : Positions) (d e : JText) (v u : Value) → meaning d ≡ some v → meaning e ≡ some u → Fits v → Fits u → spell d ≡ spell e → (s t : Site) → site q d ≡ some s → site q e ≡ some t
+sites_rest : (q : Positions) (d e : JText) (v u : Value) → meaning d ≡ Some v → meaning e ≡ Some u → Fits v → Fits u → spell d ≡ spell e → (s t : Site) → site q d ≡ Some s → site q e ≡ Some t
     → (spell_value s.value s.after ≡ spell_value t.value t.after) × Stops s.after × Stops t.after
 unfolding site spell meaning
 sites_rest q (jtext w d x) (jtext w' e x') v u i j h l is s t a b =
@@ -353,13 +354,13 @@ sites_rest q (jtext w d x) (jtext w' e x') v u i j h l is s t a b =
     go (value_site q d) (value_site q e) (parts_end q d) (parts_end q e) (parts_once q d e (spell_ws x []) (spell_ws x' []) v u i j h l values) a b
   where
     go : (o p : Option Site) → All Ends o → All Ends p → Once (spell_ws x []) (spell_ws x' []) o p
-        → (o >>= λ s. some (inside (record { before = spell_ws w []; value = d; after = spell_ws x [] }) s)) ≡ some s
-        → (p >>= λ s. some (inside (record { before = spell_ws w' []; value = e; after = spell_ws x' [] }) s)) ≡ some t
+        → (o >>= λ s. Some (inside (record { before = spell_ws w []; value = d; after = spell_ws x [] }) s)) ≡ Some s
+        → (p >>= λ s. Some (inside (record { before = spell_ws w' []; value = e; after = spell_ws x' [] }) s)) ≡ Some t
         → (spell_value s.value s.after ≡ spell_value t.value t.after) × Stops s.after × Stops t.after
-    go none p f g c a b = none_some a
-    go (some m) none f g c a b = none_some b
-    go (some m) (some n) f g c a b =
-        subst₂ (λ s t. (spell_value s.value s.after ≡ spell_value t.value t.after) × Stops s.after × Stops t.after) (some-injective _ s a) (some-injective _ t b)
+    go None p f g c a b = none_some a
+    go (Some m) None f g c a b = none_some b
+    go (Some m) (Some n) f g c a b =
+        subst₂ (λ s t. (spell_value s.value s.after ≡ spell_value t.value t.after) × Stops s.after × Stops t.after) (same_Some _ s a) (same_Some _ t b)
         (c, f (spell_ws x []) (stops_ws x [] tt), g (spell_ws x' []) (stops_ws x' [] tt))
 
 -- So the same bytes stand before it, in it and after it.

@@ -2,7 +2,8 @@
 -- the one place is another value at the others.
 use Rattle.std.specs.Prelude.{◌≡◌, refl, [], ◌∷◌, ◌++◌, ℕ, zero, suc}
 use Rattle.std.proofs.Common.{sym, ap, ◌∙◌}
-use Rattle.std.proofs.Math.Option.{some, some-injective}
+use Rattle.std.specs.Prelude.{Some}
+use Rattle.std.proofs.lemmas.Option.{same_Some}
 use Rattle.model.proofs.Laws.Option.{none_some, bind_some}
 use Rattle.model.specs.Option.{◌>>=◌, or_else}
 use Rattle.model.specs.Path.{item_at}
@@ -12,7 +13,7 @@ use Rattle.model.specs.Value.{Value, scalar, instant, array, object, Values, no_
 use Rattle.syntax.specs.Locate.{Positions, part_at, map_part, replace_part, to_operand, positions_of}
 
 -- One step down: what follows the positions of an operand goes on from it.
-operand_part : (v : Value) (k : ℕ) (w : Value) (q : Positions) → item_at (operand_values_in v) k ≡ some w → part_at (to_operand v k ++ q) v ≡ part_at q w
+operand_part : (v : Value) (k : ℕ) (w : Value) (q : Positions) → item_at (operand_values_in v) k ≡ Some w → part_at (to_operand v k ++ q) v ≡ part_at q w
 operand_part (scalar x) k w q e = none_some e
 operand_part (instant t) k w q e = none_some e
 operand_part (array vs) k w q e = ap (λ o. o >>= part_at q) e
@@ -22,7 +23,7 @@ operand_part (object (member n (instant t) ms)) k w q e = none_some e
 operand_part (object (member n (array vs) ms)) k w q e = ap (λ o. o >>= part_at q) e
 operand_part (object (member n (object us) ms)) k w q e = none_some e
 
-operand_mapped : (v : Value) (k : ℕ) (w : Value) (q : Positions) (f : Value → Value) → item_at (operand_values_in v) k ≡ some w → map_part (to_operand v k ++ q) f v ≡ map_operand_value v k (map_part q f)
+operand_mapped : (v : Value) (k : ℕ) (w : Value) (q : Positions) (f : Value → Value) → item_at (operand_values_in v) k ≡ Some w → map_part (to_operand v k ++ q) f v ≡ map_operand_value v k (map_part q f)
 operand_mapped (scalar x) k w q f e = none_some e
 operand_mapped (instant t) k w q f e = none_some e
 operand_mapped (array vs) k w q f e = refl
@@ -33,14 +34,14 @@ operand_mapped (object (member n (array vs) ms)) k w q f e = refl
 operand_mapped (object (member n (object us) ms)) k w q f e = none_some e
 
 -- A change of the operand depends on what it gives of that operand alone.
-item_alike : (vs : Values) (k : ℕ) (w : Value) (f g : Value → Value) → item_at vs k ≡ some w → f w ≡ g w → map_item vs k f ≡ map_item vs k g
+item_alike : (vs : Values) (k : ℕ) (w : Value) (f g : Value → Value) → item_at vs k ≡ Some w → f w ≡ g w → map_item vs k f ≡ map_item vs k g
 item_alike no_items k w f g e h = none_some e
 item_alike (item v vs) zero w f g e h =
-    let i = some-injective v w e in
+    let i = same_Some v w e in
     ap (λ x. item x vs) (ap f i ∙ h ∙ ap g (sym i))
 item_alike (item v vs) (suc k) w f g e h = ap (item v) (item_alike vs k w f g e h)
 
-operand_alike : (v : Value) (k : ℕ) (w : Value) (f g : Value → Value) → item_at (operand_values_in v) k ≡ some w → f w ≡ g w → map_operand_value v k f ≡ map_operand_value v k g
+operand_alike : (v : Value) (k : ℕ) (w : Value) (f g : Value → Value) → item_at (operand_values_in v) k ≡ Some w → f w ≡ g w → map_operand_value v k f ≡ map_operand_value v k g
 operand_alike (scalar x) k w f g e h = refl
 operand_alike (instant t) k w f g e h = refl
 operand_alike (array vs) k w f g e h = ap array (item_alike vs k w f g e h)
@@ -51,16 +52,16 @@ operand_alike (object (member n (array vs) ms)) k w f g e h = ap (λ us. object 
 operand_alike (object (member n (object us) ms)) k w f g e h = refl
 
 -- ---- at any depth
-positions_step : (v : Value) (k : ℕ) (w : Value) (q : Place) → item_at (operand_values_in v) k ≡ some w → positions_of (k ∷ q) v ≡ to_operand v k ++ positions_of q w
-positions_step v k w q e = ap (λ o. to_operand v k ++ or_else (o >>= λ w. some (positions_of q w)) []) e
+positions_step : (v : Value) (k : ℕ) (w : Value) (q : Place) → item_at (operand_values_in v) k ≡ Some w → positions_of (k ∷ q) v ≡ to_operand v k ++ positions_of q w
+positions_step v k w q e = ap (λ o. to_operand v k ++ or_else (o >>= λ w. Some (positions_of q w)) []) e
 
-pub part_is_subvalue : (q : Place) (v u : Value) → subvalue q v ≡ some u → part_at (positions_of q v) v ≡ some u
+pub part_is_subvalue : (q : Place) (v u : Value) → subvalue q v ≡ Some u → part_at (positions_of q v) v ≡ Some u
 part_is_subvalue [] v u h = h
 part_is_subvalue (k ∷ q) v u h =
     bind_some (item_at (operand_values_in v) k) (subvalue q) h λ w i j.
     ap (λ p. part_at p v) (positions_step v k w q i) ∙ operand_part v k w (positions_of q w) i ∙ part_is_subvalue q w u j
 
-pub replace_part_lem : (q : Place) (v u new : Value) → subvalue q v ≡ some u → replace_part (positions_of q v) new v ≡ replace_value q new v
+pub replace_part_lem : (q : Place) (v u new : Value) → subvalue q v ≡ Some u → replace_part (positions_of q v) new v ≡ replace_value q new v
 replace_part_lem [] v u new h = refl
 replace_part_lem (k ∷ q) v u new h =
     bind_some (item_at (operand_values_in v) k) (subvalue q) h λ w i j.

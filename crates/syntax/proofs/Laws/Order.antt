@@ -6,13 +6,14 @@ use Rattle.std.proofs.Common.{sym, ap, ◌∙◌, inl, inr, drop-drop}
 use Rattle.std.proofs.Math.Bool.{true, false}
 use mathlib.Core.List.Memᴰ
 use mathlib.Core.List.{List, [], ◌∷◌, ◌++◌, append-nil, Memᴰ}
-use Rattle.std.proofs.Math.Option.{Option, none, some}
+use Rattle.std.specs.Prelude.{Option, None, Some}
 use Prim.Native.Nat.{ℕ, suc, ◌+◌, ◌*◌, ◌≤◌}
 use native.Mathlib.Omega.{arith}
 use Rattle.std.proofs.Math.ListN.{length}
 use Rattle.model.specs.Bytes.{Bytes}
 use Rattle.model.specs.Limits.{max_values, max_nesting, max_integer}
-use Rattle.model.specs.Refusal.{ReadFault, not_json, repeated_name, lone_surrogate, bad_number, too_large}
+use Rattle.model.specs.declared.refusal.ReadFault.{ReadFault}
+use Rattle.model.specs.declared.refusal.ReadFault.TheVariants.{NotJson, RepeatedName, LoneSurrogate, BadNumber, TooLarge}
 use Rattle.syntax.specs.declared.Unit.{Unit}
 use Rattle.syntax.specs.declared.Unit.TheVariants.{Plain, High, Low}
 use Rattle.syntax.specs.Faults.{Fault, fault, faults_digits, faults_int, faults_frac, faults_exp, faults_number, alone_high, alone_low, faults_chars, repeated_at, faults_name, many_at, deep_at, count_value, faults_value, faults_elements, faults_members, faults, place_of, spell_unit, Pair, reach}
@@ -29,11 +30,11 @@ abbrev pub reach_of : Fault → ℕ
 reach_of (fault k p) = reach k p
 
 place_reach : (x : Fault) → place_of x ≤ reach_of x
-place_reach (fault not_json p) = omega arith
-place_reach (fault repeated_name p) = omega arith
-place_reach (fault lone_surrogate p) = omega arith
-place_reach (fault bad_number p) = omega arith
-place_reach (fault too_large p) = omega arith
+place_reach (fault NotJson p) = omega arith
+place_reach (fault RepeatedName p) = omega arith
+place_reach (fault LoneSurrogate p) = omega arith
+place_reach (fault BadNumber p) = omega arith
+place_reach (fault TooLarge p) = omega arith
 
 abbrev pub All : (Fault → Type 0) → List Fault → Type 0
 All P [] = Prim.Unit {0}
@@ -51,11 +52,11 @@ module _ (s : Bytes) where
 
   -- Of a lone surrogate: so much of the text shows it, and every fault after it reaches as far.
   abbrev pub Shown : ReadFault → ℕ → List Fault → ℕ → Type 0
-  Shown not_json p fs hi = Prim.Unit {0}
-  Shown repeated_name p fs hi = Prim.Unit {0}
-  Shown lone_surrogate p fs hi = (n : ℕ) × (p + 6 ≤ n) × (n ≤ hi) × Shows p n × All (λ x. n ≤ reach_of x) fs
-  Shown bad_number p fs hi = Prim.Unit {0}
-  Shown too_large p fs hi = Prim.Unit {0}
+  Shown NotJson p fs hi = Prim.Unit {0}
+  Shown RepeatedName p fs hi = Prim.Unit {0}
+  Shown LoneSurrogate p fs hi = (n : ℕ) × (p + 6 ≤ n) × (n ≤ hi) × Shows p n × All (λ x. n ≤ reach_of x) fs
+  Shown BadNumber p fs hi = Prim.Unit {0}
+  Shown TooLarge p fs hi = Prim.Unit {0}
 
   -- Faults in order between two places.
   abbrev pub Ordered : ℕ → List Fault → ℕ → Type 0
@@ -71,11 +72,11 @@ module _ (s : Bytes) where
   ordered_reach n lo hi (fault k p ∷ fs) l h = (omega (arith, h.0, place_reach (fault k p)), ordered_reach n p hi fs (omega (arith, h.0)) h.2)
 
   seen_join : (k : ReadFault) (p mid hi : ℕ) (fs gs : List Fault) → Shown k p fs mid → Ordered mid gs hi → Shown k p (fs ++ gs) hi
-  seen_join not_json p mid hi fs gs h k = tt
-  seen_join repeated_name p mid hi fs gs h k = tt
-  seen_join lone_surrogate p mid hi fs gs h k = (h.0, h.1, omega (arith, h.2, ordered_le mid hi gs k), h.3, all_append (λ x. h.0 ≤ reach_of x) fs gs h.4 (ordered_reach h.0 mid hi gs h.2 k))
-  seen_join bad_number p mid hi fs gs h k = tt
-  seen_join too_large p mid hi fs gs h k = tt
+  seen_join NotJson p mid hi fs gs h k = tt
+  seen_join RepeatedName p mid hi fs gs h k = tt
+  seen_join LoneSurrogate p mid hi fs gs h k = (h.0, h.1, omega (arith, h.2, ordered_le mid hi gs k), h.3, all_append (λ x. h.0 ≤ reach_of x) fs gs h.4 (ordered_reach h.0 mid hi gs h.2 k))
+  seen_join BadNumber p mid hi fs gs h k = tt
+  seen_join TooLarge p mid hi fs gs h k = tt
 
   low : (a lo hi : ℕ) (fs : List Fault) → a ≤ lo → Ordered lo fs hi → Ordered a fs hi
   low a lo hi [] l h = omega arith
@@ -97,7 +98,7 @@ module _ (s : Bytes) where
     where
       go :
           (c : Bool) → Ordered (suc at) (faults_digits (n * 10 + digit_value b) ds (suc at)) (suc at + length (spell_digits ds []))
-          → Ordered at (elim c [ true ↦ faults_digits (n * 10 + digit_value b) ds (suc at) | false ↦ fault bad_number at ∷ [] ]) (at + suc (length (spell_digits ds [])))
+          → Ordered at (elim c [ true ↦ faults_digits (n * 10 + digit_value b) ds (suc at) | false ↦ fault BadNumber at ∷ [] ]) (at + suc (length (spell_digits ds [])))
       go true k = low at (suc at) _ (faults_digits (n * 10 + digit_value b) ds (suc at)) (omega arith) (up_to (suc at) (suc at + length (spell_digits ds [])) _ (faults_digits (n * 10 + digit_value b) ds (suc at)) (omega arith) k)
       go false k = (omega arith, tt, omega arith)
 
@@ -141,12 +142,12 @@ module _ (s : Bytes) where
 
   -- A high surrogate that stands just before.
   abbrev Before : Option ℕ → ℕ → Type 0
-  Before none at = Prim.Unit {0}
-  Before (some p) at = p + 6 ≡ at
+  Before None at = Prim.Unit {0}
+  Before (Some p) at = p + 6 ≡ at
 
   abbrev since : Option ℕ → ℕ → ℕ
-  since none at = at
-  since (some p) at = p
+  since None at = at
+  since (Some p) at = p
 
   -- In order from there on, and each reaches past `at`.
   abbrev CharsOrdered : Option ℕ → ℕ → List Fault → ℕ → Type 0
@@ -157,13 +158,13 @@ module _ (s : Bytes) where
       (before : Option ℕ) (at n lo hi : ℕ) (gs : List Fault) → Before before at → ((p : ℕ) → p + 6 ≡ at → Shows p n) → at ≤ n → n ≤ hi → at ≤ lo → Ordered lo gs hi
       → All (λ x. n ≤ reach_of x) gs → CharsOrdered before at (alone_high before ++ gs) hi
   unfolding alone_high
-  alone_ordered none at n lo hi gs b f l m k h g = (low at lo hi gs k h, ordered_reach at lo hi gs k h)
-  alone_ordered (some p) at n lo hi gs b f l m k h g = ((omega arith, (n, omega (arith, b, l), m, f p b, g), low p lo hi gs (omega (arith, b, k)) h), (omega (arith, b), ordered_reach at lo hi gs k h))
+  alone_ordered None at n lo hi gs b f l m k h g = (low at lo hi gs k h, ordered_reach at lo hi gs k h)
+  alone_ordered (Some p) at n lo hi gs b f l m k h g = ((omega arith, (n, omega (arith, b, l), m, f p b, g), low p lo hi gs (omega (arith, b, k)) h), (omega (arith, b), ordered_reach at lo hi gs k h))
 
   paired_ordered : (before : Option ℕ) (at hi : ℕ) (gs : List Fault) → Before before at → Shows at (at + 6) → at + 6 ≤ hi → Ordered (at + 6) gs hi → CharsOrdered before at (alone_low before at ++ gs) hi
   unfolding alone_low
-  paired_ordered none at hi gs b f m h = ((omega arith, (at + 6, omega arith, m, f, ordered_reach (at + 6) (at + 6) hi gs (omega arith) h), low at (at + 6) hi gs (omega arith) h), (omega arith, ordered_reach at (at + 6) hi gs (omega arith) h))
-  paired_ordered (some p) at hi gs b f m h = (low p (at + 6) hi gs (omega (arith, b)) h, ordered_reach at (at + 6) hi gs (omega arith) h)
+  paired_ordered None at hi gs b f m h = ((omega arith, (at + 6, omega arith, m, f, ordered_reach (at + 6) (at + 6) hi gs (omega arith) h), low at (at + 6) hi gs (omega arith) h), (omega arith, ordered_reach at (at + 6) hi gs (omega arith) h))
+  paired_ordered (Some p) at hi gs b f m h = (low p (at + 6) hi gs (omega (arith, b)) h, ordered_reach at (at + 6) hi gs (omega arith) h)
 
   -- A next character that is spelled by F.
   shows_next : (at p n : ℕ) {F : Bytes → Bytes} → Keeps F → (z : Bytes) → At s (F z) at → ((v : Bytes) → (r : Parsed Piece) × (char (F v) 0 ≡ r) × NoLow r) → n ≡ at + length (F []) → p + 6 ≡ at → Shows p n
@@ -183,16 +184,16 @@ module _ (s : Bytes) where
 
       go : (x : Unit) → unit_of (hex_number 0 hs) ≡ x → CharsOrdered before at (faults_chars (code_unit_lem hs cs) before at) hi
       go Plain e =
-          let g = k none tt in
+          let g = k None tt in
           subst (λ l. CharsOrdered before at l hi) (sym (unit_faults_plain hs cs before at e))
-          (alone_ordered before at (at + 6) (at + 6) hi (faults_chars cs none (at + 6)) b (shown (plain_low (hex_number 0 hs) e)) (omega arith) (omega arith) (omega arith) g.0 g.1)
+          (alone_ordered before at (at + 6) (at + 6) hi (faults_chars cs None (at + 6)) b (shown (plain_low (hex_number 0 hs) e)) (omega arith) (omega arith) (omega arith) g.0 g.1)
       go High e =
-          let g = k (some at) refl in
+          let g = k (Some at) refl in
           subst (λ l. CharsOrdered before at l hi) (sym (unit_faults_high hs cs before at e))
-          (alone_ordered before at (at + 6) at hi (faults_chars cs (some at) (at + 6)) b (shown (high_low (hex_number 0 hs) e)) (omega arith) (omega arith) (omega arith) g.0 g.1)
+          (alone_ordered before at (at + 6) at hi (faults_chars cs (Some at) (at + 6)) b (shown (high_low (hex_number 0 hs) e)) (omega arith) (omega arith) (omega arith) g.0 g.1)
       go Low e =
-          let g = k none tt in
-          subst (λ l. CharsOrdered before at l hi) (sym (unit_faults_low hs cs before at e)) (paired_ordered before at hi (faults_chars cs none (at + 6)) b (shows_low at hs _ h e) (omega arith) g.0)
+          let g = k None tt in
+          subst (λ l. CharsOrdered before at l hi) (sym (unit_faults_low hs cs before at e)) (paired_ordered before at hi (faults_chars cs None (at + 6)) b (shows_low at hs _ h e) (omega arith) g.0)
 
   chars_ordered : (cs : Chars) (y : Bytes) (before : Option ℕ) (at : ℕ) → At s (spell_chars cs (0x22 ∷ y)) at → Before before at → CharsOrdered before at (faults_chars cs before at) (suc (at + length (spell_chars cs [])))
   unfolding faults_chars spell_chars
@@ -204,47 +205,47 @@ module _ (s : Bytes) where
       let z = spell_chars cs (0x22 ∷ y) in
       let e = tails_length ts [] in
       let m : suc (at + length (c ∷ spell_tails ts (spell_chars cs []))) ≡ suc (at + suc n + length (spell_chars cs [])) = omega (arith, tails_length ts (spell_chars cs [])) in
-      let g = chars_ordered cs y none (at + suc n) (subst (At s z) (omega (arith, e)) (at_after f h)) tt in
-      subst (CharsOrdered before at (alone_high before ++ faults_chars cs none (at + suc n))) (sym m)
-      (alone_ordered before at (at + suc n) (at + suc n) _ (faults_chars cs none (at + suc n)) b (λ p k. shows_next at p (at + suc n) f z h (λ v. (_, char_unescaped c n lo hi i ts v 0, tt)) (omega (arith, e)) k) (omega arith) (omega arith) (omega arith) g.0 g.1)
+      let g = chars_ordered cs y None (at + suc n) (subst (At s z) (omega (arith, e)) (at_after f h)) tt in
+      subst (CharsOrdered before at (alone_high before ++ faults_chars cs None (at + suc n))) (sym m)
+      (alone_ordered before at (at + suc n) (at + suc n) _ (faults_chars cs None (at + suc n)) b (λ p k. shows_next at p (at + suc n) f z h (λ v. (_, char_unescaped c n lo hi i ts v 0, tt)) (omega (arith, e)) k) (omega arith) (omega arith) (omega arith) g.0 g.1)
   chars_ordered (escaped c d i cs) y before at h b =
       let f = byte 0x5C & byte c in
       let z = spell_chars cs (0x22 ∷ y) in
       let m : suc (at + length (0x5C ∷ c ∷ spell_chars cs [])) ≡ suc (at + 2 + length (spell_chars cs [])) = omega arith in
-      let g = chars_ordered cs y none (at + 2) (at_after f h) tt in
-      subst (CharsOrdered before at (alone_high before ++ faults_chars cs none (at + 2))) (sym m)
-      (alone_ordered before at (at + 2) (at + 2) _ (faults_chars cs none (at + 2)) b (λ p k. shows_next at p (at + 2) f z h (λ v. (_, char_escaped c d i v 0, tt)) refl k) (omega arith) (omega arith) (omega arith) g.0 g.1)
+      let g = chars_ordered cs y None (at + 2) (at_after f h) tt in
+      subst (CharsOrdered before at (alone_high before ++ faults_chars cs None (at + 2))) (sym m)
+      (alone_ordered before at (at + 2) (at + 2) _ (faults_chars cs None (at + 2)) b (λ p k. shows_next at p (at + 2) f z h (λ v. (_, char_escaped c d i v 0, tt)) refl k) (omega arith) (omega arith) (omega arith) g.0 g.1)
   chars_ordered (code_unit_lem hs cs) y before at h b =
       unit_ordered hs cs y before at h b (λ w k. chars_ordered cs y w (at + 6) (subst (At s (spell_chars cs (0x22 ∷ y))) (omega (arith, hexes_length hs [])) (at_after (byte 0x5C & byte 0x75 & hexes_keeps hs) h)) k)
 
   -- ---- names
   repeated_ordered : (seen : List Bytes) (o : Option Bytes) (at : ℕ) → Ordered at (repeated_at seen o at) (suc at)
   unfolding repeated_at
-  repeated_ordered seen none at = omega arith
-  repeated_ordered seen (some n) at = go (among n seen)
+  repeated_ordered seen None at = omega arith
+  repeated_ordered seen (Some n) at = go (among n seen)
     where
-      go : (b : Bool) → Ordered at (elim b [ true ↦ fault repeated_name at ∷ [] | false ↦ [] ]) (suc at)
+      go : (b : Bool) → Ordered at (elim b [ true ↦ fault RepeatedName at ∷ [] | false ↦ [] ]) (suc at)
       go true = (omega arith, tt, omega arith)
       go false = omega arith
 
   -- A name with a lone surrogate is not compared with others.
   name_ordered : (seen : List Bytes) (n : Chars) (y : Bytes) (at : ℕ) → At s (spell_chars n (0x22 ∷ y)) at → Ordered at (faults_name seen n at) (suc (at + length (spell_chars n [])))
   unfolding faults_name repeated_at
-  name_ordered seen n y at h = go (chars_meaning n none) refl
+  name_ordered seen n y at h = go (chars_meaning n None) refl
     where
       c : ℕ
       c = at + length (spell_chars n [])
 
-      go : (o : Option Bytes) → chars_meaning n none ≡ o → Ordered at (faults_chars n none at ++ repeated_at seen o c) (suc c)
-      go none e = subst (λ l. Ordered at l (suc c)) (sym (append-nil (faults_chars n none at))) (chars_ordered n y none at h tt).0
-      go (some m) e = subst (λ l. Ordered at (l ++ repeated_at seen (some m) c) (suc c)) (sym (chars_faultless n clear m at e)) (low at c (suc c) (repeated_at seen (some m) c) (omega arith) (repeated_ordered seen (some m) c))
+      go : (o : Option Bytes) → chars_meaning n None ≡ o → Ordered at (faults_chars n None at ++ repeated_at seen o c) (suc c)
+      go None e = subst (λ l. Ordered at l (suc c)) (sym (append-nil (faults_chars n None at))) (chars_ordered n y None at h tt).0
+      go (Some m) e = subst (λ l. Ordered at (l ++ repeated_at seen (Some m) c) (suc c)) (sym (chars_faultless n clear m at e)) (low at c (suc c) (repeated_at seen (Some m) c) (omega arith) (repeated_ordered seen (Some m) c))
 
   -- ---- values
   many_ordered : (row at : ℕ) → Ordered at (many_at row at) at
   unfolding many_at
   many_ordered row at = go (leb max_values row)
     where
-      go : (b : Bool) → Ordered at (elim b [ true ↦ fault too_large at ∷ [] | false ↦ [] ]) at
+      go : (b : Bool) → Ordered at (elim b [ true ↦ fault TooLarge at ∷ [] | false ↦ [] ]) at
       go true = (omega arith, tt, omega arith)
       go false = omega arith
 
@@ -252,7 +253,7 @@ module _ (s : Bytes) where
   unfolding deep_at
   deep_ordered depth at = go (leb max_nesting depth)
     where
-      go : (b : Bool) → Ordered at (elim b [ true ↦ fault too_large at ∷ [] | false ↦ [] ]) at
+      go : (b : Bool) → Ordered at (elim b [ true ↦ fault TooLarge at ∷ [] | false ↦ [] ]) at
       go true = (omega arith, tt, omega arith)
       go false = omega arith
 
@@ -276,7 +277,7 @@ module _ (s : Bytes) where
         began row at _ (faults_number i fr ex p) (low at p _ (faults_number i fr ex p) (omega arith) (up_to p _ _ (faults_number i fr ex p) (omega (arith, e)) (number_ordered i fr ex p)))
     value_ordered (jstring cs) y row depth at h =
         let e = spelled_length (chars_keeps cs) (0x22 ∷ []) in
-        began row at _ (faults_chars cs none (suc at)) (low at (suc at) _ (faults_chars cs none (suc at)) (omega arith) (up_to (suc at) _ _ (faults_chars cs none (suc at)) (omega (arith, e)) (chars_ordered cs y none (suc at) (onward 0x22 h) tt).0))
+        began row at _ (faults_chars cs None (suc at)) (low at (suc at) _ (faults_chars cs None (suc at)) (omega arith) (up_to (suc at) _ _ (faults_chars cs None (suc at)) (omega (arith, e)) (chars_ordered cs y None (suc at) (onward 0x22 h) tt).0))
     value_ordered (jempty_array w) y row depth at h = began row at _ (deep_at depth at) (up_to at at _ (deep_at depth at) (omega arith) (deep_ordered depth at))
     value_ordered (jarray w es) y row depth at h =
         let p = at + length (0x5B ∷ spell_ws w []) in
@@ -317,12 +318,12 @@ module _ (s : Bytes) where
         let q = at + length (0x22 ∷ spell_chars n (0x22 ∷ spell_ws w (0x3A ∷ spell_ws u (spell_value d (spell_ws x (0x2C ∷ spell_ws z [])))))) in
         let fs = faults_name seen n (suc at) in
         let gs = faults_value d row depth p in
-        let hs = faults_members ms (row + count_value d) depth (seen_with seen (chars_meaning n none)) q in
+        let hs = faults_members ms (row + count_value d) depth (seen_with seen (chars_meaning n None)) q in
         join at p _ fs (gs ++ hs)
         (low at (suc at) p fs (omega arith) (up_to (suc at) _ p fs (omega (arith, spelled_length (chars_keeps n) (0x22 ∷ spell_ws w (0x3A ∷ spell_ws u [])))) (name_ordered seen n (spell_ws w (0x3A ∷ spell_ws u (spell_value d (spell_ws x (0x2C ∷ spell_ws z (spell_members ms y)))))) (suc at) (onward 0x22 h))))
         (join p q _ gs hs
         (up_to p _ q gs (omega (arith, spelled_length f (spell_value d (spell_ws x (0x2C ∷ spell_ws z []))), spelled_length (value_keeps d) (spell_ws x (0x2C ∷ spell_ws z [])))) (value_ordered d (spell_ws x (0x2C ∷ spell_ws z (spell_members ms y))) row depth p (at_after f h)))
-        (up_to q _ _ hs (omega (arith, spelled_length g (spell_members ms []))) (members_ordered ms y (row + count_value d) depth (seen_with seen (chars_meaning n none)) q (at_after g h))))
+        (up_to q _ _ hs (omega (arith, spelled_length g (spell_members ms []))) (members_ordered ms y (row + count_value d) depth (seen_with seen (chars_meaning n None)) q (at_after g h))))
 
 -- ---- texts
 pub text_ordered : (d : JText) → Ordered (spell d) 0 (faults d) (length (spell d))

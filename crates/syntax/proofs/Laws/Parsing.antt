@@ -1,12 +1,14 @@
 -- Parsing: a law for each way in which parsers are made of parsers. What holds of every outcome of the parts holds of the whole;
 -- what relates the outcomes of two parsers part by part relates the two; and which part it is where the decision is known.
+use Rattle.std.specs.Prelude.{Option, None, Some}
 use Rattle.std.specs.Prelude.{◌≡◌, Bool, ℕ}
 use Rattle.std.proofs.Math.Path.{refl, subst}
 use Rattle.std.proofs.Common.{sym}
 use Rattle.std.proofs.Math.Bool.{true, false}
 use mathlib.Core.List.{[], ◌∷◌}
 use Rattle.model.specs.Bytes.{Bytes}
-use Rattle.model.specs.Refusal.{ReadFault, not_json, lone_surrogate, too_large}
+use Rattle.model.specs.declared.refusal.ReadFault.{ReadFault}
+use Rattle.model.specs.declared.refusal.ReadFault.TheVariants.{NotJson, LoneSurrogate, TooLarge}
 use Rattle.syntax.specs.declared.Start.{Start}
 use Rattle.syntax.specs.declared.Start.TheVariants.{NoValue, TooMuch, Literal, Minus, Digit, Quote, Bracket, Brace}
 use Rattle.syntax.specs.declared.Word.{Word}
@@ -16,8 +18,6 @@ use Rattle.syntax.specs.declared.Lead.{Lead}
 use Rattle.syntax.specs.declared.Lead.TheVariants.{Closing, Backslash, Never, Char}
 use Rattle.syntax.specs.declared.Escape.{Escape}
 use Rattle.syntax.specs.declared.Escape.TheVariants.{Letter, Unicode, NoEscape}
-use Rattle.syntax.specs.declared.Hex.{Hex}
-use Rattle.syntax.specs.declared.Hex.TheVariants.{HexDigit, NoHex}
 use Rattle.syntax.specs.declared.Unit.{Unit}
 use Rattle.syntax.specs.declared.Unit.TheVariants.{Plain, High, Low}
 use Rattle.syntax.specs.Read.{Parsed, ok, bad, Parser, then, fail, if, peek, on_hex, on_escape, on_lead, Piece, closing, bytes, unit, on_piece, on_unit, or_lone, on_start, on_separator}
@@ -31,7 +31,7 @@ module _ {A B : Type 0} (Q : Parsed B → Type 0) where
 
   pub lone_law :
       (P : Parsed A → Type 0) (r : Parsed A) (p : ℕ) (g : A → Parser B) → P r → ((a : A) (t : Bytes) (q : ℕ) → P (ok a t q) → Q (g a t q))
-      → ((k : ReadFault) (q : ℕ) → P (bad k q) → Q (bad lone_surrogate p)) → Q (or_lone r p g)
+      → ((k : ReadFault) (q : ℕ) → P (bad k q) → Q (bad LoneSurrogate p)) → Q (or_lone r p g)
   unfolding or_lone
   lone_law P (ok a t q) p g h f e = f a t q h
   lone_law P (bad k q) p g h f e = e k q h
@@ -42,14 +42,14 @@ module _ {B : Type 0} (Q : Parsed B → Type 0) (t : Bytes) (at : ℕ) where
   if_law true m n f g = f refl
   if_law false m n f g = g refl
 
-  pub peek_law : (g : ℕ → Parser B) → (t ≡ [] → Q (bad not_json at)) → ((b : ℕ) (u : Bytes) → t ≡ b ∷ u → Q (g b (b ∷ u) at)) → Q (then (peek t at) g)
+  pub peek_law : (g : ℕ → Parser B) → (t ≡ [] → Q (bad NotJson at)) → ((b : ℕ) (u : Bytes) → t ≡ b ∷ u → Q (g b (b ∷ u) at)) → Q (then (peek t at) g)
   unfolding then peek
-  peek_law g = elim t as (λ x. (x ≡ [] → Q (bad not_json at)) → ((b : ℕ) (u : Bytes) → x ≡ b ∷ u → Q (g b (b ∷ u) at)) → Q (then (peek x at) g)) [ [] ↦ λ e f. e refl | b ∷ u ↦ λ e f. f b u refl ]
+  peek_law g = elim t as (λ x. (x ≡ [] → Q (bad NotJson at)) → ((b : ℕ) (u : Bytes) → x ≡ b ∷ u → Q (g b (b ∷ u) at)) → Q (then (peek x at) g)) [ [] ↦ λ e f. e refl | b ∷ u ↦ λ e f. f b u refl ]
 
-  pub hex_law : (x : Hex) (f : ℕ → Parser B) (m : Parser B) → ((d : ℕ) → x ≡ HexDigit d → Q (f d t at)) → Q (m t at) → Q (on_hex x f m t at)
+  pub hex_law : (x : Option ℕ) (f : ℕ → Parser B) (m : Parser B) → ((d : ℕ) → x ≡ Some d → Q (f d t at)) → Q (m t at) → Q (on_hex x f m t at)
   unfolding on_hex
-  hex_law (HexDigit d) f m h k = h d refl
-  hex_law NoHex f m h k = k
+  hex_law (Some d) f m h k = h d refl
+  hex_law None f m h k = k
 
   pub escape_law : (x : Escape) (f : ℕ → Parser B) (m n : Parser B) → ((d : ℕ) → x ≡ Letter d → Q (f d t at)) → (x ≡ Unicode → Q (m t at)) → Q (n t at) → Q (on_escape x f m n t at)
   unfolding on_escape
@@ -78,14 +78,14 @@ module _ {B : Type 0} (Q : Parsed B → Type 0) (t : Bytes) (at : ℕ) where
   unit_law High m h l h₁ h₂ h₃ = h₂ refl
   unit_law Low m h l h₁ h₂ h₃ = h₃ refl
 
-  pub separator_law : (x : Separator) (m c : Parser B) → (x ≡ Comma → Q (m t at)) → (x ≡ Close → Q (c t at)) → Q (bad not_json at) → Q (on_separator x m c t at)
+  pub separator_law : (x : Separator) (m c : Parser B) → (x ≡ Comma → Q (m t at)) → (x ≡ Close → Q (c t at)) → Q (bad NotJson at) → Q (on_separator x m c t at)
   unfolding on_separator fail
   separator_law Comma m c h₁ h₂ h₃ = h₁ refl
   separator_law Close m c h₁ h₂ h₃ = h₂ refl
   separator_law Neither m c h₁ h₂ h₃ = h₃
 
   pub start_law :
-      (x : Start) (w : Word → Parser B) (s n x₁ x₂ x₃ : Parser B) → Q (bad not_json at) → (x ≡ TooMuch → Q (bad too_large at)) → ((k : Word) → x ≡ Literal k → Q (w k t at))
+      (x : Start) (w : Word → Parser B) (s n x₁ x₂ x₃ : Parser B) → Q (bad NotJson at) → (x ≡ TooMuch → Q (bad TooLarge at)) → ((k : Word) → x ≡ Literal k → Q (w k t at))
       → (x ≡ Minus → Q (s t at)) → (x ≡ Digit → Q (n t at)) → (x ≡ Quote → Q (x₁ t at)) → (x ≡ Bracket → Q (x₂ t at)) → (x ≡ Brace → Q (x₃ t at))
       → Q (on_start x w s n x₁ x₂ x₃ t at)
   unfolding on_start fail
@@ -105,10 +105,10 @@ module _ {A : Type 0} (G : Parsed A → Parsed A → Type 0) (t u : Bytes) (at :
   both_if true m n m' n' h k = h
   both_if false m n m' n' h k = k
 
-  pub both_hex : (x : Hex) (f f' : ℕ → Parser A) (m m' : Parser A) → ((d : ℕ) → G (f d t at) (f' d u at)) → G (m t at) (m' u at) → G (on_hex x f m t at) (on_hex x f' m' u at)
+  pub both_hex : (x : Option ℕ) (f f' : ℕ → Parser A) (m m' : Parser A) → ((d : ℕ) → G (f d t at) (f' d u at)) → G (m t at) (m' u at) → G (on_hex x f m t at) (on_hex x f' m' u at)
   unfolding on_hex
-  both_hex (HexDigit d) f f' m m' h k = h d
-  both_hex NoHex f f' m m' h k = k
+  both_hex (Some d) f f' m m' h k = h d
+  both_hex None f f' m m' h k = k
 
   pub both_escape : (x : Escape) (f f' : ℕ → Parser A) (m n m' n' : Parser A) → ((d : ℕ) → G (f d t at) (f' d u at)) → G (m t at) (m' u at) → G (n t at) (n' u at) → G (on_escape x f m n t at) (on_escape x f' m' n' u at)
   unfolding on_escape
@@ -125,7 +125,7 @@ module _ {A : Type 0} (G : Parsed A → Parsed A → Type 0) (t u : Bytes) (at :
   both_lead Never c b n c' b' n' r r' h₁ h₂ h₃ h₄ = h₃
   both_lead (Char k lo hi) c b n c' b' n' r r' h₁ h₂ h₃ h₄ = h₄ k lo hi
 
-  pub both_separator : (x : Separator) (m c m' c' : Parser A) → G (m t at) (m' u at) → G (c t at) (c' u at) → G (bad not_json at) (bad not_json at) → G (on_separator x m c t at) (on_separator x m' c' u at)
+  pub both_separator : (x : Separator) (m c m' c' : Parser A) → G (m t at) (m' u at) → G (c t at) (c' u at) → G (bad NotJson at) (bad NotJson at) → G (on_separator x m c t at) (on_separator x m' c' u at)
   unfolding on_separator fail
   both_separator Comma m c m' c' h₁ h₂ h₃ = h₁
   both_separator Close m c m' c' h₁ h₂ h₃ = h₂
@@ -136,8 +136,8 @@ module _ {A : Type 0} (G : Parsed A → Parsed A → Type 0) (t u : Bytes) (at :
       → ((k : Word) → G (w k t at) (w' k u at)) → G (s t at) (s' u at) → G (n t at) (n' u at) → G (x₁ t at) (y₁ u at) → G (x₂ t at) (y₂ u at) → G (x₃ t at) (y₃ u at)
       → G (on_start x w s n x₁ x₂ x₃ t at) (on_start x w' s' n' y₁ y₂ y₃ u at)
   unfolding on_start fail
-  both_start NoValue w w' s n x₁ x₂ x₃ s' n' y₁ y₂ y₃ h₁ h₂ h₃ h₄ h₅ h₆ h₇ = h₁ not_json
-  both_start TooMuch w w' s n x₁ x₂ x₃ s' n' y₁ y₂ y₃ h₁ h₂ h₃ h₄ h₅ h₆ h₇ = h₁ too_large
+  both_start NoValue w w' s n x₁ x₂ x₃ s' n' y₁ y₂ y₃ h₁ h₂ h₃ h₄ h₅ h₆ h₇ = h₁ NotJson
+  both_start TooMuch w w' s n x₁ x₂ x₃ s' n' y₁ y₂ y₃ h₁ h₂ h₃ h₄ h₅ h₆ h₇ = h₁ TooLarge
   both_start (Literal k) w w' s n x₁ x₂ x₃ s' n' y₁ y₂ y₃ h₁ h₂ h₃ h₄ h₅ h₆ h₇ = h₂ k
   both_start Minus w w' s n x₁ x₂ x₃ s' n' y₁ y₂ y₃ h₁ h₂ h₃ h₄ h₅ h₆ h₇ = h₃
   both_start Digit w w' s n x₁ x₂ x₃ s' n' y₁ y₂ y₃ h₁ h₂ h₃ h₄ h₅ h₆ h₇ = h₄

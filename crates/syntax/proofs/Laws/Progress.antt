@@ -7,7 +7,8 @@ use Prim.Native.Nat.{ℕ, zero, suc, ◌+◌, ◌*◌, ◌≤◌, ◌<◌}
 use Rattle.std.proofs.Common.{arith}
 use Rattle.model.specs.Bytes.{Bytes}
 use Rattle.model.specs.Limits.{max_integer}
-use Rattle.model.specs.Refusal.{ReadFault, not_json, lone_surrogate, bad_number, repeated_name}
+use Rattle.model.specs.declared.refusal.ReadFault.{ReadFault}
+use Rattle.model.specs.declared.refusal.ReadFault.TheVariants.{NotJson, LoneSurrogate, BadNumber, RepeatedName}
 use Rattle.model.specs.Size.{value_count}
 use Rattle.model.specs.Value.{Value, scalar, array, object, string, no_items, item, no_members, member}
 use Rattle.syntax.specs.declared.Word.{Word}
@@ -128,7 +129,7 @@ module _ (s : Bytes) where
 
   pub stays_end : (negative : Bool) (n b : ℕ) → Stays (end_number negative n b)
   unfolding end_number
-  stays_end negative n b = stays_if (is_part b) _ _ (stays_fail Value bad_number) (stays_give _)
+  stays_end negative n b = stays_if (is_part b) _ _ (stays_fail Value BadNumber) (stays_give _)
 
   pub stays_digits : (negative : Bool) (n : ℕ) → Stays (digits negative n)
   unfolding digits fail
@@ -148,7 +149,7 @@ module _ (s : Bytes) where
 
   pub moves_int : (negative : Bool) → Moves (int negative)
   unfolding int
-  moves_int negative = moves_peek _ (λ b. moves_if (is_digit b) _ _ (moves_eat _ (stays_first negative (digit_value b))) (moves_fail Value not_json))
+  moves_int negative = moves_peek _ (λ b. moves_if (is_digit b) _ _ (moves_eat _ (stays_first negative (digit_value b))) (moves_fail Value NotJson))
 
   -- ---- strings
   pub stays_tails : (n lo hi : ℕ) → Stays (tails n lo hi)
@@ -202,7 +203,7 @@ module _ (s : Bytes) where
   -- After a high surrogate whose backslash stands at p₀: it is alone, or the parser goes on from here.
   abbrev pub HighWithin : ℕ → ℕ → Parsed Bytes → Type 0
   HighWithin p₀ at (ok bs u q) = At s u q × (at ≤ q)
-  HighWithin p₀ at (bad k p) = ((k ≡ lone_surrogate) × (p ≡ p₀)) ⊎ ((at ≤ p) × (p ≤ length s))
+  HighWithin p₀ at (bad k p) = ((k ≡ LoneSurrogate) × (p ≡ p₀)) ⊎ ((at ≤ p) × (p ≤ length s))
 
   abbrev pub CharsWithin : Pending → ℕ → Parsed Bytes → Type 0
   CharsWithin clear at r = Within at at r
@@ -255,9 +256,9 @@ module _ (s : Bytes) where
   unfolding name
   moves_name f seen =
       moves_peek _ (λ b. moves_if (eqb b 0x22) _ _
-      (moves_then (quoted f) _ (moves_quoted f) (λ n. stays_if (among n seen) _ _ (stays_fail Bytes repeated_name)
-      (stays_eat _ (stays_white _ (stays_then peek _ stays_peek (λ c. stays_if (eqb c 0x3A) _ _ (stays_eat _ (stays_give n)) (stays_fail Bytes not_json)))))))
-      (moves_fail Bytes not_json))
+      (moves_then (quoted f) _ (moves_quoted f) (λ n. stays_if (among n seen) _ _ (stays_fail Bytes RepeatedName)
+      (stays_eat _ (stays_white _ (stays_then peek _ stays_peek (λ c. stays_if (eqb c 0x3A) _ _ (stays_eat _ (stays_give n)) (stays_fail Bytes NotJson)))))))
+      (moves_fail Bytes NotJson))
 
   -- ---- values
   pub moves_inside : {A : Type 0} (close : ℕ) (nil : Value) (wrap : A → Value) (m : Parser A) → Stays m → Moves (eat (white (peek >>= λ c. if (eqb c close) (eat (give nil)) (λ u q. then (m u q) (λ a. give (wrap a))))))

@@ -6,7 +6,7 @@ use Rattle.model.specs.Judgement.{Judged, refuses, written_within}
 use Rattle.model.proofs.Laws.Logic.{or_false_l, or_false_r, clash}
 use Rattle.model.proofs.Laws.Textual.{textual_text, textual_too_large}
 use Rattle.model.specs.Limits.{max_text_bytes, max_values, max_nesting}
-use Rattle.model.specs.Refusal.{answer_too_large, output_too_short}
+use Rattle.model.specs.declared.refusal.Refusal.TheVariants.{AnswerTooLarge, OutputTooShort}
 use Rattle.model.specs.Size.{value_count, nesting, is_too_large}
 use Rattle.model.specs.Textual.{textual}
 use Rattle.model.specs.Value.{Value}
@@ -39,7 +39,7 @@ answer_reads v h e = ap read (sym (textual_text v)) ∙ reads_back (textual v) (
 written_text : (room : ℕ) (v : Value) (t : Bytes) → written_within room v ≡ Judged.done t → (is_too_large v ≡ false) × (t ≡ value_text v)
 written_text room v t e = go (is_too_large v) refl (ltb room (length (value_text v))) e
   where
-    go : (large : Bool) → is_too_large v ≡ large → (short : Bool) → cond large (refuses answer_too_large) (cond short (refuses output_too_short) (Judged.done (value_text v))) ≡ Judged.done t
+    go : (large : Bool) → is_too_large v ≡ large → (short : Bool) → cond large (refuses AnswerTooLarge) (cond short (refuses OutputTooShort) (Judged.done (value_text v))) ≡ Judged.done t
         → (is_too_large v ≡ false) × (t ≡ value_text v)
     go true i short e = clash cc
     go false i true e = clash cc

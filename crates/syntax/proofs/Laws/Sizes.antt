@@ -6,7 +6,7 @@ use Rattle.std.proofs.lemmas.List.{length-replicate}
 use Rattle.model.specs.Bytes.{Bytes}
 use Rattle.model.proofs.Laws.Widths.{values_have_bytes, two_values, one_deep}
 use Rattle.model.specs.Limits.{max_text_bytes, max_values, max_nesting}
-use Rattle.model.specs.Refusal.{not_json, too_large}
+use Rattle.model.specs.declared.refusal.ReadFault.TheVariants.{NotJson, TooLarge}
 use Rattle.model.specs.Size.{value_count}
 use Rattle.model.specs.Value.{Value, scalar, array, integer, Values, no_items, item}
 use Rattle.syntax.specs.declared.Start.TheVariants.{TooMuch, Digit, Bracket}
@@ -52,11 +52,11 @@ few_items_lem (suc n) (suc (suc f)) row at l h =
     let (vs, end, e) = few_items_lem n (suc f) (row + 1) (suc (suc at)) (omega arith) (omega arith) in
     (item zero_value vs, end, rw (start_few row (omega arith), e) refl)
 
-many_items : (n f row at p : ℕ) → row + n ≡ max_values → n + 2 ≤ f → at + 2 * n ≡ p → items f row 1 (0x30 ∷ more n) at ≡ bad too_large p
+many_items : (n f row at p : ℕ) → row + n ≡ max_values → n + 2 ≤ f → at + 2 * n ≡ p → items f row 1 (0x30 ∷ more n) at ≡ bad TooLarge p
 unfolding value items then ◌>>=◌ give fail if peek eat white on_start int first_digit after_zero end_number is_part is_point is_e is_digit is_white within signed on_separator separator_of value_count
 many_items n zero row at p l h k = absurd (omega arith)
 many_items n (suc zero) row at p l h k = absurd (omega arith)
-many_items zero (suc (suc f)) row at p l h k = let e : at ≡ p = omega arith in rw (start_many row (omega arith)) (ap (bad too_large) e)
+many_items zero (suc (suc f)) row at p l h k = let e : at ≡ p = omega arith in rw (start_many row (omega arith)) (ap (bad TooLarge) e)
 many_items (suc n) (suc (suc f)) row at p l h k = rw (start_few row (omega arith), many_items n (suc f) (row + 1) (suc (suc at)) p (omega arith) (omega arith) (omega arith)) refl
 
 -- The array.
@@ -67,16 +67,16 @@ few_text n (suc f) l h =
     let (vs, end, e) = few_items_lem n f 1 1 (omega arith) (omega arith) in
     (array vs, end, rw (start_first, e) refl)
 
-many_text : (n f : ℕ) → n + 1 ≡ max_values → n + 3 ≤ f → text f (zeros n) 0 ≡ bad too_large (2 * n + 1)
+many_text : (n f : ℕ) → n + 1 ≡ max_values → n + 3 ≤ f → text f (zeros n) 0 ≡ bad TooLarge (2 * n + 1)
 unfolding text value then ◌>>=◌ give if peek eat white on_start is_white ended
 many_text n zero l h = absurd (omega arith)
 many_text n (suc f) l h = rw (start_first, many_items n f 1 1 (2 * n + 1) (omega arith) (omega arith) (omega arith)) refl
 
 -- Spaces, and then the text's end.
-blank_text : (n f at p : ℕ) → 1 ≤ f → at + n ≡ p → text f (replicate n 0x20) at ≡ bad not_json p
+blank_text : (n f at p : ℕ) → 1 ≤ f → at + n ≡ p → text f (replicate n 0x20) at ≡ bad NotJson p
 unfolding text value then ◌>>=◌ if peek white is_white
 blank_text n zero at p l k = absurd (omega arith)
-blank_text zero (suc f) at p l k = let e : at ≡ p = omega arith in ap (bad not_json) e
+blank_text zero (suc f) at p l k = let e : at ≡ p = omega arith in ap (bad NotJson) e
 blank_text (suc n) (suc f) at p l k = blank_text n (suc f) (suc at) p l (omega arith)
 
 -- A text that is not over-long.
@@ -89,7 +89,7 @@ is_done (done v) = true
 is_done (refuse k p) = false
 
 -- "or the first byte of the 1,025th value"
-pub rows_values : (is_done (read (zeros (max_values - 2))) ≡ true) × (read (zeros (max_values - 1)) ≡ refuse too_large (2 * max_values - 1))
+pub rows_values : (is_done (read (zeros (max_values - 2))) ≡ true) × (read (zeros (max_values - 1)) ≡ refuse TooLarge (2 * max_values - 1))
 unfolding answer
 rows_values =
     let n = max_values - 2 in
@@ -98,11 +98,11 @@ rows_values =
     let many = many_text m (2 * length (zeros m) + 1) (omega (arith, two_values)) (omega (arith, zeros_length m)) in
     let e : 2 * m + 1 ≡ 2 * max_values - 1 = omega (arith, two_values) in (
       rw (short (zeros n) (omega (arith, zeros_length n, values_have_bytes)), few.2) refl,
-      rw (short (zeros m) (omega (arith, zeros_length m, values_have_bytes)), many) (ap (refuse too_large) e),
+      rw (short (zeros m) (omega (arith, zeros_length m, values_have_bytes)), many) (ap (refuse TooLarge) e),
     )
 
 -- "Over-long text is refused first, at place 16,384."
-pub rows_sizes : (read (replicate (suc max_text_bytes) 0x20) ≡ refuse too_large max_text_bytes) × (read (replicate max_text_bytes 0x20) ≡ refuse not_json max_text_bytes)
+pub rows_sizes : (read (replicate (suc max_text_bytes) 0x20) ≡ refuse TooLarge max_text_bytes) × (read (replicate max_text_bytes 0x20) ≡ refuse NotJson max_text_bytes)
 unfolding answer
 rows_sizes =
     let k = length-replicate {A = ℕ} (suc max_text_bytes) 0x20 in

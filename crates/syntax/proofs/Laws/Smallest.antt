@@ -5,7 +5,9 @@ use mathlib.Core.List.Memᴰ
 use mathlib.Core.List.{List, [], ◌∷◌, ◌++◌, Memᴰ}
 use Rattle.model.specs.Bytes.{Bytes}
 use Rattle.model.specs.Limits.{max_text_bytes}
-use Rattle.model.specs.Refusal.{ReadFault, not_json, repeated_name, lone_surrogate, bad_number, too_large, read_number}
+use Rattle.model.specs.Refusal.{read_number}
+use Rattle.model.specs.declared.refusal.ReadFault.{ReadFault}
+use Rattle.model.specs.declared.refusal.ReadFault.TheVariants.{NotJson as not_json, RepeatedName, LoneSurrogate, BadNumber, TooLarge}
 use Rattle.model.specs.Value.{Value}
 use Rattle.model.proofs.Laws.Logic.{clash}
 use Rattle.syntax.specs.Faults.{Fault, fault, faults, Begins, NotJson, OverLong, Pair, reach, Unpaired, Stated, Has}
@@ -46,21 +48,21 @@ earlier s k k₁ p p₁ others l l₁ g h seen m = go k₁ l₁ seen
   where
     through : (k : ReadFault) → 3 ≤ read_number k → suc p ≤ reach k p
     through not_json l = absurd (omega arith)
-    through repeated_name l = omega arith
-    through lone_surrogate l = omega arith
-    through bad_number l = omega arith
-    through too_large l = omega arith
+    through RepeatedName l = omega arith
+    through LoneSurrogate l = omega arith
+    through BadNumber l = omega arith
+    through TooLarge l = omega arith
 
     go : (k₁ : ReadFault) → 3 ≤ read_number k₁ → Shown (spell g.tree) k₁ p₁ others (length (spell g.tree)) → (reach k₁ p₁ ≤ reach k p) × Unpaired k₁ (drop p₁ s)
     go not_json l₁ seen = absurd (omega arith)
-    go repeated_name l₁ seen = (omega (arith, through k l, h), tt)
-    go lone_surrogate l₁ seen =
+    go RepeatedName l₁ seen = (omega (arith, through k l, h), tt)
+    go LoneSurrogate l₁ seen =
         let n = seen.0 in
         let i : n ≤ reach k p = all_member (λ x. n ≤ reach_of x) others (fault k p) seen.4 m in
         let x = fewer s (spell g.tree) g.rest n (reach k p) i g.begins in
         (omega (arith, seen.1, i), shown s (spell g.tree) x.0 p₁ n (omega (arith, i, g.inside)) x.1 seen.3)
-    go bad_number l₁ seen = (omega (arith, through k l, h), tt)
-    go too_large l₁ seen = (omega (arith, through k l, h), tt)
+    go BadNumber l₁ seen = (omega (arith, through k l, h), tt)
+    go TooLarge l₁ seen = (omega (arith, through k l, h), tt)
 
 -- A fault that s has, or an earlier one, is what s is refused with.
 pub record Wins (s : Bytes) (p : ℕ) : Type 0 where
@@ -144,10 +146,10 @@ none_missed_2 s p g l free = go (read s) refl
         let h = fault_2 s q e in
         let i : q ≡ p = omega (arith, one_place s p q g h, one_place s q p h g) in
         e ∙ ap (refuse not_json) i
-    go (refuse repeated_name q) e = absurd (faulty repeated_name q (lit≤ tt) e)
-    go (refuse lone_surrogate q) e = absurd (faulty lone_surrogate q (lit≤ tt) e)
-    go (refuse bad_number q) e = absurd (faulty bad_number q (lit≤ tt) e)
-    go (refuse too_large q) e = absurd (faulty too_large q (lit≤ tt) e)
+    go (refuse RepeatedName q) e = absurd (faulty RepeatedName q (lit≤ tt) e)
+    go (refuse LoneSurrogate q) e = absurd (faulty LoneSurrogate q (lit≤ tt) e)
+    go (refuse BadNumber q) e = absurd (faulty BadNumber q (lit≤ tt) e)
+    go (refuse TooLarge q) e = absurd (faulty TooLarge q (lit≤ tt) e)
 
 -- The first fault of a text is one of its faults.
 pub stated_has : (s : Bytes) (k : ReadFault) (p : ℕ) → Stated s k p → Has s k p

@@ -4,12 +4,13 @@ use Rattle.std.specs.Prelude.{◌≡◌, Bool, true, false, ◌⊎◌, ℕ, zero
 use Rattle.std.proofs.Math.Path.{refl, subst, ap}
 use Rattle.std.proofs.Common.{sym, ◌∙◌, inl, inr, eqb-true, ltb-true, ltb-false}
 use mathlib.Core.List.{List, [], ◌∷◌, ◌++◌}
-use Rattle.std.proofs.Math.Option.{Option, none, some}
+use Rattle.std.specs.Prelude.{Option, None, Some}
 use native.Mathlib.Omega.{arith}
 use Rattle.model.specs.Bytes.{Bytes, ascii}
 use Rattle.model.proofs.Laws.Option.{none_some}
 use Rattle.model.specs.Limits.{max_text_bytes, max_values, max_nesting, max_integer}
-use Rattle.model.specs.Refusal.{ReadFault, not_json, too_large}
+use Rattle.model.specs.declared.refusal.ReadFault.{ReadFault}
+use Rattle.model.specs.declared.refusal.ReadFault.TheVariants.{NotJson, TooLarge}
 use Rattle.model.specs.Size.{value_count, items_count, members_count, nesting, items_nesting, members_nesting}
 use Rattle.model.specs.Value.{Value, scalar, array, object, null, boolean, string, Values, no_items, item, Members, no_members, member}
 use Rattle.syntax.specs.declared.Start.TheVariants.{TooMuch, Literal, Minus, Digit, Quote, Bracket, Brace}
@@ -28,13 +29,13 @@ use Rattle.syntax.proofs.Laws.Tokens.{Opens, start_says, separator_says}
 
 -- ---- the meaning of values that fit, `row` values having begun before, `depth` arrays and objects deep
 abbrev pub ValueMeans : ℕ → ℕ → JValue → Value → Type 0
-ValueMeans row depth d v = (value_meaning d ≡ some v) × (row + value_count v ≤ max_values) × (depth + nesting v ≤ max_nesting)
+ValueMeans row depth d v = (value_meaning d ≡ Some v) × (row + value_count v ≤ max_values) × (depth + nesting v ≤ max_nesting)
 
 abbrev pub ItemsMean : ℕ → ℕ → JElements → Values → Type 0
-ItemsMean row depth es vs = (elements_meaning es ≡ some vs) × (row + items_count vs ≤ max_values) × (depth + items_nesting vs ≤ max_nesting)
+ItemsMean row depth es vs = (elements_meaning es ≡ Some vs) × (row + items_count vs ≤ max_values) × (depth + items_nesting vs ≤ max_nesting)
 
 abbrev pub MembersMean : ℕ → ℕ → List Bytes → JMembers → Members → Type 0
-MembersMean row depth seen es ms = (members_meaning es seen ≡ some ms) × (row + members_count ms ≤ max_values) × (depth + members_nesting ms ≤ max_nesting)
+MembersMean row depth seen es ms = (members_meaning es seen ≡ Some ms) × (row + members_count ms ≤ max_values) × (depth + members_nesting ms ≤ max_nesting)
 
 signed_scalar : (negative : Bool) (n : ℕ) → (value_count (signed negative n) ≡ 1) × (nesting (signed negative n) ≡ 0)
 unfolding signed value_count nesting
@@ -43,23 +44,23 @@ signed_scalar true zero = (refl, refl)
 signed_scalar true (suc n) = (refl, refl)
 
 -- A number is one value and nests nothing.
-pub number_scalar : (negative : Bool) (n : ℕ) (fr : Frac) (ex : Exp) (v : Value) → plain negative n fr ex ≡ some v → (value_count v ≡ 1) × (nesting v ≡ 0)
+pub number_scalar : (negative : Bool) (n : ℕ) (fr : Frac) (ex : Exp) (v : Value) → plain negative n fr ex ≡ Some v → (value_count v ≡ 1) × (nesting v ≡ 0)
 unfolding plain limited
 number_scalar negative n no_frac no_exp v e = go (leb n max_integer) e
   where
-    go : (b : Bool) → ◌≡◌ {A = Option Value} (elim b [ true ↦ some (signed negative n) | false ↦ none ]) (some v) → (value_count v ≡ 1) × (nesting v ≡ 0)
+    go : (b : Bool) → ◌≡◌ {A = Option Value} (elim b [ true ↦ Some (signed negative n) | false ↦ None ]) (Some v) → (value_count v ≡ 1) × (nesting v ≡ 0)
     go true e = let i : signed negative n ≡ v = cc in subst (λ z. (value_count z ≡ 1) × (nesting z ≡ 0)) i (signed_scalar negative n)
     go false e = none_some e
 number_scalar negative n no_frac (exp x h s b k ds) v e = none_some e
 number_scalar negative n (frac b h ds) ex v e = none_some e
 
 -- The names before a member and its own.
-pub seen_fresh : (seen : List Bytes) (o : Option Bytes) (n : Bytes) → fresh seen o ≡ some n → seen_with seen o ≡ seen ++ (n ∷ [])
+pub seen_fresh : (seen : List Bytes) (o : Option Bytes) (n : Bytes) → fresh seen o ≡ Some n → seen_with seen o ≡ seen ++ (n ∷ [])
 unfolding fresh seen_with
-seen_fresh seen none n e = none_some e
-seen_fresh seen (some k) n e = go (among k seen) e
+seen_fresh seen None n e = none_some e
+seen_fresh seen (Some k) n e = go (among k seen) e
   where
-    go : (b : Bool) → ◌≡◌ {A = Option Bytes} (elim b [ true ↦ none | false ↦ some k ]) (some n) → seen ++ (k ∷ []) ≡ seen ++ (n ∷ [])
+    go : (b : Bool) → ◌≡◌ {A = Option Bytes} (elim b [ true ↦ None | false ↦ Some k ]) (Some n) → seen ++ (k ∷ []) ≡ seen ++ (n ∷ [])
     go true e = none_some e
     go false e = let i : k ≡ n = cc in ap (λ x. seen ++ (x ∷ [])) i
 
@@ -69,7 +70,7 @@ module _ (s : Bytes) where
   unfolding literal spell_value value_meaning value_count nesting
   literal_reads k row depth t at hr hd h = go k
     where
-      word : (d : JValue) (v : Value) (xs : Bytes) → value_meaning d ≡ some v → value_count v ≡ 1 → nesting v ≡ 0 → ((y : Bytes) → xs ++ y ≡ spell_value d y) → Reads s spell_value (ValueMeans row depth) t (expect xs v t at)
+      word : (d : JValue) (v : Value) (xs : Bytes) → value_meaning d ≡ Some v → value_count v ≡ 1 → nesting v ≡ 0 → ((y : Bytes) → xs ++ y ≡ spell_value d y) → Reads s spell_value (ValueMeans row depth) t (expect xs v t at)
       word d v xs e one flat spells =
           reads_in s {X = Unit {0}} {Y = JValue} spell_value (ValueMeans row depth) nothing (λ x. d) (λ x y. spells y)
           (λ x w i. subst (ValueMeans row depth d) i (e, omega (arith, one), omega (arith, flat))) refl (expect xs v t at) (expect_reads s xs v t at h)
@@ -104,9 +105,9 @@ module _ (s : Bytes) where
       stop k p (inr g) = (jstring g.0, cut_after s (byte 0x22) i (cut_before s (λ y. 0x22 ∷ y) g.1))
 
   -- A byte with which a value begins, where no value may.
-  too_much : (row depth : ℕ) {b : ℕ} {t u : Bytes} {at : ℕ} → Opens b → t ≡ b ∷ u → At s t at → Reads s spell_value (ValueMeans row depth) t (bad too_large at)
+  too_much : (row depth : ℕ) {b : ℕ} {t u : Bytes} {at : ℕ} → Opens b → t ≡ b ∷ u → At s t at → Reads s spell_value (ValueMeans row depth) t (bad TooLarge at)
   too_much row depth {b} {t} {u} {at} o e h =
-      (o.tree, subst (λ z. Cut s too_large at z (spell_value o.tree)) (sym e) (cut_as s (spell_value o.tree) (λ y. sym (o.is y)) (cut_byte s large_seen o.more (subst (λ z. At s z at) e h))))
+      (o.tree, subst (λ z. Cut s TooLarge at z (spell_value o.tree)) (sym e) (cut_as s (spell_value o.tree) (λ y. sym (o.is y)) (cut_byte s large_seen o.more (subst (λ z. At s z at) e h))))
 
   -- ---- arrays and objects alike
   -- From after the opening bracket on: what X derives has the meaning R.
@@ -150,7 +151,7 @@ module _ (s : Bytes) where
   rest_reads {A} K R S close P keeps last more one cons spells-last spells means-last means m reads t u at e h =
       white_law s Q _ u at h (λ w y r i g.
       let e₁ : t ≡ P (spell_ws w y) = e ∙ ap P i in
-      let stop : Q (bad not_json r) = (last w, cut_as s (K (last w)) (spells-last w) (cut_after s (keeps & ws_keeps w) e₁ (cut_here s (λ z. close ∷ z) g))) in
+      let stop : Q (bad NotJson r) = (last w, cut_as s (K (last w)) (spells-last w) (cut_after s (keeps & ws_keeps w) e₁ (cut_here s (λ z. close ∷ z) g))) in
       peek_law Q y r _ (λ j. stop)
       (λ b z j. let g₁ : At s z (suc r) = onward b (subst (λ x. At s x r) j g) in
       separator_law Q (b ∷ z) r (separator_of close b) _ _
@@ -194,7 +195,7 @@ module _ (s : Bytes) where
       rest_reads spell_elements (ItemsMean row depth) (ItemsMean (row + value_count v) depth) 0x5D (spell_value g.tree) (value_keeps g.tree)
       (last_element g.tree) (element g.tree) (item v no_items) (item v) (λ w y. refl) (λ w u x y. refl)
       (λ w. (ap (map (λ x. item x no_items)) g.means.0, omega (arith, g.means.1), omega (arith, g.means.2)))
-      (λ w u x vs k. (ap (λ z. map₂ item z (elements_meaning x)) g.means.0 ∙ ap (map₂ item (some v)) k.0, omega (arith, k.1), omega (arith, k.2, g.means.2)))
+      (λ w u x vs k. (ap (λ z. map₂ item z (elements_meaning x)) g.means.0 ∙ ap (map₂ item (Some v)) k.0, omega (arith, k.1), omega (arith, k.2, g.means.2)))
       m reads t u q g.is g.stands
 
   more_members :
@@ -206,19 +207,19 @@ module _ (s : Bytes) where
   more_members row depth seen t n x hn o t₁ e v u q m g reads =
       rest_reads spell_members (MembersMean row depth seen) (MembersMean (row + value_count v) depth (seen ++ (n ∷ []))) 0x7D (λ z. spell_name x (spell_ws o (spell_value g.tree z))) (name_keeps x & ws_keeps o & value_keeps g.tree)
       (last_member x.cs x.w o g.tree) (jmember x.cs x.w o g.tree) (member n v no_members) (member n v) (λ w y. refl) (λ w u x y. refl)
-      (λ w. (ap (λ z. member_of z (value_meaning g.tree) (some no_members)) hn ∙ ap (λ z. member_of (some n) z (some no_members)) g.means.0, omega (arith, g.means.1), omega (arith, g.means.2)))
+      (λ w. (ap (λ z. member_of z (value_meaning g.tree) (Some no_members)) hn ∙ ap (λ z. member_of (Some n) z (Some no_members)) g.means.0, omega (arith, g.means.1), omega (arith, g.means.2)))
       (λ w u y ms k. (whole y ms k.0, omega (arith, k.1), omega (arith, k.2, g.means.2)))
       m reads t u q (e ∙ ap (λ z. spell_name x (spell_ws o z)) g.is) g.stands
     where
       seen₁ : List Bytes
-      seen₁ = seen_with seen (chars_meaning x.cs none)
+      seen₁ = seen_with seen (chars_meaning x.cs None)
 
-      whole : (y : JMembers) (ms : Members) → members_meaning y (seen ++ (n ∷ [])) ≡ some ms → member_of (fresh seen (chars_meaning x.cs none)) (value_meaning g.tree) (members_meaning y seen₁) ≡ some (member n v ms)
+      whole : (y : JMembers) (ms : Members) → members_meaning y (seen ++ (n ∷ [])) ≡ Some ms → member_of (fresh seen (chars_meaning x.cs None)) (value_meaning g.tree) (members_meaning y seen₁) ≡ Some (member n v ms)
       whole y ms h =
           ap (λ z. member_of z (value_meaning g.tree) (members_meaning y seen₁)) hn
-          ∙ ap (λ z. member_of (some n) z (members_meaning y seen₁)) g.means.0
-          ∙ ap (λ z. member_of (some n) (some v) (members_meaning y z)) (seen_fresh seen (chars_meaning x.cs none) n hn)
-          ∙ ap (member_of (some n) (some v)) h
+          ∙ ap (λ z. member_of (Some n) z (members_meaning y seen₁)) g.means.0
+          ∙ ap (λ z. member_of (Some n) (Some v) (members_meaning y z)) (seen_fresh seen (chars_meaning x.cs None) n hn)
+          ∙ ap (member_of (Some n) (Some v)) h
 
   minus_is : (b : ℕ) (u : Bytes) → b ≡ 0x2D → b ∷ u ≡ spell_minus true u
   unfolding spell_minus
@@ -283,7 +284,7 @@ module _ (s : Bytes) where
 pub record Whole (s : Bytes) (v : Value) : Type 0 where
   pub tree : JText
   pub spells : spell tree ≡ s
-  pub means : meaning tree ≡ some v
+  pub means : meaning tree ≡ Some v
   pub few : value_count v ≤ max_values
   pub flat : nesting v ≤ max_nesting
 
@@ -316,7 +317,7 @@ text_reads f s =
     end : (v : Value) (w : Ws) (t : Bytes) → s ≡ spell_ws w t → {u : Bytes} {p : ℕ} → Got s spell_value (ValueMeans 0 0) t v u p → (w₂ : Ws) (y : Bytes) (r : ℕ) → u ≡ spell_ws w₂ y → At s y r → TextReads s (ended v y r)
     end v w t i g w₂ [] r j l = record { tree = jtext w g.tree w₂; spells = sym (i ∙ ap (spell_ws w) (g.is ∙ ap (spell_value g.tree) j)); means = g.means.0; few = omega (arith, g.means.1); flat = omega (arith, g.means.2) }
     end v w t i g w₂ (b ∷ y) r j l =
-        text_begun s not_json r (jtext w g.tree w₂) (b ∷ y) [] l
+        text_begun s NotJson r (jtext w g.tree w₂) (b ∷ y) [] l
         (subst (λ z. Alike (b ∷ y) [] z (spell_ws w (spell_value g.tree (spell_ws w₂ [])))) (sym (i ∙ ap (spell_ws w) (g.is ∙ ap (spell_value g.tree) j))) ((ws_keeps w & value_keeps g.tree & ws_keeps w₂).keep now)) tt tt
 
 abbrev ReadSays : Bytes → Read → Type 0
@@ -331,7 +332,7 @@ read_says s = go (ltb max_text_bytes (length s)) refl
     fine h (ok v u q) g = (g, h)
     fine h (bad k p) g = inr (g, h)
 
-    go : (b : Bool) → ltb max_text_bytes (length s) ≡ b → ReadSays s (elim b [ true ↦ refuse too_large max_text_bytes | false ↦ answer (text (2 * length s + 1) s 0) ])
+    go : (b : Bool) → ltb max_text_bytes (length s) ≡ b → ReadSays s (elim b [ true ↦ refuse TooLarge max_text_bytes | false ↦ answer (text (2 * length s + 1) s 0) ])
     go true e = inl (refl, refl, ltb-true max_text_bytes (length s) e)
     go false e = fine (ltb-false max_text_bytes (length s) e) (text (2 * length s + 1) s 0) (text_reads (2 * length s + 1) s)
 

@@ -3,12 +3,13 @@ use Rattle.std.specs.Prelude.{◌≡◌, Bool, ◌⊎◌, leb, eqb, drop}
 use Rattle.std.proofs.Math.Path.{refl, subst}
 use Rattle.std.proofs.Common.{sym, ap, ◌∙◌, inl, inr, arith, eqb-true, leb-true, le-leb}
 use mathlib.Core.List.{[], ◌∷◌, ◌++◌}
-use Rattle.std.proofs.Math.Option.{some}
+use Rattle.std.specs.Prelude.{Some}
 use Prim.Native.Nat.{ℕ, zero, suc, ◌+◌, ◌*◌, ◌≤◌}
 use Rattle.std.proofs.Math.Dec.{T}
 use Rattle.model.specs.Bytes.{Bytes}
 use Rattle.model.specs.Limits.{max_integer}
-use Rattle.model.specs.Refusal.{ReadFault, not_json, repeated_name, lone_surrogate, bad_number, too_large}
+use Rattle.model.specs.declared.refusal.ReadFault.{ReadFault}
+use Rattle.model.specs.declared.refusal.ReadFault.TheVariants.{NotJson, RepeatedName, LoneSurrogate, BadNumber, TooLarge}
 use Rattle.model.specs.Value.{Value}
 use Rattle.syntax.specs.Faults.{reach, Lone}
 use Rattle.syntax.specs.Grammar.{Ws, no_ws, ws, Digits, no_digits, digit, Int, zero_int, Frac, no_frac, frac, no_sign, Exp, no_exp, exp, spell_ws, spell_digits, spell_int, spell_frac, spell_sign, spell_exp, digits_number, int_number, limited, plain}
@@ -21,19 +22,19 @@ use Rattle.syntax.proofs.Laws.Tokens.{true_t, digit_zero, digit_positive, digit_
 
 -- Past a lone surrogate the text that is derived goes on with a space.
 abbrev pub Spaced : ReadFault → Bytes → Type 0
-Spaced not_json w = Unit {0}
-Spaced repeated_name w = Unit {0}
-Spaced lone_surrogate w = (z : Bytes) × (w ≡ 0x20 ∷ z)
-Spaced bad_number w = Unit {0}
-Spaced too_large w = Unit {0}
+Spaced NotJson w = Unit {0}
+Spaced RepeatedName w = Unit {0}
+Spaced LoneSurrogate w = (z : Bytes) × (w ≡ 0x20 ∷ z)
+Spaced BadNumber w = Unit {0}
+Spaced TooLarge w = Unit {0}
 
 -- It stands there, and begins no pair.
 abbrev pub IsLone : ReadFault → Bytes → Type 0
-IsLone not_json t = Unit {0}
-IsLone repeated_name t = Unit {0}
-IsLone lone_surrogate t = Lone t
-IsLone bad_number t = Unit {0}
-IsLone too_large t = Unit {0}
+IsLone NotJson t = Unit {0}
+IsLone RepeatedName t = Unit {0}
+IsLone LoneSurrogate t = Lone t
+IsLone BadNumber t = Unit {0}
+IsLone TooLarge t = Unit {0}
 
 -- A fault that is seen at its place.
 pub record Seen (k : ReadFault) : Type 0 where
@@ -41,13 +42,13 @@ pub record Seen (k : ReadFault) : Type 0 where
   pub no_lone : (t : Bytes) → IsLone k t
   pub spaced : (w : Bytes) → Spaced k w
 
-pub name_seen : Seen repeated_name
+pub name_seen : Seen RepeatedName
 name_seen = record { reaches = λ p. refl; no_lone = λ t. tt; spaced = λ w. tt }
 
-pub number_seen : Seen bad_number
+pub number_seen : Seen BadNumber
 number_seen = record { reaches = λ p. refl; no_lone = λ t. tt; spaced = λ w. tt }
 
-pub large_seen : Seen too_large
+pub large_seen : Seen TooLarge
 large_seen = record { reaches = λ p. refl; no_lone = λ t. tt; spaced = λ w. tt }
 
 -- ---- the parts of a number
@@ -75,7 +76,7 @@ spell_unsigned x y = spell_int x.whole (spell_part x.part y)
 
 -- Their meaning, where n is the number so far.
 abbrev PartMeans : Bool → ℕ → Part → Value → Type 0
-PartMeans negative n x v = plain negative n x.fr x.ex ≡ some v
+PartMeans negative n x v = plain negative n x.fr x.ex ≡ Some v
 
 abbrev TailMeans : Bool → ℕ → Tail → Value → Type 0
 TailMeans negative n x v = PartMeans negative (digits_number n x.ds) x.part v
@@ -89,7 +90,7 @@ no_part = record { fr = no_frac; ex = no_exp }
 abbrev zero_unsigned : Unsigned
 zero_unsigned = record { whole = zero_int; part = no_part }
 
-pub in_limit : (negative : Bool) (n : ℕ) → n ≤ max_integer → limited negative n ≡ some (signed negative n)
+pub in_limit : (negative : Bool) (n : ℕ) → n ≤ max_integer → limited negative n ≡ Some (signed negative n)
 unfolding limited
 in_limit negative n l = rw (le-leb n max_integer l, limited)
 
@@ -119,7 +120,7 @@ module _ (s : Bytes) where
   Reads K R t (ok a u q) = Got K R t a u q
   Reads {X = X} K R t (bad k p) = (x : X) × Cut k p t (K x)
 
-  pub cut_here : {t : Bytes} {at : ℕ} (F : Bytes → Bytes) → At s t at → Cut not_json at t F
+  pub cut_here : {t : Bytes} {at : ℕ} (F : Bytes → Bytes) → At s t at → Cut NotJson at t F
   cut_here {t} F h = record { rest = t; place = h; alike = λ y. (F y, now, tt); lone = tt }
 
   pub cut_byte : {k : ReadFault} {b : ℕ} {u : Bytes} {at : ℕ} → Seen k → (G : Bytes → Bytes) → At s (b ∷ u) at → Cut k at (b ∷ u) (λ y. b ∷ G y)
@@ -177,8 +178,8 @@ module _ (s : Bytes) where
   end_reads negative n b t at l h =
       if_law (Reads spell_part (PartMeans negative n) (b ∷ t)) (b ∷ t) at (is_part b) _ _ (λ i. part (part_says b i)) (λ i. end_whole negative n l h)
     where
-      part : (b ≡ 0x2E) ⊎ T (is_e b) → Reads spell_part (PartMeans negative n) (b ∷ t) (bad bad_number at)
-      part (inl e) = (record { fr = frac 0x30 zero_digit no_digits; ex = no_exp }, subst (λ c. Cut bad_number at (b ∷ t) (λ y. c ∷ 0x30 ∷ y)) e (cut_byte number_seen (λ y. 0x30 ∷ y) h))
+      part : (b ≡ 0x2E) ⊎ T (is_e b) → Reads spell_part (PartMeans negative n) (b ∷ t) (bad BadNumber at)
+      part (inl e) = (record { fr = frac 0x30 zero_digit no_digits; ex = no_exp }, subst (λ c. Cut BadNumber at (b ∷ t) (λ y. c ∷ 0x30 ∷ y)) e (cut_byte number_seen (λ y. 0x30 ∷ y) h))
       part (inr e) = (record { fr = no_frac; ex = exp b e no_sign 0x30 zero_digit no_digits }, cut_byte number_seen (λ y. 0x30 ∷ y) h)
 
   digits_read : (negative : Bool) (n : ℕ) (t : Bytes) (at : ℕ) → n ≤ max_integer → At s t at → Reads spell_tail (TailMeans negative n) t (digits negative n t at)

@@ -4,11 +4,12 @@ use Rattle.std.proofs.Math.Path.{refl, subst, ap}
 use Rattle.std.proofs.Common.{sym, ◌∙◌, arith, eqb-true}
 use mathlib.Core.List.{List, [], ◌∷◌, ◌++◌}
 use Rattle.std.proofs.Math.Logic.{inl, inr}
-use Rattle.std.proofs.Math.Option.{Option, none, some}
+use Rattle.std.specs.Prelude.{Option, None, Some}
 use Prim.Native.Nat.{ℕ, zero, suc, ◌+◌, ◌*◌}
 use Rattle.std.proofs.Math.ListN.{length}
 use Rattle.model.specs.Bytes.{Bytes}
-use Rattle.model.specs.Refusal.{ReadFault, not_json, lone_surrogate}
+use Rattle.model.specs.declared.refusal.ReadFault.{ReadFault}
+use Rattle.model.specs.declared.refusal.ReadFault.TheVariants.{NotJson, LoneSurrogate}
 use Rattle.syntax.specs.declared.Lead.TheVariants.{Closing, Backslash, Char}
 use Rattle.syntax.specs.declared.Unit.TheVariants.{Plain, High, Low}
 use Rattle.syntax.specs.Faults.{spell_unit, Pair}
@@ -52,8 +53,8 @@ spaced hs = code_unit_lem hs (unescaped 0x20 0 0x80 0xBF refl no_tail no_chars)
 
 -- A high surrogate that waits for its partner.
 abbrev pub waiting : Pending → Option ℕ
-waiting clear = none
-waiting (high u p) = some u
+waiting clear = None
+waiting (high u p) = Some u
 
 -- ---- a name with its quotes and its colon
 pub record Name : Type 0 where
@@ -67,12 +68,12 @@ pub name_keeps : (x : Name) → Keeps (spell_name x)
 name_keeps x = byte 0x22 & chars_keeps x.cs & byte 0x22 & ws_keeps x.w & byte 0x3A
 
 abbrev pub NameMeans : List Bytes → Name → Bytes → Type 0
-NameMeans seen x n = fresh seen (chars_meaning x.cs none) ≡ some n
+NameMeans seen x n = fresh seen (chars_meaning x.cs None) ≡ Some n
 
 abbrev no_name : Name
 no_name = record { cs = no_chars; w = no_ws }
 
-pub fresh_name : (seen : List Bytes) (o : Option Bytes) (n : Bytes) → among n seen ≡ false → o ≡ some n → fresh seen o ≡ some n
+pub fresh_name : (seen : List Bytes) (o : Option Bytes) (n : Bytes) → among n seen ≡ false → o ≡ Some n → fresh seen o ≡ Some n
 unfolding fresh
 fresh_name seen o n d h = ap (fresh seen) h ∙ rw (d, fresh)
 
@@ -109,7 +110,7 @@ module _ (s : Bytes) where
     pub keeps : Keeps front
     pub spells : (cs : Chars) (y : Bytes) → front (spell_chars cs y) ≡ spell_chars (make cs) y
     pub is : t ≡ front u
-    pub means : (cs : Chars) → chars_meaning (make cs) before ≡ map (λ x. bs ++ x) (chars_meaning cs none)
+    pub means : (cs : Chars) → chars_meaning (make cs) before ≡ map (λ x. bs ++ x) (chars_meaning cs None)
     pub stands : At s u q
 
   pub record OneUnit (t : Bytes) (c : ℕ) (u : Bytes) (q : ℕ) : Type 0 where
@@ -126,7 +127,7 @@ module _ (s : Bytes) where
 
   abbrev pub ReadsPiece : Bytes → Piece → Bytes → ℕ → Type 0
   ReadsPiece t closing u q = Quote t u q
-  ReadsPiece t (bytes bs) u q = One none t bs u q
+  ReadsPiece t (bytes bs) u q = One None t bs u q
   ReadsPiece t (unit c) u q = OneUnit t c u q
 
   abbrev pub ReadsChar : Bytes → Parsed Piece → Type 0
@@ -159,13 +160,13 @@ module _ (s : Bytes) where
         keeps = byte b & tails_keeps g.tree;
         spells = λ cs y. refl;
         is = ap (λ y. b ∷ y) g.is;
-        means = λ cs. ap (λ z. map (λ x. (b ∷ z) ++ x) (chars_meaning cs none)) g.means;
+        means = λ cs. ap (λ z. map (λ x. (b ∷ z) ++ x) (chars_meaning cs None)) g.means;
         stands = g.stands;
       })
       (λ k p g. (unescaped b n lo hi i g.0 no_chars, cut_after s (byte b) refl g.1)))
 
   -- A code unit that is no surrogate, or a low one that a high one waits for.
-  unit_plain : {t : Bytes} {c : ℕ} {u : Bytes} {q : ℕ} → OneUnit t c u q → unit_of c ≡ Plain → One none t (utf8 c) u q
+  unit_plain : {t : Bytes} {c : ℕ} {u : Bytes} {q : ℕ} → OneUnit t c u q → unit_of c ≡ Plain → One None t (utf8 c) u q
   unfolding spell_chars chars_meaning
   unit_plain g h =
       record {
@@ -174,11 +175,11 @@ module _ (s : Bytes) where
         keeps = byte 0x5C & byte 0x75 & hexes_keeps g.hs;
         spells = λ cs y. refl;
         is = g.is;
-        means = λ cs. rw (ap unit_of g.means ∙ h, chars_meaning) (ap (λ z. map (λ x. utf8 z ++ x) (chars_meaning cs none)) g.means);
+        means = λ cs. rw (ap unit_of g.means ∙ h, chars_meaning) (ap (λ z. map (λ x. utf8 z ++ x) (chars_meaning cs None)) g.means);
         stands = g.stands;
       }
 
-  unit_low : {t : Bytes} {c : ℕ} {u : Bytes} {q : ℕ} (h : ℕ) → OneUnit t c u q → unit_of c ≡ Low → One (some h) t (utf8 (pair_of h c)) u q
+  unit_low : {t : Bytes} {c : ℕ} {u : Bytes} {q : ℕ} (h : ℕ) → OneUnit t c u q → unit_of c ≡ Low → One (Some h) t (utf8 (pair_of h c)) u q
   unfolding spell_chars chars_meaning
   unit_low h g l =
       record {
@@ -187,7 +188,7 @@ module _ (s : Bytes) where
         keeps = byte 0x5C & byte 0x75 & hexes_keeps g.hs;
         spells = λ cs y. refl;
         is = g.is;
-        means = λ cs. rw (ap unit_of g.means ∙ l, chars_meaning) (ap (λ z. map (λ x. utf8 (pair_of h z) ++ x) (chars_meaning cs none)) g.means);
+        means = λ cs. rw (ap unit_of g.means ∙ l, chars_meaning) (ap (λ z. map (λ x. utf8 (pair_of h z) ++ x) (chars_meaning cs None)) g.means);
         stands = g.stands;
       }
 
@@ -197,13 +198,13 @@ module _ (s : Bytes) where
     pub more : Bytes
     pub is : t ≡ spell_chars cs (0x22 ∷ more)
     pub left : u ≡ 0x22 ∷ more
-    pub means : chars_meaning cs before ≡ some bs
+    pub means : chars_meaning cs before ≡ Some bs
     pub stands : At s u q
 
   -- The high surrogate that waits has no partner in t.
   abbrev Alone : Pending → Bytes → ReadFault → ℕ → Type 0
   Alone clear t k p = ⊥
-  Alone (high u p₀) t k p = (k ≡ lone_surrogate) × (p ≡ p₀) × (StartsLow t → ⊥)
+  Alone (high u p₀) t k p = (k ≡ LoneSurrogate) × (p ≡ p₀) × (StartsLow t → ⊥)
 
   abbrev pub ReadsChars : Pending → Bytes → Parsed Bytes → Type 0
   ReadsChars w t (ok bs u q) = Closed (waiting w) t bs u q
@@ -217,7 +218,7 @@ module _ (s : Bytes) where
   grow_reads w c (bad k p) (inr g) = inr (c.make g.0, cut_as s _ (λ y. c.spells g.0 y) (cut_after s c.keeps c.is g.1))
 
   -- Through the escape of a lone surrogate.
-  unit_cut : {t : Bytes} {at c : ℕ} {u : Bytes} {q : ℕ} → At s t at → (g : OneUnit t c u q) → (unit_of c ≡ Plain → ⊥) → (Pair t → ⊥) → Cut s lone_surrogate at t (spell_chars (spaced g.hs))
+  unit_cut : {t : Bytes} {at c : ℕ} {u : Bytes} {q : ℕ} → At s t at → (g : OneUnit t c u q) → (unit_of c ≡ Plain → ⊥) → (Pair t → ⊥) → Cut s LoneSurrogate at t (spell_chars (spaced g.hs))
   unfolding spell_chars spell_tails spaced
   unit_cut {t} {at} {c} {u} {q} h g surrogate no_pair =
       let six : q ≡ at + 6 = omega (arith, at_length h, at_length g.stands, ap length g.is, hexes_length g.hs u) in
@@ -237,12 +238,12 @@ module _ (s : Bytes) where
         is = g.is ∙ ap (spell_unit g.hs) y.is;
         left = y.left;
         stands = y.stands;
-        means = rw (ap unit_of g.means ∙ i, chars_meaning) (ap (λ z. chars_meaning y.cs (some z)) g.means ∙ y.means);
+        means = rw (ap unit_of g.means ∙ i, chars_meaning) (ap (λ z. chars_meaning y.cs (Some z)) g.means ∙ y.means);
       }
   high_reads {t} {at} {c} {u} {q} h g e i (bad k p) (inl y) =
       inr (
         spaced g.hs,
-        subst (λ z. Cut s z p t (spell_chars (spaced g.hs))) (sym y.0) (subst (λ z. Cut s lone_surrogate z t (spell_chars (spaced g.hs))) (sym y.1)
+        subst (λ z. Cut s z p t (spell_chars (spaced g.hs))) (sym y.0) (subst (λ z. Cut s LoneSurrogate z t (spell_chars (spaced g.hs))) (sym y.1)
             (unit_cut h g (λ e. plain_high c e i) (λ pair. y.2 (pair_high t at c u q e pair).1))),
       )
   high_reads h g e i (bad k p) (inr y) = inr (code_unit_lem g.hs y.0, cut_after s (byte 0x5C & byte 0x75 & hexes_keeps g.hs) g.is y.1)
@@ -258,7 +259,7 @@ module _ (s : Bytes) where
       then_law (ReadsChars clear t) (Known t at) (char t at) _ (char_reads t at h, refl)
       (λ x u q g. piece_law (ReadsChars clear t) u q x _ _ _
       (λ i. let y : Quote t u q = subst (λ z. ReadsPiece t z u q) i g.0 in record { cs = no_chars; more = y.more; is = y.is; left = y.left; means = refl; stands = y.stands })
-      (λ bs i. let y : One none t bs u q = subst (λ z. ReadsPiece t z u q) i g.0 in grow_reads clear y (chars f clear u q) (chars_read f clear u q y.stands))
+      (λ bs i. let y : One None t bs u q = subst (λ z. ReadsPiece t z u q) i g.0 in grow_reads clear y (chars f clear u q) (chars_read f clear u q y.stands))
       (λ c i. let y : OneUnit t c u q = subst (λ z. ReadsPiece t z u q) i g.0 in
       let e : char t at ≡ ok (unit c) u q = g.1 ∙ ap (λ z. ok z u q) i in
       unit_law (ReadsChars clear t) u q (unit_of c) _ _ _
@@ -295,7 +296,7 @@ module _ (s : Bytes) where
       (λ d. subst (λ z. Q (eat (white (colon n)) z q)) (sym g.left)
       (white_law s Q (colon n) g.more (suc q) (onward 0x22 h₂)
       (λ w y r i₃ h₃. let i₄ : t ≡ 0x22 ∷ spell_chars g.cs (0x22 ∷ spell_ws w y) = i₂ ∙ ap (λ z. 0x22 ∷ spell_chars g.cs (0x22 ∷ z)) i₃ in
-      let stop : Q (bad not_json r) = (record { cs = g.cs; w = w }, cut_after s (byte 0x22 & chars_keeps g.cs & byte 0x22 & ws_keeps w) i₄ (cut_here s (λ z. 0x3A ∷ z) h₃)) in
+      let stop : Q (bad NotJson r) = (record { cs = g.cs; w = w }, cut_after s (byte 0x22 & chars_keeps g.cs & byte 0x22 & ws_keeps w) i₄ (cut_here s (λ z. 0x3A ∷ z) h₃)) in
       peek_law Q y r _ (λ j. stop)
       (λ c z j. if_law Q (c ∷ z) r (eqb c 0x3A) _ _
       (λ k. record { tree = record { cs = g.cs; w = w }; is = i₄ ∙ ap (λ z. 0x22 ∷ spell_chars g.cs (0x22 ∷ spell_ws w z)) (j ∙ ap (λ c. c ∷ z) (eqb-true c 0x3A k)); means = fresh_name seen _ n d g.means; stands = onward c (subst (λ x. At s x r) j h₃) })
@@ -307,7 +308,7 @@ module _ (s : Bytes) where
       Q = Reads s spell_name (NameMeans seen) t
 
       colon : Bytes → Parser Bytes
-      colon n = peek >>= λ c. if (eqb c 0x3A) (eat (give n)) (fail not_json)
+      colon n = peek >>= λ c. if (eqb c 0x3A) (eat (give n)) (fail NotJson)
 
       in_string : (k : ReadFault) (p : ℕ) → {u : Bytes} → ReadsChars clear u (bad k p) → t ≡ 0x22 ∷ u → Q (bad k p)
       in_string k p (inl g) i = absurd g

@@ -3,7 +3,7 @@
 use Rattle.std.specs.Prelude.{◌≡◌, refl, Bool, true, false, [], ◌∷◌, ◌++◌, ◌⊎◌, ℕ, suc, ◌+◌, ◌*◌, ◌-◌, ◌/◌, ◌%◌, ◌^◌, ◌<◌, ◌≤◌, T, ltb, eqb, length}
 use Rattle.std.proofs.Common.{sym, subst, subst₂, ap, ap₂, ◌∙◌, inl, inr, arith, ne_eqb, ltb→lt, lt→ltb, eqb→eq}
 use Rattle.std.proofs.Math.Path.{subst₃}
-use Rattle.std.proofs.Math.Option.{Option, none, some}
+use Rattle.std.specs.Prelude.{Option, None, Some}
 use Rattle.std.proofs.Math.Decide.{dec_le}
 use Rattle.model.specs.Bytes.{Bytes}
 use Rattle.model.proofs.Laws.Logic.{and_l, and_r, and_i, T→true, true→t}
@@ -13,8 +13,6 @@ use Rattle.syntax.specs.declared.Lead.{Lead}
 use Rattle.syntax.specs.declared.Lead.TheVariants.{Closing, Backslash, Never, Char}
 use Rattle.syntax.specs.declared.Escape.{Escape}
 use Rattle.syntax.specs.declared.Escape.TheVariants.{Letter, Unicode, NoEscape}
-use Rattle.syntax.specs.declared.Hex.{Hex}
-use Rattle.syntax.specs.declared.Hex.TheVariants.{HexDigit, NoHex}
 use Rattle.syntax.specs.declared.Unit.{Unit as CodeUnit}
 use Rattle.syntax.specs.declared.Unit.TheVariants.{Plain, High, Low}
 use Rattle.syntax.specs.Grammar.{Tails, no_tail, tail, Hexes, no_hexes, hex, Chars, no_chars, unescaped, escaped, code_unit_lem, tail_bytes, hex_number, map, map₂, chars_meaning}
@@ -331,16 +329,16 @@ letter_character b d e =
     (d, omega arith, λ x y. omega arith, utf8_1 d h)
 
 -- ---- code units
-abbrev BelowSixteen : Hex → Type 0
-BelowSixteen (HexDigit d) = d < 16
-BelowSixteen NoHex = Unit {0}
+abbrev BelowSixteen : Option ℕ → Type 0
+BelowSixteen (Some d) = d < 16
+BelowSixteen None = Unit {0}
 
 below_sixteen : (b : ℕ) → BelowSixteen (hex_of b)
 unfolding hex_of
 below_sixteen b =
-    branch BelowSixteen (within 0x30 0x39 b) (HexDigit (b - 0x30)) _ (λ h. let e = within_bounds 0x30 0x39 b h in omega arith)
-    (branch BelowSixteen (within 0x41 0x46 b) (HexDigit (b - 0x37)) _ (λ h. let e = within_bounds 0x41 0x46 b h in omega arith)
-    (branch BelowSixteen (within 0x61 0x66 b) (HexDigit (b - 0x57)) _ (λ h. let e = within_bounds 0x61 0x66 b h in omega arith) tt))
+    branch BelowSixteen (within 0x30 0x39 b) (Some (b - 0x30)) _ (λ h. let e = within_bounds 0x30 0x39 b h in omega arith)
+    (branch BelowSixteen (within 0x41 0x46 b) (Some (b - 0x37)) _ (λ h. let e = within_bounds 0x41 0x46 b h in omega arith)
+    (branch BelowSixteen (within 0x61 0x66 b) (Some (b - 0x57)) _ (λ h. let e = within_bounds 0x61 0x66 b h in omega arith) tt))
 
 hexes_below : {n : ℕ} (hs : Hexes n) (u k : ℕ) → u < 16 ^ k → hex_number u hs < 16 ^ (k + n)
 unfolding hex_number
@@ -391,46 +389,46 @@ then_character s t (u, below, no_surrogate, is) h = subst (λ x. WellFormed (x +
 
 pub all_map : {A B : Type 0} (P : A → Type 0) (Q : B → Type 0) (f : A → B) (o : Option A) → ((a : A) → P a → Q (f a)) → All P o → All Q (map f o)
 unfolding map
-all_map P Q f none k h = tt
-all_map P Q f (some a) k h = k a h
+all_map P Q f None k h = tt
+all_map P Q f (Some a) k h = k a h
 
 pub all_map₂ : {A B C : Type 0} (P : A → Type 0) (Q : B → Type 0) (R : C → Type 0) (f : A → B → C) (o : Option A) (p : Option B) → ((a : A) (b : B) → P a → Q b → R (f a b)) → All P o → All Q p → All R (map₂ f o p)
 unfolding map₂
-all_map₂ P Q R f none p k h i = tt
-all_map₂ P Q R f (some a) none k h i = tt
-all_map₂ P Q R f (some a) (some b) k h i = k a b h i
+all_map₂ P Q R f None p k h i = tt
+all_map₂ P Q R f (Some a) None k h i = tt
+all_map₂ P Q R f (Some a) (Some b) k h i = k a b h i
 
 -- The code unit that waits for its partner is a high one.
 abbrev Pending : Option ℕ → Type 0
-Pending none = Unit {0}
-Pending (some h) = unit_of h ≡ High
+Pending None = Unit {0}
+Pending (Some h) = unit_of h ≡ High
 
 chars : (cs : Chars) (o : Option ℕ) → Pending o → All WellFormed (chars_meaning cs o)
 unfolding chars_meaning
-chars no_chars none p = nothing
-chars no_chars (some h) p = tt
-chars (unescaped b n lo hi e ts cs) none p = all_map WellFormed WellFormed _ (chars_meaning cs none) (λ s k. then_character (b ∷ tail_bytes ts) s (table_character b n lo hi e ts) k) (chars cs none tt)
-chars (unescaped b n lo hi e ts cs) (some h) p = tt
-chars (escaped b d e cs) none p = all_map WellFormed WellFormed _ (chars_meaning cs none) (λ s k. then_character (d ∷ []) s (letter_character b d e) k) (chars cs none tt)
-chars (escaped b d e cs) (some h) p = tt
-chars (code_unit_lem hs cs) none p = go (unit_of (hex_number 0 hs)) refl (chars cs none tt) (chars cs (some (hex_number 0 hs)))
+chars no_chars None p = nothing
+chars no_chars (Some h) p = tt
+chars (unescaped b n lo hi e ts cs) None p = all_map WellFormed WellFormed _ (chars_meaning cs None) (λ s k. then_character (b ∷ tail_bytes ts) s (table_character b n lo hi e ts) k) (chars cs None tt)
+chars (unescaped b n lo hi e ts cs) (Some h) p = tt
+chars (escaped b d e cs) None p = all_map WellFormed WellFormed _ (chars_meaning cs None) (λ s k. then_character (d ∷ []) s (letter_character b d e) k) (chars cs None tt)
+chars (escaped b d e cs) (Some h) p = tt
+chars (code_unit_lem hs cs) None p = go (unit_of (hex_number 0 hs)) refl (chars cs None tt) (chars cs (Some (hex_number 0 hs)))
   where
-    go : (x : CodeUnit) → unit_of (hex_number 0 hs) ≡ x → All WellFormed (chars_meaning cs none) → (unit_of (hex_number 0 hs) ≡ High → All WellFormed (chars_meaning cs (some (hex_number 0 hs))))
-        → All WellFormed (elim x [ Plain ↦ map (λ s. utf8 (hex_number 0 hs) ++ s) (chars_meaning cs none) | High ↦ chars_meaning cs (some (hex_number 0 hs)) | Low ↦ none ])
-    go Plain e k l = all_map WellFormed WellFormed _ (chars_meaning cs none) (λ s i. then_character (utf8 (hex_number 0 hs)) s (plain_character hs e) i) k
+    go : (x : CodeUnit) → unit_of (hex_number 0 hs) ≡ x → All WellFormed (chars_meaning cs None) → (unit_of (hex_number 0 hs) ≡ High → All WellFormed (chars_meaning cs (Some (hex_number 0 hs))))
+        → All WellFormed (elim x [ Plain ↦ map (λ s. utf8 (hex_number 0 hs) ++ s) (chars_meaning cs None) | High ↦ chars_meaning cs (Some (hex_number 0 hs)) | Low ↦ None ])
+    go Plain e k l = all_map WellFormed WellFormed _ (chars_meaning cs None) (λ s i. then_character (utf8 (hex_number 0 hs)) s (plain_character hs e) i) k
     go High e k l = l e
     go Low e k l = tt
-chars (code_unit_lem hs cs) (some h) p = go (unit_of (hex_number 0 hs)) refl (chars cs none tt)
+chars (code_unit_lem hs cs) (Some h) p = go (unit_of (hex_number 0 hs)) refl (chars cs None tt)
   where
-    go : (x : CodeUnit) → unit_of (hex_number 0 hs) ≡ x → All WellFormed (chars_meaning cs none)
-        → All WellFormed (elim x [ Plain ↦ none | High ↦ none | Low ↦ map (λ s. utf8 (pair_of h (hex_number 0 hs)) ++ s) (chars_meaning cs none) ])
+    go : (x : CodeUnit) → unit_of (hex_number 0 hs) ≡ x → All WellFormed (chars_meaning cs None)
+        → All WellFormed (elim x [ Plain ↦ None | High ↦ None | Low ↦ map (λ s. utf8 (pair_of h (hex_number 0 hs)) ++ s) (chars_meaning cs None) ])
     go Plain e k = tt
     go High e k = tt
-    go Low e k = all_map WellFormed WellFormed _ (chars_meaning cs none) (λ s i. then_character (utf8 (pair_of h (hex_number 0 hs))) s (pair_character h (hex_number 0 hs) p e) i) k
+    go Low e k = all_map WellFormed WellFormed _ (chars_meaning cs None) (λ s i. then_character (utf8 (pair_of h (hex_number 0 hs))) s (pair_character h (hex_number 0 hs) p e) i) k
 
 -- The meaning of a string is well-formed UTF-8.
-pub chars_well_formed : (cs : Chars) → All WellFormed (chars_meaning cs none)
-chars_well_formed cs = chars cs none tt
+pub chars_well_formed : (cs : Chars) → All WellFormed (chars_meaning cs None)
+chars_well_formed cs = chars cs None tt
 
 -- ---- bytes
 record InBytes (s : Bytes) : Type 0 where

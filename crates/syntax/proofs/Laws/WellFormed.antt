@@ -1,7 +1,7 @@
 -- WellFormed: what the grammar gives a meaning, and so what reads, is well formed.
 use Rattle.std.specs.Prelude.{◌≡◌, refl, Bool, true, false, not, List, [], ◌∷◌, ◌++◌, ℕ, zero, suc, ◌≤◌, T, leb, pos, negsuc, neg_ℤ}
 use Rattle.std.proofs.Common.{subst, arith, leb→le, le→leb}
-use Rattle.std.proofs.Math.Option.{Option, none, some}
+use Rattle.std.specs.Prelude.{Option, None, Some}
 use Rattle.std.proofs.Math.Dec.{not_T}
 use Rattle.std.specs.Int.Signed.{le_z}
 use Rattle.model.specs.Bounds.{bounded}
@@ -52,7 +52,7 @@ fine_signed true (suc n) h = record { strings = tt; distinct = tt; within = sign
 
 fine_number : (negative : Bool) (n : ℕ) (fr : Frac) (ex : Exp) → All Fine (plain negative n fr ex)
 unfolding plain limited
-fine_number negative n no_frac no_exp = branch (All Fine) (leb n max_integer) (some (signed negative n)) none (λ h. fine_signed negative n (leb→le n max_integer h)) tt
+fine_number negative n no_frac no_exp = branch (All Fine) (leb n max_integer) (Some (signed negative n)) None (λ h. fine_signed negative n (leb→le n max_integer h)) tt
 fine_number negative n no_frac (exp e h s b k ds) = tt
 fine_number negative n (frac b h ds) ex = tt
 
@@ -104,14 +104,14 @@ after_member seen n v ms w u h k = record {
 
 member_fine : (seen : List Bytes) (o : Option Bytes) (p : Option Value) (r : Option Members) → All WellFormed o → All Fine p → All (After (seen_with seen o)) r → All (After seen) (member_of (fresh seen o) p r)
 unfolding fresh member_of seen_with
-member_fine seen none p r w h k = tt
-member_fine seen (some n) p r w h k = go (among n seen) refl p r h k
+member_fine seen None p r w h k = tt
+member_fine seen (Some n) p r w h k = go (among n seen) refl p r h k
   where
-    go : (b : Bool) → among n seen ≡ b → (p : Option Value) (r : Option Members) → All Fine p → All (After (seen ++ (n ∷ []))) r → All (After seen) (member_of (elim b [ true ↦ none | false ↦ some n ]) p r)
+    go : (b : Bool) → among n seen ≡ b → (p : Option Value) (r : Option Members) → All Fine p → All (After (seen ++ (n ∷ []))) r → All (After seen) (member_of (elim b [ true ↦ None | false ↦ Some n ]) p r)
     go true e p r h k = tt
-    go false e none r h k = tt
-    go false e (some v) none h k = tt
-    go false e (some v) (some ms) h k = after_member seen n v ms w (λ i. subst T e i) h k
+    go false e None r h k = tt
+    go false e (Some v) None h k = tt
+    go false e (Some v) (Some ms) h k = after_member seen n v ms w (λ i. subst T e i) h k
 
 -- ---- over the grammar
 mutual
@@ -122,7 +122,7 @@ mutual
   value_fine jfalse = record { strings = tt; distinct = tt; within = tt; free = tt }
   value_fine jnull = record { strings = tt; distinct = tt; within = tt; free = tt }
   value_fine (jnumber negative i fr ex) = fine_number negative (int_number i) fr ex
-  value_fine (jstring cs) = all_map WellFormed Fine _ (chars_meaning cs none) fine_string (chars_well_formed cs)
+  value_fine (jstring cs) = all_map WellFormed Fine _ (chars_meaning cs None) fine_string (chars_well_formed cs)
   value_fine (jempty_array w) = record { strings = tt; distinct = tt; within = tt; free = tt }
   value_fine (jarray w es) = all_map (λ vs. Fine (array vs)) Fine array (elements_meaning es) (λ vs h. h) (elements_fine es)
   value_fine (jempty_object w) = record { strings = tt; distinct = tt; within = tt; free = tt }
@@ -133,10 +133,10 @@ mutual
   elements_fine (element d w u es) = all_map₂ Fine (λ vs. Fine (array vs)) (λ vs. Fine (array vs)) item (value_meaning d) (elements_meaning es) fine_item (value_fine d) (elements_fine es)
 
   members_fine : (ms : JMembers) (seen : List Bytes) → All (After seen) (members_meaning ms seen)
-  members_fine (last_member n w u d x) seen = member_fine seen (chars_meaning n none) (value_meaning d) (some no_members) (chars_well_formed n) (value_fine d) (after_none (seen_with seen (chars_meaning n none)))
+  members_fine (last_member n w u d x) seen = member_fine seen (chars_meaning n None) (value_meaning d) (Some no_members) (chars_well_formed n) (value_fine d) (after_none (seen_with seen (chars_meaning n None)))
   members_fine (jmember n w u d x z ms) seen =
-      member_fine seen (chars_meaning n none) (value_meaning d) (members_meaning ms (seen_with seen (chars_meaning n none)))
-      (chars_well_formed n) (value_fine d) (members_fine ms (seen_with seen (chars_meaning n none)))
+      member_fine seen (chars_meaning n None) (value_meaning d) (members_meaning ms (seen_with seen (chars_meaning n None)))
+      (chars_well_formed n) (value_fine d) (members_fine ms (seen_with seen (chars_meaning n None)))
 
 -- Where P of a string gives Q of it, P of every string gives Q of every string.
 mutual
@@ -162,7 +162,7 @@ mutual
   members_map P Q f no_members h = tt
   members_map P Q f (member n v ms) h = (f n h.0, strings_map P Q f v h.1, members_map P Q f ms h.2)
 
-pub value_well_formed : (d : JValue) (v : Value) → value_meaning d ≡ some v → WellFormedValue v
+pub value_well_formed : (d : JValue) (v : Value) → value_meaning d ≡ Some v → WellFormedValue v
 value_well_formed d v e =
     let h = all_some Fine (value_fine d) e in
     record {
@@ -176,7 +176,7 @@ value_well_formed d v e =
     }
 
 -- What the grammar gives a meaning is well formed,
-pub meaning_well_formed : (d : JText) (v : Value) → meaning d ≡ some v → WellFormedValue v
+pub meaning_well_formed : (d : JText) (v : Value) → meaning d ≡ Some v → WellFormedValue v
 unfolding meaning
 meaning_well_formed (jtext w d u) v e = value_well_formed d v e
 

@@ -3,7 +3,7 @@ use Rattle.std.specs.Prelude.{◌≡◌, refl, true, false, not, T}
 use Rattle.std.proofs.Common.{sym, subst, ap₂, ◌∙◌, T_not}
 use Rattle.std.proofs.Math.Path.{ap}
 use mathlib.Core.List.{List, [], ◌∷◌, ◌++◌, append-nil, append_assoc}
-use Rattle.std.proofs.Math.Option.{Option, none, some}
+use Rattle.std.specs.Prelude.{Option, None, Some}
 use Rattle.std.proofs.lemmas.Bool.{not-true}
 use Rattle.std.proofs.Math.Dec.{not_T}
 use Rattle.model.specs.Bounds.{bounded}
@@ -71,7 +71,7 @@ other_members {n} {v} {ms} h = record {
 record Derived (v : Value) : Type 0 where
   tree : JValue
   spells : (y : Bytes) → spell_value tree y ≡ value_text v ++ y
-  means : value_meaning tree ≡ some v
+  means : value_meaning tree ≡ Some v
 
 quoted : {s : Bytes} (d : DerivedString s) (y : Bytes) → ◌≡◌ {A = Bytes} (0x22 ∷ spell_chars d.chars (0x22 ∷ y)) (string_text s ++ y)
 quoted {s} d y = ap (λ z. 0x22 ∷ z) (d.spells (0x22 ∷ y) ∙ sym (append_assoc (escaped_all s) (0x22 ∷ []) y))
@@ -89,7 +89,7 @@ derived_scalar (string s) h = let d = derived_string h.formed.utf8_strings in re
 record DerivedItems (v : Value) (vs : Values) : Type 0 where
   tree : JElements
   spells : (y : Bytes) → spell_elements tree y ≡ items_text (item v vs) [] ++ (0x5D ∷ y)
-  means : elements_meaning tree ≡ some (item v vs)
+  means : elements_meaning tree ≡ Some (item v vs)
 
 -- There is one unless there is no item.
 abbrev AllDerived : Values → Type 0
@@ -128,7 +128,7 @@ unfolding among
 among_either x n [] f g h = g (bytes→≡ x n (or_f (same_bytes x n) h))
 among_either x n (z ∷ seen) f g h = or_e (same_bytes x z) _ (λ k. f (or_l (same_bytes x z) _ k)) (λ k. among_either x n seen (λ i. f (or_r (same_bytes x z) _ i)) g k) h
 
-unseen_first : (seen : List Bytes) (n : Bytes) (v : Value) (ms : Members) → Unseen seen (member n v ms) → fresh seen (some n) ≡ some n
+unseen_first : (seen : List Bytes) (n : Bytes) (v : Value) (ms : Members) → Unseen seen (member n v ms) → fresh seen (Some n) ≡ Some n
 unfolding Unseen among fresh
 unseen_first seen n v ms u = rw (not-true (among n seen) (T→true _ (not_T (among n seen) (λ h. u n h (or_l (same_bytes n n) _ (bytes_refl n))))), fresh)
 
@@ -140,7 +140,7 @@ unseen_others seen n v ms d u x h k = among_either x n seen (λ i. u x i (or_r (
 record DerivedMembers (n : Bytes) (v : Value) (ms : Members) : Type 0 where
   tree : JMembers
   spells : (y : Bytes) → spell_members tree y ≡ members_text (member n v ms) [] ++ (0x7D ∷ y)
-  means : (seen : List Bytes) → Unseen seen (member n v ms) → members_meaning tree seen ≡ some (member n v ms)
+  means : (seen : List Bytes) → Unseen seen (member n v ms) → members_meaning tree seen ≡ Some (member n v ms)
 
 -- There is one unless there is no member.
 abbrev AllNamed : Members → Type 0
@@ -155,8 +155,8 @@ module _ (n : Bytes) (v : Value) (named : DerivedString n) (d : Derived v) where
       ∙ sym (append_assoc (string_text n) (0x3A ∷ (value_text v ++ rest)) y))
 
   named_means :
-      (ms : Members) (seen : List Bytes) (rest : List Bytes → Option Members) → Unseen seen (member n v ms) → rest (seen ++ (n ∷ [])) ≡ some ms
-      → member_of (fresh seen (chars_meaning named.chars none)) (value_meaning d.tree) (rest (seen_with seen (chars_meaning named.chars none))) ≡ some (member n v ms)
+      (ms : Members) (seen : List Bytes) (rest : List Bytes → Option Members) → Unseen seen (member n v ms) → rest (seen ++ (n ∷ [])) ≡ Some ms
+      → member_of (fresh seen (chars_meaning named.chars None)) (value_meaning d.tree) (rest (seen_with seen (chars_meaning named.chars None))) ≡ Some (member n v ms)
   unfolding member_of seen_with
   named_means ms seen rest u e = rw (named.means, d.means, unseen_first seen n v ms u, e)
 
@@ -165,7 +165,7 @@ module _ (n : Bytes) (v : Value) (named : DerivedString n) (d : Derived v) where
   derived_member no_members u r = record {
     tree = last_member named.chars no_ws no_ws d.tree no_ws;
     spells = λ y. named_spells [] (0x7D ∷ y);
-    means = λ seen k. named_means no_members seen (λ x. some no_members) k refl;
+    means = λ seen k. named_means no_members seen (λ x. Some no_members) k refl;
   }
   derived_member (member m w ms) u r = record {
     tree = jmember named.chars no_ws no_ws d.tree no_ws no_ws r.tree;
@@ -203,6 +203,6 @@ mutual
 
 -- ---- texts
 -- A derivation of the text of a well-formed value, with that meaning.
-pub derivation : (v : Value) → WellFormedValue v → (d : JText) × (spell d ≡ value_text v) × (meaning d ≡ some v)
+pub derivation : (v : Value) → WellFormedValue v → (d : JText) × (spell d ≡ value_text v) × (meaning d ≡ Some v)
 unfolding spell spell_ws meaning
 derivation v h = let d = derived v h in (jtext no_ws d.tree no_ws, d.spells [] ∙ append-nil (value_text v), d.means)

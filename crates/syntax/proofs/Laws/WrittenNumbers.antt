@@ -1,7 +1,7 @@
 -- WrittenNumbers: the text of an integer within the limits is a number of RFC 8259, and means that integer.
 use Rattle.std.specs.Prelude.{◌≡◌, refl, Bool, true, false, [], ◌∷◌, ◌++◌, ℕ, zero, suc, ◌+◌, ◌*◌, ◌-◌, ◌/◌, ◌%◌, ◌≤◌, ◌<◌, T, ℤ, pos, negsuc, neg_ℤ}
 use Rattle.std.proofs.Common.{sym, ap, ◌∙◌, append_assoc, arith, le-leb, lt-ltb, le-ltb, leb→le}
-use Rattle.std.proofs.Math.Option.{some}
+use Rattle.std.specs.Prelude.{Some}
 use Rattle.std.proofs.Math.Decide.{dec_le}
 use Rattle.std.specs.Int.Signed.{le_z}
 use Rattle.model.specs.Bytes.{Bytes, digit_byte}
@@ -58,9 +58,9 @@ pub record DerivedInteger (z : ℤ) : Type 0 where
   pub negative : Bool
   pub digits : Int
   pub spells : (y : Bytes) → spell_minus negative (spell_int digits y) ≡ integer_text z ++ y
-  pub means : limited negative (int_number digits) ≡ some (scalar (integer z))
+  pub means : limited negative (int_number digits) ≡ Some (scalar (integer z))
 
-limited_some : (negative : Bool) (m n : ℕ) → m ≡ n → n ≤ max_integer → limited negative m ≡ some (signed negative n)
+limited_some : (negative : Bool) (m n : ℕ) → m ≡ n → n ≤ max_integer → limited negative m ≡ Some (signed negative n)
 unfolding limited
 limited_some negative m n e h = ap (limited negative) e ∙ rw (le-leb n max_integer h, limited)
 

@@ -8,7 +8,6 @@ use Rattle.model.specs.Lists.{any, all}
 use Rattle.model.specs.TypeCheck.{item_types, items_types}
 use Rattle.model.specs.Types.{Types, is_in, same_ty, supertypes, passes, all_types, type_bits}
 use Rattle.model.specs.declared.Ty.{Ty}
-use Rattle.model.specs.declared.Ty.TheVariants as Ty
 use Rattle.type_set.specs.declared.set.TypeSet.{TypeSet}
 use Rattle.type_set.specs.Contract.{set_of, listed, types_in}
 

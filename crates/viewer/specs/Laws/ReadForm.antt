@@ -2,7 +2,7 @@
 use Rattle.std.specs.Prelude.{◌≡◌, Bool, true, false, ◌&&◌, cond, [], ◌++◌, T, ltb, leb, eqb, ℤ, pos, negsuc, take, drop, replicate}
 use Rattle.std.proofs.Math.Path.{refl, sym, ap}
 use Rattle.std.proofs.Common.{ap₂, subst, ◌∙◌, eqb-true, lt-ltb, le-ltb, le-leb, eq-eqb, leb→le, length-append}
-use Rattle.std.proofs.Math.Option.{Option, none, some}
+use Rattle.std.specs.Prelude.{Option, None, Some}
 use Prim.Native.Nat.{ℕ, suc, ◌+◌, ◌*◌, ◌-◌, ◌/◌, ◌%◌, ◌≤◌, ◌<◌}
 use native.Mathlib.Omega.{arith}
 use Rattle.std.proofs.Math.ListN.{length}
@@ -26,14 +26,12 @@ use Rattle.syntax.proofs.Laws.WellFormed.{read_well_formed}
 use Rattle.syntax.specs.Read.{done, read}
 use Rattle.table.specs.declared.row.Row.{Row}
 use Rattle.table.specs.declared.row.Span.{Span}
-use Rattle.viewer.specs.declared.row.RowAnswer.{RowAnswer}
-use Rattle.viewer.specs.declared.row.RowAnswer.TheVariants as rows
-use Rattle.viewer.specs.Answer.{Seen, name_of, integer_of, string_of, place_of}
+use Rattle.viewer.specs.Answer.{Seen, name_of, integer_of, string_of}
 use Rattle.viewer.specs.Form.{is_integer, is_span, has_content, has_form}
 use Rattle.table.specs.Row.{numbers_at}
 use Rattle.viewer.specs.Row.{row_count, count_of, end_of}
 use Rattle.viewer.specs.Shows.{kind_of, part_count, Tells, TellsScalar, Named, Shows, ShowsText, shows_scalar, shows_array, shows_object, ShowsItems, shows_no_items, shows_item, ShowsMembers, shows_no_members, shows_member}
-use Rattle.viewer.specs.View.{row_seen, next_within, nth_within, part_of, part_seen}
+use Rattle.viewer.specs.View.{row_seen, next_within, nth_within, part_seen}
 
 -- ---- a row of the table
 abbrev numbers : ℕ → Label → ℕ → ℕ → Row
@@ -69,7 +67,7 @@ record Full (A : Bytes) : Type 0 where
   enough : max_values ≤ length A / row_bytes
 
 record Is (A : Bytes) (i : ℕ) (r : Row) : Type 0 where
-  seen : row_seen A i ≡ rows.Is r
+  seen : row_seen A i ≡ Some r
 
 row_count_lem : {A : Bytes} → Full A → row_count A ≡ max_values
 row_count_lem {A} f = rw (le-ltb (length A / row_bytes) max_values f.enough)
@@ -77,7 +75,7 @@ row_count_lem {A} f = rw (le-ltb (length A / row_bytes) max_values f.enough)
 row_seen_lem : {A : Bytes} (i kind : ℕ) (name : Label) (x y : ℕ) → Full A → Stands A (i * row_bytes) (row kind name x y) → i < max_values → Fits name
     → kind < 256 → x < 4294967296 → y < 4294967296 → has_content max_values i (numbers kind name x y) ≡ true → Is A i (numbers kind name x y)
 row_seen_lem i kind name x y full s l n k p q f =
-    let is : ℕ → Row → RowAnswer = λ n r. cond (ltb i n && has_form n i r) (rows.Is r) rows.NotThere in
+    let is : ℕ → Row → Option Row = λ n r. cond (ltb i n && has_form n i r) (Some r) None in
     record {
       seen = ap₂ is (row_count_lem full) (row_numbers i kind name x y s n k p q) ∙ rw (lt-ltb i max_values l, le-leb (name.start + name.size) max_text_bytes n, f);
     }
@@ -85,19 +83,15 @@ row_seen_lem i kind name x y full s l n k p q f =
 module _ {A : Bytes} {i : ℕ} {r : Row} (s : Is A i r) where
   tells : (v : Value) → r.kind ≡ kind_of v → count_of r ≡ part_count v → Tells A i v
   tells v k c = record {
-    kind_and_count = rw s.seen (λ j. some (record { kind = k j; count = c j }));
+    kind_and_count = rw s.seen (λ j. Some (record { kind = k j; count = c j }));
     no_more = λ n l. rw (s.seen, le-ltb n (count_of r) (omega arith));
   }
 
-  next : (e : ℕ) → end_of i r ≤ e → next_within A e i ≡ some (end_of i r)
+  next : (e : ℕ) → end_of i r ≤ e → next_within A e i ≡ Some (end_of i r)
   next e l = rw (s.seen, le-leb (end_of i r) e l)
 
-  nth : (n : ℕ) → n < count_of r → place_of (part_seen A i n) ≡ nth_within A r.second n (i + 1)
-  nth n l = rw (s.seen, lt-ltb n (count_of r) l) (found (nth_within A r.second n (i + 1)))
-    where
-      found : (o : Option ℕ) → place_of (part_of o) ≡ o
-      found none = refl
-      found (some x) = refl
+  nth : (n : ℕ) → n < count_of r → part_seen A i n ≡ nth_within A r.second n (i + 1)
+  nth n l = rw (s.seen, lt-ltb n (count_of r) l)
 
 -- ---- what the forms ask
 biased_positive : (z : ℤ) → T (within_limits z) → 0 < biased z
@@ -141,20 +135,20 @@ span_form i {count} {inside} c l = go (eqb count 0) refl
 -- What stands in a row.
 record Stored (A S : Bytes) (v : Value) (i : ℕ) (name : Label) : Type 0 where
   shows : Shows A S i v
-  named : name_of (row_seen A i) ≡ some (record { start = name.start; size = name.size })
-  after : (e : ℕ) → i + value_count v ≤ e → next_within A e i ≡ some (i + value_count v)
+  named : name_of (row_seen A i) ≡ Some (record { start = name.start; size = name.size })
+  after : (e : ℕ) → i + value_count v ≤ e → next_within A e i ≡ Some (i + value_count v)
 
 stored : {A S : Bytes} {v : Value} {i kind : ℕ} {name : Label} {x y : ℕ} → Is A i (numbers kind name x y) → end_of i (numbers kind name x y) ≡ i + value_count v → Shows A S i v → Stored A S v i name
 stored r f shows = record {
   shows = shows;
   named = rw r.seen;
-  after = λ e l. next r e (omega arith) ∙ ap some f;
+  after = λ e l. next r e (omega arith) ∙ ap Some f;
 }
 
 -- ---- parts
 -- The parts of the container at a place, from the nth on, are the values from the row i on.
 record Reaches (A : Bytes) (place end count n i : ℕ) : Type 0 where
-  reach : (m : ℕ) → n + m < count → place_of (part_seen A place (n + m)) ≡ nth_within A end m i
+  reach : (m : ℕ) → n + m < count → part_seen A place (n + m) ≡ nth_within A end m i
 
 all_parts : {A : Bytes} {i : ℕ} {r : Row} → Is A i r → Reaches A i r.second (count_of r) 0 (i + 1)
 all_parts r = record {
@@ -164,7 +158,7 @@ all_parts r = record {
 }
 
 module _ {A S : Bytes} {place end count n i : ℕ} {v : Value} {name : Label} (p : Reaches A place end count n i) (s : Stored A S v i name) (l : i + value_count v ≤ end) where
-  this_part : n < count → place_of (part_seen A place n) ≡ some i
+  this_part : n < count → part_seen A place n ≡ Some i
   unfolding nth_within
   this_part b =
       let e : n + 0 ≡ n = omega arith in
@@ -280,12 +274,12 @@ text_shown s v T S n m e l t b =
 
 -- ---- one value at a place
 kind_in : Option Seen → ℕ
-kind_in none = 0
-kind_in (some s) = s.kind
+kind_in None = 0
+kind_in (Some s) = s.kind
 
 count_in : Option Seen → ℕ
-count_in none = 0
-count_in (some s) = s.count
+count_in None = 0
+count_in (Some s) = s.count
 
 module _ {T : Bytes} {place : ℕ} {v w : Value} (s : Tells T place v) (t : Tells T place w) where
   same_kind : kind_of v ≡ kind_of w
@@ -304,8 +298,8 @@ scalar_kind (integer z) = omega arith
 scalar_kind (string s) = omega arith
 
 spelled_at : Bytes → Option Span → Bytes
-spelled_at S none = []
-spelled_at S (some p) = take p.size (drop p.start S)
+spelled_at S None = []
+spelled_at S (Some p) = take p.size (drop p.start S)
 
 -- A scalar by its kind, its integer and its bytes.
 scalar_of : ℕ → Option ℤ → Bytes → Scalar

@@ -1,16 +1,8 @@
 use Rattle.model.specs.Limits.{max_values, max_nesting}
-use Rattle.heap.specs.Unfold.{areas, unfolded}
-use Rattle.writer.proofs.Whole.{whole_over, whole_short, whole_done}
+use Rattle.heap.specs.Unfold.{areas_of, unfolded}
+use Rattle.writer.proofs.Whole.{whole}
 use Rattle.writer.proofs.write.Goals as goal
 
-pub returns-then-output-at : goal.returns-then-output-at
+pub returns : goal.returns
 unfolding max_nesting max_values
-returns-then-output-at c = whole_short (unfolded (areas c.args.rule_strings.now c.args.record_strings.now c.args.record_table.now c.args.cells.now) max_nesting c.args.h) c.write_value-p.result c.in-At.at c.in-At.left c.in-At.is c.write_value-p.ensures.writes c.write_value-p.auto.output c.if-output-at.true c.clear_from-then-output-at.ensures
-
-pub returns-in-TooLarge : goal.returns-in-TooLarge
-unfolding max_nesting max_values
-returns-in-TooLarge c = whole_over (unfolded (areas c.args.rule_strings.now c.args.record_strings.now c.args.record_table.now c.args.cells.now) max_nesting c.args.h) c.write_value-p.result c.in-TooLarge.is c.write_value-p.ensures.writes c.write_value-p.auto.output c.clear_from.ensures
-
-pub returns-else-output-at : goal.returns-else-output-at
-unfolding max_nesting max_values
-returns-else-output-at c = whole_done (unfolded (areas c.args.rule_strings.now c.args.record_strings.now c.args.record_table.now c.args.cells.now) max_nesting c.args.h) c.write_value-p.result c.in-At.at c.in-At.left c.in-At.is c.write_value-p.ensures.writes c.write_value-p.auto.output c.if-output-at.false c.clear_from-in-At.ensures
+returns c = whole (unfolded (areas_of c.args.areas) max_nesting c.args.h) c.args.output.now c.write_value-reached.new.output c.write_value-reached.result c.fitted-size.result c.write_value-reached.ensures.writes c.write_value-reached.auto.output c.fitted-size.ensures c.unwrap_or.result c.unwrap_or.ensures c.clear_from.ensures

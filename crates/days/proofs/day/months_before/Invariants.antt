@@ -4,7 +4,4 @@ use Rattle.model.specs.Calendar.{months, sum_first}
 use Rattle.days.proofs.day.months_before.Given as goal
 
 abbrev pub invariant-loop-m : goal.invariant-loop-m
-invariant-loop-m l = (l.sum ≡ sum_first (l.m - 1) (months l.year)) × (l.sum ≤ 31 * (l.m - 1)) × (1 ≤ l.m) × (l.m ≤ l.month)
-
-abbrev pub decreases-loop-m : goal.decreases-loop-m
-decreases-loop-m l = l.month - l.m
+invariant-loop-m l = (l.sum ≡ sum_first (l.m - 1) (months l.year)) × (l.sum ≤ 31 * (l.m - 1))

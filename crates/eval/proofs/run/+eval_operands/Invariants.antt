@@ -13,7 +13,7 @@ abbrev pub decreases-operands : goal.decreases-operands
 decreases-operands l = 2 * l.task.state.deep + 2
 
 abbrev pub invariant-operands-loop-end : goal.invariant-operands-loop-end
-invariant-operands-loop-end l = OperandsInv l.rule_table l.rule_strings l.record_table l.record_strings l.initial.cells (Asks l.initial.task l.initial.frame) l.cells (Asks l.task l.frame)
+invariant-operands-loop-end l = OperandsInv l.rule.table.now l.rule.strings.now l.«record».table.now l.«record».strings.now l.initial.cells (Asks l.initial.task l.initial.frame) l.cells (Asks l.task l.frame)
 
 abbrev pub decreases-operands-loop-end : goal.decreases-operands-loop-end
 decreases-operands-loop-end l = next_left (Asks l.task l.frame)

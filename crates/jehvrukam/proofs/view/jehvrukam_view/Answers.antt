@@ -1,5 +1,5 @@
 use mathlib.Core.Path.{refl, sym, ap}
-use mathlib.Core.Option.{some}
+use Rattle.std.specs.Prelude.{Some}
 use Prim.Native.Nat.{ℕ}
 use Rattle.viewer.specs.Answer.{seen_of}
 use Rattle.jehvrukam.specs.Contract.{seen}
@@ -11,4 +11,4 @@ returns-in_default c = tells_none seen_of c.row_at.ensures c.in_default.is refl
 
 pub returns : goal.returns
 returns c =
-    tells_some seen_of c.row_at.ensures c.in-Is.is _ (ap (λ (n : ℕ). some (seen c.in-Is.r.kind n)) (sym c.count_of.ensures))
+    tells_some seen_of c.row_at.ensures c.in-Some.is _ (ap (λ (n : ℕ). Some (seen c.in-Some.r.kind n)) (sym c.count_of.ensures))

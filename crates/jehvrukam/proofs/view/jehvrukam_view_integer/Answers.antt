@@ -1,7 +1,7 @@
 use Rattle.std.proofs.Common.{w64}
 use borrow.Author.Rules.{rules, sfits_of}
 use mathlib.Core.Path.{refl, sym, ap, ◌∙◌}
-use mathlib.Core.Option.{some}
+use Rattle.std.specs.Prelude.{Some}
 use mir.Facts.{to_z-of_z}
 use Rattle.viewer.specs.Answer.{integer_of}
 use Rattle.jehvrukam.proofs.Viewing.{tells_none, tells_some, an_integer, tells_integer}
@@ -13,5 +13,5 @@ returns-in_default c = tells_none integer_of c.row_at.ensures c.in_default.is re
 pub returns : goal.returns
 returns c =
     let a = c.args in
-    let e = to_z-of_z {w = w64} (sfits_of c.integer_of.type_inv) ∙ c.integer_of.ensures ∙ tells_integer a.table.now a.place _ (sym c.row_at.ensures ∙ c.in-Is.is) (search rules) in
-    tells_some integer_of c.row_at.ensures c.in-Is.is _ (an_integer c.in-Is.r (search rules) ∙ ap some (sym e))
+    let e = to_z-of_z {w = w64} (sfits_of c.integer_of.type_inv) ∙ c.integer_of.ensures ∙ tells_integer a.table.now a.place _ (sym c.row_at.ensures ∙ c.in-Some.is) (search rules) in
+    tells_some integer_of c.row_at.ensures c.in-Some.is _ (an_integer c.in-Some.r (search rules) ∙ ap Some (sym e))

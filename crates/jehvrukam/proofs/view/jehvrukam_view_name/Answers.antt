@@ -7,4 +7,4 @@ pub returns-in_default : goal.returns-in_default
 returns-in_default c = tells_none name_of c.row_at.ensures c.in_default.is refl
 
 pub returns : goal.returns
-returns c = tells_some name_of c.row_at.ensures c.in-Is.is _ refl
+returns c = tells_some name_of c.row_at.ensures c.in-Some.is _ refl

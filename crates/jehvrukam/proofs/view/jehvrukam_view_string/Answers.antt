@@ -9,4 +9,4 @@ returns-in_default c = tells_none string_of c.row_at.ensures c.in_default.is ref
 
 pub returns : goal.returns
 returns c =
-    tells_some string_of c.row_at.ensures c.in-Is.is _ (a_string c.in-Is.r (search rules))
+    tells_some string_of c.row_at.ensures c.in-Some.is _ (a_string c.in-Some.r (search rules))

@@ -1,38 +1,34 @@
 -- Each way out is a law of Names.
-use Prim.Native.Nat.{◌<◌}
+use mathlib.Core.Path.{◌≡◌}
+use Rattle.std.specs.Prelude.{Err}
+use Rattle.std.proofs.Common.{rules}
 use native.Mathlib.Omega.{arith}
-use lib.ListN.{length}
-use Rattle.model.proofs.Laws.Widths.{text_below}
 use Rattle.json_reader.proofs.Values.{string_end}
 use Rattle.json_reader.proofs.Names.{law_no_name, law_name_chars, law_enter_room, law_repeated, law_no_colon, law_name}
 use Rattle.json_reader.proofs.name.member_name.Goals as goal
 
 pub returns-then-not-stands : goal.returns-then-not-stands
-returns-then-not-stands c = law_no_name c.stands.ensures c.if-not-stands.true c.no_name.ensures
+returns-then-not-stands c = law_no_name c.stands.ensures c.if-not-stands.true
 
-pub chars-decoded-requires : goal.chars-decoded-requires
-chars-decoded-requires c = omega (arith, c.stands.ensures.room c.if-not-stands.false)
+pub returns-in_err-end : goal.returns-in_err-end
+returns-in_err-end c =
+    let e : c.from_residual.result ≡ Err c.in_err-end.field-0.0 = search rules in
+    rw e (law_name_chars c.stands.ensures c.if-not-stands.false c.in_err-end.ensures)
 
 pub overflow_sub-name : goal.overflow_sub-name
-overflow_sub-name c = (string_end c.chars-decoded.ensures c.in-Chars.is).1
+overflow_sub-name c = (string_end c.in_ok-end.ensures).1
 
 pub enter-requires : goal.enter-requires
-enter-requires c = law_enter_room c.stands.ensures c.if-not-stands.false c.chars-decoded.ensures c.in-Chars.is c.requires
+enter-requires c = law_enter_room c.stands.ensures c.if-not-stands.false c.in_ok-end.ensures c.requires
 
 pub returns-then-enter : goal.returns-then-enter
-returns-then-enter c = law_repeated c.stands.ensures c.if-not-stands.false c.chars-decoded.ensures c.in-Chars.is c.requires c.enter.ensures c.if-enter.true c.no_name-then-enter.ensures
+returns-then-enter c = law_repeated c.stands.ensures c.if-not-stands.false c.in_ok-end.ensures c.requires c.enter.ensures c.if-enter.true
 
 pub overflow_add-end : goal.overflow_add-end
-overflow_add-end c = omega (arith, string_end c.chars-decoded.ensures c.in-Chars.is)
+overflow_add-end c = omega (arith, string_end c.in_ok-end.ensures)
 
 pub returns-then-not-stands-2 : goal.returns-then-not-stands-2
-returns-then-not-stands-2 c = law_no_colon c.stands.ensures c.if-not-stands.false c.chars-decoded.ensures c.in-Chars.is c.requires c.enter.ensures c.if-enter.false c.skip_white-colon.ensures c.stands-in-Chars.ensures c.if-not-stands-2.true c.no_name-then-not-stands-2.ensures
+returns-then-not-stands-2 c = law_no_colon c.stands.ensures c.if-not-stands.false c.in_ok-end.ensures c.requires c.enter.ensures c.if-enter.false c.skip_white-colon.ensures c.stands-2.ensures c.if-not-stands-2.true
 
-pub overflow_add-colon : goal.overflow_add-colon
-overflow_add-colon c = let l : c.skip_white-colon.result < length c.args.text.now = c.stands-in-Chars.ensures.room c.if-not-stands-2.false in omega (arith, text_below, c.requires.room.short)
-
-pub returns-in-NoChars : goal.returns-in-NoChars
-returns-in-NoChars c = law_name_chars c.stands.ensures c.if-not-stands.false c.chars-decoded.ensures c.in-NoChars.is
-
-pub returns-else-not-stands-2 : goal.returns-else-not-stands-2
-returns-else-not-stands-2 c = law_name c.stands.ensures c.if-not-stands.false c.chars-decoded.ensures c.in-Chars.is c.requires c.enter.ensures c.if-enter.false c.skip_white-colon.ensures c.stands-in-Chars.ensures c.if-not-stands-2.false c.skip_white.ensures
+pub returns : goal.returns
+returns c = law_name c.stands.ensures c.if-not-stands.false c.in_ok-end.ensures c.requires c.enter.ensures c.if-enter.false c.skip_white-colon.ensures c.stands-2.ensures c.if-not-stands-2.false c.skip_white.ensures

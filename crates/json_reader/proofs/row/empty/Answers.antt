@@ -1,8 +1,6 @@
 -- The row that is stored.
-use mathlib.Core.Path.{ap}
 use native.Mathlib.Omega.{arith}
 use Rattle.model.proofs.Laws.Widths.{text_below, values_below}
-use Rattle.json_reader.specs.declared.step.Step.TheVariants.{Reached}
 use Rattle.json_reader.proofs.row.empty.Goals as goal
 
 pub overflow_add-row : goal.overflow_add-row
@@ -15,4 +13,4 @@ pub overflow_add-row-2 : goal.overflow_add-row-2
 overflow_add-row-2 c = omega (arith, values_below)
 
 pub returns : goal.returns
-returns c = record { is = ap Reached c.place.ensures; table = c.put_row.ensures.is }
+returns c = record { is = c.place.ensures; table = c.put_row.ensures.is }

@@ -1,7 +1,7 @@
 -- Each way out is a law of Values.
 use native.Mathlib.Omega.{arith}
 use Rattle.model.proofs.Laws.Widths.{values_below}
-use Rattle.json_reader.proofs.Values.{kind_small, law_literal, law_literal_bad}
+use Rattle.json_reader.proofs.Values.{kind_small, law_literal}
 use Rattle.json_reader.proofs.scalar.read_literal.Goals as goal
 
 pub put_row-requires : goal.put_row-requires
@@ -10,8 +10,5 @@ put_row-requires c = record { rows = c.requires.rows; table = c.requires.table; 
 pub overflow_add-row : goal.overflow_add-row
 overflow_add-row c = omega (arith, values_below)
 
-pub returns-in-Mismatch : goal.returns-in-Mismatch
-returns-in-Mismatch c = law_literal_bad c.args.word c.literal-matched.ensures c.in-Mismatch.is
-
-pub returns-in-Matched : goal.returns-in-Matched
-returns-in-Matched c = law_literal c.args.word c.literal-matched.ensures c.in-Matched.is c.requires.text c.requires.rows c.kind_of.ensures c.put_row.ensures.is c.place.ensures
+pub returns : goal.returns
+returns c = law_literal c.args.word c.in_ok-end.ensures c.requires.text c.requires.rows c.kind_of.ensures c.put_row.ensures.is c.place.ensures

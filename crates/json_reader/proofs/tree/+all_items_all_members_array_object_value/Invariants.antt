@@ -21,14 +21,14 @@ decreases-object l = 3 * (length l.text.now - l.at) + 2
 abbrev pub decreases-value : goal.decreases-value
 decreases-value l = 3 * (length l.text.now - l.at)
 
-abbrev pub invariant-all_items-loop-f : goal.invariant-all_items-loop-f
-invariant-all_items-loop-f l = ItemsInv l.depth l.text l.at l.row l.used l.initial.table l.initial.strings l.table l.strings l.here.at l.here.row l.here.used l.here.count
+abbrev pub invariant-all_items-loop-end : goal.invariant-all_items-loop-end
+invariant-all_items-loop-end l = ItemsInv l.depth l.text l.at l.row l.used l.initial.table l.initial.strings l.table l.strings l.here.at l.here.row l.here.used l.here.count
 
-abbrev pub decreases-all_items-loop-f : goal.decreases-all_items-loop-f
-decreases-all_items-loop-f l = length l.text - l.here.at
+abbrev pub decreases-all_items-loop-end : goal.decreases-all_items-loop-end
+decreases-all_items-loop-end l = length l.text - l.here.at
 
-abbrev pub invariant-all_members-loop-f : goal.invariant-all_members-loop-f
-invariant-all_members-loop-f l = MembersInv l.depth l.text l.at l.row l.used l.initial.table l.initial.strings l.table l.strings l.here.at l.here.row l.here.used l.here.count
+abbrev pub invariant-all_members-loop-member : goal.invariant-all_members-loop-member
+invariant-all_members-loop-member l = MembersInv l.depth l.text l.at l.row l.used l.initial.table l.initial.strings l.table l.strings l.here.at l.here.row l.here.used l.here.count
 
-abbrev pub decreases-all_members-loop-f : goal.decreases-all_members-loop-f
-decreases-all_members-loop-f l = length l.text - l.here.at
+abbrev pub decreases-all_members-loop-member : goal.decreases-all_members-loop-member
+decreases-all_members-loop-member l = length l.text - l.here.at

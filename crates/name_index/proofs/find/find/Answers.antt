@@ -4,21 +4,19 @@ use Rattle.model.specs.Limits.{max_values}
 use Rattle.syntax.specs.Layout.{row_bytes, entry_bytes}
 use native.Mathlib.Omega.{arith}
 use Rattle.name_index.proofs.find.find.Goals as goal
+use Rattle.name_index.proofs.find.find.Goals.{then-first-eq0-via-then-first-eq0, then-first-eq0-via-else-first-eq0+then-first-ge-MAX_VALUES, then-first-eq0-via-else-first-eq0+else-first-ge-MAX_VALUES+then-table-lt-TABLE_BYTES}
 
 pub returns-then-first-eq0 : goal.returns-then-first-eq0
-returns-then-first-eq0 c = finds_no_member c.if-first-eq0.true
-
-pub returns-then-first-ge-MAX_VALUES : goal.returns-then-first-ge-MAX_VALUES
-unfolding max_values
-returns-then-first-ge-MAX_VALUES c = finds_outside c.if-first-ge-MAX_VALUES.true
-
-pub returns-then-table-lt-TABLE_BYTES : goal.returns-then-table-lt-TABLE_BYTES
 unfolding max_values row_bytes entry_bytes
-returns-then-table-lt-TABLE_BYTES c = finds_short c.if-table-lt-TABLE_BYTES.true
+returns-then-first-eq0 c = elim c.then-first-eq0.branch [
+  | then-first-eq0-via-then-first-eq0 w ↦ finds_no_member w.if-first-eq0.true
+  | then-first-eq0-via-else-first-eq0+then-first-ge-MAX_VALUES w ↦ finds_outside w.if-first-ge-MAX_VALUES.true
+  | then-first-eq0-via-else-first-eq0+else-first-ge-MAX_VALUES+then-table-lt-TABLE_BYTES w ↦ finds_short w.if-table-lt-TABLE_BYTES.true
+]
 
 pub descend-end-requires : goal.descend-end-requires
 unfolding max_values row_bytes entry_bytes
-descend-end-requires c = record { table = c.if-table-lt-TABLE_BYTES.false; order = omega (arith, c.if-first-eq0.false); below = omega arith; inside = omega arith }
+descend-end-requires c = record { table = c.if-table-lt-TABLE_BYTES.false; order = omega (arith, c.if-first-eq0.false); below = omega arith }
 
 pub named-requires : goal.named-requires
 unfolding max_values row_bytes entry_bytes

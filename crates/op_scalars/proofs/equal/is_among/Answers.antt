@@ -1,27 +1,12 @@
-use mathlib.Core.Path.{refl, sym, ◌∙◌}
+use mathlib.Core.Path.{sym, ◌∙◌}
 use native.Mathlib.Omega.{arith}
-use Rattle.op_scalars.proofs.Scalars.{found, passed, no_parts, less}
+use Rattle.op_scalars.proofs.Scalars.{found, passed, no_parts}
 use Rattle.op_scalars.proofs.equal.is_among.Goals as goal
-
-pub loop-rest-init : goal.loop-rest-init
-loop-rest-init c = refl
-
-pub head-part-requires : goal.head-part-requires
-head-part-requires c = tt
-
-pub same_scalar-requires : goal.same_scalar-requires
-same_scalar-requires c = tt
 
 pub returns-then-same_scalar : goal.returns-then-same_scalar
 returns-then-same_scalar c =
     sym (found _ _ _ _ c.args.x c.loop-rest.rest c.loop-rest-test.true c.head-part.ensures c.same_scalar.ensures c.if-same_scalar.true)
     ∙ c.loop-rest.invariant
-
-pub tail-rest-requires : goal.tail-rest-requires
-tail-rest-requires c = tt
-
-pub loop-rest-smaller : goal.loop-rest-smaller
-loop-rest-smaller c = less _ _ c.loop-rest.rest c.loop-rest-test.true c.tail-rest.ensures
 
 pub loop-rest-preserved : goal.loop-rest-preserved
 loop-rest-preserved c =

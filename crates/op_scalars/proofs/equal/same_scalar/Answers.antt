@@ -1,16 +1,11 @@
+use mathlib.Core.Path.{ap₂, ◌∙◌}
+use Rattle.model.specs.Bytes.{same_bytes}
+use Rattle.op_scalars.proofs.Scalars.{is_same_integer}
 use Rattle.op_scalars.proofs.equal.same_scalar.Goals as goal
 
-pub returns-in-Null : goal.returns-in-Null
-returns-in-Null c = rw c.in-Null.is (c.is_null.ensures _ _)
+pub returns-in-Integer-Integer : goal.returns-in-Integer-Integer
+returns-in-Integer-Integer c = rw (c.in-Integer-Integer.is-0, c.in-Integer-Integer.is-1) (is_same_integer c.args.rule_strings.now c.args.record_strings.now _ _)
 
-pub returns-in-False : goal.returns-in-False
-returns-in-False c = rw c.in-False.is (c.is_boolean.ensures _ _)
-
-pub returns-in-True : goal.returns-in-True
-returns-in-True c = rw c.in-True.is (c.is_boolean-in-True.ensures _ _)
-
-pub returns-in-Integer : goal.returns-in-Integer
-returns-in-Integer c = rw c.in-Integer.is (c.is_integer.ensures _ _)
-
-pub returns-in-String : goal.returns-in-String
-returns-in-String c = rw c.in-String.is c.is_string.ensures
+pub returns-in-String-String : goal.returns-in-String-String
+returns-in-String-String c =
+    rw (c.in-String-String.is-0, c.in-String-String.is-1) (c.eq.ensures ∙ ap₂ same_bytes c.bytes.ensures c.bytes-in-String-String.ensures)

@@ -1,9 +1,6 @@
-use mathlib.Core.Path.{◌≡◌}
-use Rattle.paths.specs.Contract.{item_in}
+use Rattle.std.proofs.Common.{◌≡◌, ◌-◌}
+use Rattle.table.specs.Placed.{row_after}
 use Rattle.paths.proofs.items.item_among.Given as goal
 
-abbrev pub invariant-loop-rest : goal.invariant-loop-rest
-invariant-loop-rest l = item_in l.table l.rest.first l.rest.count l.left ≡ item_in l.table l.initial.rest.first l.initial.rest.count l.initial.left
-
-abbrev pub decreases-loop-rest : goal.decreases-loop-rest
-decreases-loop-rest l = l.rest.count
+abbrev pub invariant-loop : goal.invariant-loop
+invariant-loop l = row_after l.table l.fn.q.first l.at ≡ row_after l.table l.row (l.at - l.counter)

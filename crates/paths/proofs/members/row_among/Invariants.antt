@@ -1,9 +1,6 @@
-use mathlib.Core.Path.{◌≡◌}
+use Rattle.std.proofs.Common.{◌≡◌, ◌-◌}
 use Rattle.paths.specs.Contract.{row_named}
 use Rattle.paths.proofs.members.row_among.Given as goal
 
-abbrev pub invariant-loop-rest : goal.invariant-loop-rest
-invariant-loop-rest l = row_named l.table l.strings l.name l.rest.first l.rest.count ≡ row_named l.table l.strings l.name l.initial.rest.first l.initial.rest.count
-
-abbrev pub decreases-loop-rest : goal.decreases-loop-rest
-decreases-loop-rest l = l.rest.count
+abbrev pub invariant-loop : goal.invariant-loop
+invariant-loop l = row_named l.text.table.now l.text.strings.now l.name l.fn.q.first l.fn.q.count ≡ row_named l.text.table.now l.text.strings.now l.name l.row (l.fn.q.count - l.counter)

@@ -1,12 +1,7 @@
 use native.Mathlib.Omega.{arith}
-use borrow.Author.Rules.{rules}
 use Rattle.model.proofs.Laws.Widths.{text_below}
-use Rattle.print.specs.Laws.{put_size}
-use Rattle.print.proofs.Quoted.{quoting_none, quoting_more, quoting_near, quoted}
+use Rattle.print.proofs.Quoted.{quoting_none, quoting_more, quoting_near, quoted, quoted_size}
 use Rattle.print.proofs.string.put_quoted.Goals as goal
-
-pub overflow_add-here : goal.overflow_add-here
-overflow_add-here c = let below = text_below in search rules
 
 pub loop-here-init : goal.loop-here-init
 loop-here-init c = quoting_none _ _ _
@@ -27,4 +22,4 @@ pub returns : goal.returns
 returns c = quoted c.put_byte.ensures c.loop-here.invariant c.loop-here-test.false c.put_byte-2.ensures
 
 pub shape_of-output : goal.shape_of-output
-shape_of-output c = put_size (returns c)
+shape_of-output c = quoted_size c.args.output.now c.args.at _ _ _ c.put_byte.ensures c.loop-here.invariant c.put_byte-2.ensures

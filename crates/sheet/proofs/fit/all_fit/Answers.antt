@@ -8,9 +8,6 @@ use Rattle.sheet.proofs.fit.all_fit.Goals as goal
 pub loop-rest-init : goal.loop-rest-init
 loop-rest-init c = begins
 
-pub entry_fits-requires : goal.entry_fits-requires
-entry_fits-requires c = c.requires
-
 pub returns-then-not-entry_fits : goal.returns-then-not-entry_fits
 returns-then-not-entry_fits c = c.loop-rest.invariant.goes _ (one_unfit (omega arith) (c.bytes_of-path.ensures ∙ rw c.name_at.ensures) c.types_at-listed.ensures c.entry_fits.ensures (ap not c.if-not-entry_fits.true))
 

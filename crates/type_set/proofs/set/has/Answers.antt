@@ -1,4 +1,3 @@
-use borrow.Author.Rules.{rules}
 use Rattle.model.specs.declared.Ty.TheVariants as Ty
 use Rattle.type_set.proofs.Sets.{field_is_in}
 use Rattle.type_set.proofs.set.has.Goals as goal

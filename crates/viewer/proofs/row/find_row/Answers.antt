@@ -12,7 +12,7 @@ returns-then-has_form c =
     let a = c.args in
     row_is a.table.now a.place _ _ c.row_count-rows.ensures c.if-rows-place.false (c.row_at-r.ensures.0 ∙ row_there a.table.now a.place _ c.row_count-rows.ensures c.if-rows-place.false) (sym c.has_form.ensures ∙ c.if-has_form.true)
 
-pub returns : goal.returns
-returns c =
+pub returns-else-has_form : goal.returns-else-has_form
+returns-else-has_form c =
     let a = c.args in
     row_not a.table.now a.place _ _ c.row_count-rows.ensures c.if-rows-place.false (c.row_at-r.ensures.0 ∙ row_there a.table.now a.place _ c.row_count-rows.ensures c.if-rows-place.false) (sym c.has_form.ensures ∙ c.if-has_form.false)

@@ -1,7 +1,7 @@
 -- A value, an array or object, and all its parts call one another with one level less; the order of the functions at one depth is in the measure.
 -- The loop's invariant is Loop's: whatever is written of the rest, the whole is written as that with what was passed in front.
 use Prim.Native.Nat.{◌+◌, ◌*◌}
-use Rattle.heap.specs.Unfold.{areas}
+use Rattle.heap.specs.Unfold.{areas_of}
 use Rattle.writer.proofs.Loop.{PartsInv}
 use Rattle.writer.proofs.value.+write_compound_write_parts_write_value.Given as goal
 
@@ -15,7 +15,7 @@ abbrev pub decreases-write_value : goal.decreases-write_value
 decreases-write_value l = 3 * l.deep + 2
 
 abbrev pub invariant-write_parts-loop-rest : goal.invariant-write_parts-loop-rest
-invariant-write_parts-loop-rest l = PartsInv (areas l.rule_strings l.record_strings l.record_table l.cells) l.initial.rest l.deep l.at l.left l.initial.output l.rest l.comma l.here l.more l.output
+invariant-write_parts-loop-rest l = PartsInv (areas_of l.areas) l.initial.rest l.deep l.initial.here.at l.initial.here.left l.initial.output l.rest l.comma l.here.at l.here.left l.output
 
 abbrev pub decreases-write_parts-loop-rest : goal.decreases-write_parts-loop-rest
 decreases-write_parts-loop-rest l = l.rest.count

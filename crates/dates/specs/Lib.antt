@@ -1,2 +1,0 @@
--- What the private functions of this crate are about.
-pub mod Inner

@@ -1,0 +1,2 @@
+-- A file, read into a buffer.
+pub mod Contract

@@ -1,4 +1,0 @@
-use Rattle.instants.proofs.text.text_of.Goals as goal
-
-pub returns : goal.returns
-returns c = cc

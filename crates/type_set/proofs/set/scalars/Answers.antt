@@ -1,5 +1,0 @@
-use borrow.Author.Rules.{rules}
-use Rattle.type_set.proofs.set.scalars.Goals as goal
-
-pub returns : goal.returns
-returns c = c.scalars_with.ensures
