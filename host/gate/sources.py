@@ -5,7 +5,8 @@ import re
 HEAD = re.compile(r'^[ \t]*(?:#\[[^\]]*\]\s*)*(?P<pub>pub\s+)?(?:const\s+)?(?:unsafe\s+)?(?P<extern>extern\s*(?:"[^"]*"\s*)?)?\bfn\s+(?P<name>\w+)', re.M)
 CLAUSE = re.compile(r'\b(?:(?:requires|ensures)\b\*?(?:\s+\w+)?|ghost\s+\w+\s*:?)\s*$')
 CYCLE = re.compile(r'#\[cycle\((\w+)\)\]')
-IMPL = re.compile(r'^impl(?:<[^>]*>)?\s+(\w+)[^{]*\{', re.M)
+IMPL = re.compile(r'^impl(?:<[^>]*>)?\s+([^{]*)\{', re.M)
+OF_TRAIT = re.compile(r'(\w+)(?:<(?:\w+::)*(\w*)[^>]*>)?\s+for\s+(?:\w+::)*(\w+)')
 MODULE = re.compile(r'^(pub\s+)?mod\s+(\w+)\s*;', re.M)
 
 
@@ -64,10 +65,19 @@ def body_of(text, start):
     return len(text)
 
 
+def implemented(head):
+    """What rt calls an impl: its type, or as U32FromFault that of a trait."""
+    m = OF_TRAIT.match(head)
+    if not m:
+        return re.match(r'\w+', head).group(0)
+    of, trait = m.group(3), m.group(1)
+    return of[0].upper() + of[1:] + trait + (m.group(2) or '')
+
+
 def functions_of(text, file, modules=(), public=True):
     """The functions of a source's text, which stands in these modules; public ones only if the modules are, or exported to C."""
     text = without_bytes(without_comments(text))
-    types = [(m.group(1), m.end() - 1, skip(text, m.end() - 1, '{', '}')) for m in IMPL.finditer(text)]
+    types = [(implemented(m.group(1)), m.end() - 1, skip(text, m.end() - 1, '{', '}')) for m in IMPL.finditer(text)]
     for m in HEAD.finditer(text):
         opens = body_of(text, m.start('name'))
         owner = [name for name, start, end in types if start < m.start() < end]

@@ -19,14 +19,14 @@ use type_set::set::{TypeSet, items_of, only, passes};
 
 // The rule in a row.
 #[cycle(find_find_all_find_if_find_reduce)]
-fn find(rule: RuleText, sheet: IndexedText, row: usize, s: Scope) -> Option<TypeSet>
-    ensures { Finds rule.entry.table.now rule.entry.strings.now sheet.entry.table.now sheet.entry.strings.now row s result }
+fn find(rule: &RuleText, sheet: &IndexedText, row: usize, s: Scope) -> Option<TypeSet>
+    ensures { Finds rule.now.table.now rule.now.strings.now sheet.now.table.now sheet.now.strings.now row s result }
 {
-    match view_at(rule, row, s.deep) {
+    match view_at(*rule, row, s.deep) {
         View::Literal(l) => Some(literal_types(rule.strings, l)),
         View::Var(p) => {
             let path = bytes_of(rule.strings, p);
-            Some(var_types(sheet, path, s.env))
+            Some(var_types(*sheet, path, s.env))
         }
         View::If(q) => {
             let s = inner(s);
@@ -50,8 +50,8 @@ fn find(rule: RuleText, sheet: IndexedText, row: usize, s: Scope) -> Option<Type
 
 // All operands.
 #[cycle(find_find_all_find_if_find_reduce)]
-fn find_all(rule: RuleText, sheet: IndexedText, q: Rows, s: Scope) -> Option<Operands>
-    ensures { FindsAll rule.entry.table.now rule.entry.strings.now sheet.entry.table.now sheet.entry.strings.now q s result }
+fn find_all(rule: &RuleText, sheet: &IndexedText, q: Rows, s: Scope) -> Option<Operands>
+    ensures { FindsAll rule.now.table.now rule.now.strings.now sheet.now.table.now sheet.now.strings.now q s result }
 {
     let mut o = no_operands();
     let mut rest = q;
@@ -66,8 +66,8 @@ fn find_all(rule: RuleText, sheet: IndexedText, q: Rows, s: Scope) -> Option<Ope
 
 // "Guards may have any words; `if` .. give the union of their results' words".
 #[cycle(find_find_all_find_if_find_reduce)]
-fn find_if(rule: RuleText, sheet: IndexedText, q: Rows, s: Scope) -> Option<TypeSet>
-    ensures { FindsThree if if_by rule.entry.table.now rule.entry.strings.now sheet.entry.table.now sheet.entry.strings.now q s result }
+fn find_if(rule: &RuleText, sheet: &IndexedText, q: Rows, s: Scope) -> Option<TypeSet>
+    ensures { FindsThree if if_by rule.now.table.now rule.now.strings.now sheet.now.table.now sheet.now.strings.now q s result }
 {
     let row = q.first;
     let _guard = find(rule, sheet, row, s)?;
@@ -77,8 +77,8 @@ fn find_if(rule: RuleText, sheet: IndexedText, q: Rows, s: Scope) -> Option<Type
 
 // "the lambda is checked once with the initial's words as accumulator, its words must pass there, and the initial's words are the result"
 #[cycle(find_find_all_find_if_find_reduce)]
-fn find_reduce(rule: RuleText, sheet: IndexedText, q: Rows, s: Scope) -> Option<TypeSet>
-    ensures { FindsThree reduce reduce_by rule.entry.table.now rule.entry.strings.now sheet.entry.table.now sheet.entry.strings.now q s result }
+fn find_reduce(rule: &RuleText, sheet: &IndexedText, q: Rows, s: Scope) -> Option<TypeSet>
+    ensures { FindsThree reduce reduce_by rule.now.table.now rule.now.strings.now sheet.now.table.now sheet.now.strings.now q s result }
 {
     let row = q.first;
     let operand = find(rule, sheet, row, s)?;
@@ -103,5 +103,5 @@ pub fn check(rule: RuleText, sheet: IndexedText) -> Option<TypeSet>
         env: Env::Outside,
         deep: MAX_NESTING,
     };
-    find(rule, sheet, 0, s)
+    find(&rule, &sheet, 0, s)
 }
