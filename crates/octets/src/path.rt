@@ -41,10 +41,14 @@ fn is_one_of(x: u8, bytes: &[u8]) -> bool
 pub fn fragment_end(text: &[u8], at: usize, separators: &[u8]) -> usize
     ensures { result ≡ at + fragment_length separators.now (drop at text.now) }
 {
-    for i in at..text.len() {
-        if is_one_of(text[i], separators) {
-            return i;
+    // The answer is counted along: from a range's place and length the compiler made two more steps for each byte.
+    let mut end = at;
+    let rest = &text[end.min(text.len())..];
+    for b in rest {
+        if is_one_of(*b, separators) {
+            return end;
         }
+        end += 1;
     }
-    at.max(text.len())
+    end
 }

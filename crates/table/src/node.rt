@@ -4,6 +4,7 @@ ghost use Rattle.table.specs.Contract.{node_at, next_row, name_at, tail_of, Halv
 ghost use Rattle.table.specs.Node.{node_of};
 
 use crate::row::{Row, Span, join, row_at};
+use area::get_word;
 use syntax::{ARRAY_ROW, FALSE_ROW, INTEGER_ROW, OBJECT_ROW, ROW_BYTES, STRING_ROW, TRUE_ROW};
 
 // So many values, one after the other, from a row on.
@@ -65,8 +66,14 @@ pub fn next_row(table: &[u8], row: usize) -> usize
     if row >= table.len() / ROW_BYTES {
         return row;
     }
-    let Row { kind, second, .. } = row_at(table, row);
-    if kind < ARRAY_ROW { row + 1 } else { second }
+    // The last number is read only where it is the answer, so that a walk over scalars waits for no second load.
+    let at = row * ROW_BYTES;
+    let kind = get_word(table, at) % 256;
+    if kind < ARRAY_ROW {
+        row + 1
+    } else {
+        get_word(table, at + 12)
+    }
 }
 
 // Where the name of the member in a row lies.

@@ -1,9 +1,8 @@
 -- Entries: the laws that callers of `enter` cite, and what it promises by slots said by rows.
 use Rattle.std.specs.Prelude.{◌≡◌, refl, Bool, List, [], ◌∷◌, ◌++◌, ℕ, ◌+◌, ◌*◌, ◌-◌, ◌/◌, ◌≤◌, ◌<◌, length}
-use Rattle.std.proofs.Common.{ap, ◌∙◌, subst, inl, inr, arith}
+use Rattle.std.proofs.Common.{ap, ◌∙◌, subst, inl, inr, arith, length-take, length-drop}
 use Rattle.area.specs.Words.{word_at}
 use Rattle.model.specs.Bytes.{Bytes, same_bytes}
-use Rattle.model.specs.Limits.{max_text_bytes}
 use Rattle.model.specs.Lists.{any}
 use Rattle.name_index.specs.Bits.{part}
 use Rattle.name_index.specs.Contract.{entry, Entry, names_of, Named, Between, HasRow, slots, Indexed, EnterRoom, Entered}
@@ -112,12 +111,12 @@ unfolding slots
 slots_append [] e = refl
 slots_append (x ∷ es) e = ap (λ l. (x.row - 1, x.name) ∷ l) (slots_append es e)
 
-pub room_slots : {T A : Bytes} {first row start len : ℕ} {name : Bytes} → EnterRoom T A first row start len → length name ≤ max_text_bytes → Slots.Room T (first - 1) (row - 1) name
-room_slots m short = record {
+pub room_slots : {T A : Bytes} {first row start len : ℕ} → EnterRoom T A first row start len → Slots.Room T (first - 1) (row - 1) (part A start len)
+room_slots m = record {
   table = m.table;
   order = omega (arith, m.order);
   below = omega (arith, m.rows, m.order, m.member);
-  short = short;
+  short = simp (length-take, length-drop) (omega (arith, m.strings, m.short));
 }
 
 pub by_rows :
