@@ -22,12 +22,15 @@ use Rattle.scan.specs.Contract.{fault_of}
 use Rattle.chars.specs.declared.Decoded.{Decoded}
 use Rattle.std.specs.Prelude.{Ok, Err}
 use Rattle.chars.specs.Inner.{Taken, Pieced, Leads, Tailed, UnitRead, Unicodes, Escaped, Put}
-use Rattle.chars.proofs.Steps.{chars_bytes, chars_bad, chars_plain, chars_high, chars_low, chars_pair, reads_one}
+use Rattle.chars.proofs.Steps.{chars_bytes, chars_bad, chars_plain, chars_high, chars_low, chars_pair, reads_one, taken_then}
 use Rattle.chars.proofs.Read.{char_escape, char_lead, escape_end, escape_letter, escape_not, escape_unicode}
 
 -- ---- a piece that was read, and one that was not
 pub gives : {s : Bytes} {at used : ℕ} {A : Bytes} {d : Decoded} {B : Bytes} → Taken s at used A d.at d.used B → at < d.at → Pieced s at used A (Ok d) B
 gives t h = record { meets = record { taken = t; on = h } }
+
+pub taken_piece : {s A B C : Bytes} {at used i to : ℕ} {d : Decoded} → Taken s at used A i to B → Pieced s i to B (Ok d) C → Taken s at used A d.at d.used C
+taken_piece t p = taken_then t p.meets.taken
 
 module _ {s : Bytes} {at used : ℕ} {A : Bytes} where
   pub stops_at : {x : Fault} → at ≤ length s → char (drop at s) at ≡ bad x.reason x.at → Pieced s at used A (Err x) A

@@ -35,6 +35,18 @@ fn lead_of(b: u8) -> Lead
         b'\\' => Lead::Backslash,
         LEAST..=127 => Lead::Char(0, 128, 191),
         194..=223 => Lead::Char(1, 128, 191),
+        224..=244 => long_lead_of(b),
+        _ => Lead::Never,
+    }
+}
+
+// The same of the first byte of three or four. In one match with the others these bytes would be told before all other ones, and cost those a jump.
+#[tactic(auto, unfolding(syntax::specs::Utf8::lead_of, syntax::specs::Tokens::within))]
+fn long_lead_of(b: u8) -> Lead
+    requires { 224 ≤ b }
+    ensures { result ≡ lead_of b }
+{
+    match b {
         224 => Lead::Char(2, 160, 191),
         225..=236 => Lead::Char(2, 128, 191),
         237 => Lead::Char(2, 128, 159),
@@ -58,7 +70,8 @@ fn is_plain(b: u8) -> bool
 #[inline(always)]
 fn plain_run(text: &[u8], at: usize, most: usize, strings: &mut [u8], used: usize) -> Decoded
     requires { Room text.now at used strings.old × (at + most ≤ length text.now) }
-    ensures { Taken text.now at used strings.old result.at result.used strings.new }
+    ensures taken { Taken text.now at used strings.old result.at result.used strings.new }
+    ensures even { result.used + at ≡ used + result.at }
 {
     for k in 0..most {
         let b = text[at + k];
@@ -76,19 +89,40 @@ fn plain_run(text: &[u8], at: usize, most: usize, strings: &mut [u8], used: usiz
     }
 }
 
+// The same of sixteen bytes. This and the next are functions of their own, so that each is compiled for itself before it becomes a part of another.
+fn plain_start(text: &[u8], at: usize, strings: &mut [u8], used: usize) -> Decoded
+    requires { Room text.now at used strings.old × (at + 16 ≤ length text.now) }
+    ensures taken { Taken text.now at used strings.old result.at result.used strings.new }
+    ensures even { result.used + at ≡ used + result.at }
+{
+    plain_run(text, at, 16, strings, used)
+}
+
+// The same of all bytes from `at` on. The end of the text is told first: else that test is shared with the loop's own, which then takes a jump more.
+fn plain_rest(text: &[u8], at: usize, strings: &mut [u8], used: usize) -> Decoded
+    requires { Room text.now at used strings.old }
+    ensures taken { Taken text.now at used strings.old result.at result.used strings.new }
+    ensures even { result.used + at ≡ used + result.at }
+{
+    if text.len() <= at {
+        return Decoded { at, used };
+    }
+    plain_run(text, at, text.len() - at, strings, used)
+}
+
 // Copies the run of plain bytes at `at`, or sixteen of it.
 fn short_run(text: &[u8], at: usize, strings: &mut [u8], used: usize) -> Decoded
     requires { Room text.now at used strings.old }
-    ensures { Taken text.now at used strings.old result.at result.used strings.new }
+    ensures taken { Taken text.now at used strings.old result.at result.used strings.new }
+    ensures even { result.used + at ≡ used + result.at }
 {
-    let rest = text.len() - at;
-    if rest < 16 {
-        return plain_run(text, at, rest, strings, used);
+    if text.len() - at < 16 {
+        return plain_rest(text, at, strings, used);
     }
     if !is_plain(text[at]) {
         return Decoded { at, used };
     }
-    plain_run(text, at, 16, strings, used)
+    plain_start(text, at, strings, used)
 }
 
 // How many of the `n` bytes at `at` can follow a character's first one: the first from `lo` to `hi`, the others from 80 to BF.
@@ -112,13 +146,19 @@ fn tails(text: &[u8], at: usize, n: usize, lo: u8, hi: u8) -> usize
     n
 }
 
-// Copies `n` bytes of the text.
+// Copies `n` bytes of the text. A character has one to four: where the number is known they are moved, without a call.
 #[tactic(auto, using(area::proofs::Stores::put_whole))]
 fn copy(text: &[u8], at: usize, n: usize, strings: &mut [u8], used: usize)
     requires { (at + n ≤ length text.now) × (used + n ≤ length strings.old) }
     ensures { strings.new ≡ sets strings.old used (take n (drop at text.now)) }
 {
-    strings[used..used + n].copy_from_slice(&text[at..at + n]);
+    match n {
+        1 => strings[used] = text[at],
+        2 => strings[used..used + 2].copy_from_slice(&text[at..at + 2]),
+        3 => strings[used..used + 3].copy_from_slice(&text[at..at + 3]),
+        4 => strings[used..used + 4].copy_from_slice(&text[at..at + 4]),
+        _ => strings[used..used + n].copy_from_slice(&text[at..at + n]),
+    }
 }
 
 // The character at `at`, of which `n` bytes follow the first.
@@ -362,7 +402,7 @@ fn from_piece(text: &[u8], at: usize, strings: &mut [u8], used: usize) -> Result
     let mut here = Decoded { at, used };
     loop {
         let next = piece(text, here.at, strings, here.used)?;
-        here = plain_run(text, next.at, text.len() - next.at, strings, next.used);
+        here = plain_rest(text, next.at, strings, next.used);
         if stands(text, here.at, b'"') {
             return Ok(here);
         }
@@ -395,7 +435,7 @@ pub fn chars(text: &[u8], at: usize, strings: &mut [u8], used: usize) -> Result<
     if text.len() - at < 16 {
         return any_chars(text, at, strings, used);
     }
-    let first = plain_run(text, at, 16, strings, used);
+    let first = plain_start(text, at, strings, used);
     if stands(text, first.at, b'"') {
         return Ok(first);
     }

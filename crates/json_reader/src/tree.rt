@@ -111,9 +111,13 @@ fn all_items(
     let bare = Label { start: 0, size: 0 };
     let mut here = place(at, row, used);
     loop {
-        let end = value(
+        // A match, here and for members: `?` copies the cursor, and puts its offset together byte by byte.
+        let end = match value(
             text, here.at, table, here.row, strings, here.used, depth, bare,
-        )?;
+        ) {
+            Ok(end) => end,
+            Err(fault) => return Err(fault),
+        };
         match follow(text, end, here.count, b']')? {
             After::Closed(last) => {
                 return Ok(last);
@@ -142,17 +146,12 @@ fn all_members(
     let mut here = place(at, row, used);
     loop {
         let member = member_name(text, here.at, table, row, here.row, strings, here.used)?;
-        let used = here.used + member.name.size;
-        let end = value(
-            text,
-            member.at,
-            table,
-            here.row,
-            strings,
-            used,
-            depth,
-            member.name,
-        )?;
+        let name = member.name;
+        let used = here.used + name.size;
+        let end = match value(text, member.at, table, here.row, strings, used, depth, name) {
+            Ok(end) => end,
+            Err(fault) => return Err(fault),
+        };
         match follow(text, end, here.count, b'}')? {
             After::Closed(last) => {
                 return Ok(last);

@@ -23,11 +23,12 @@ pub fn skip_white(text: &[u8], at: usize) -> usize
     at.max(text.len())
 }
 
+// By four comparisons, which compile to one test of a bit: a pattern of the four bytes compiles to three tests.
 #[tactic(auto, unfolding(syntax::specs::Tokens::is_white))]
 fn is_white(b: u8) -> bool
     ensures { result ≡ tokens.is_white b }
 {
-    matches!(b, b' ' | b'\t' | b'\n' | b'\r')
+    b == b' ' || b == b'\t' || b == b'\n' || b == b'\r'
 }
 
 // What stands at `at`, where a value is to begin: `row` values began before it, `depth` arrays and objects deep.
@@ -41,21 +42,28 @@ pub fn start(text: &[u8], at: usize, row: usize, depth: usize) -> Start
     start_of(row, depth, text[at])
 }
 
-#[tactic(auto, unfolding(model::specs::Limits::max_values, syntax::specs::Tokens::start_of, syntax::specs::Tokens::counted, syntax::specs::Tokens::is_digit, syntax::specs::Tokens::within))]
+// Each arm counts the value, so that what begins need not be told once more after that.
+#[tactic(auto, unfolding(syntax::specs::Tokens::start_of, syntax::specs::Tokens::is_digit, syntax::specs::Tokens::within))]
 fn start_of(row: usize, depth: usize, b: u8) -> Start
     ensures { result ≡ tokens.start_of row depth b }
 {
-    let kind = match b {
-        b'"' => Start::Quote,
-        b'[' => nested(depth, Start::Bracket),
-        b'{' => nested(depth, Start::Brace),
-        b'0'..=b'9' => Start::Digit,
-        b'-' => Start::Minus,
-        b't' => Start::Literal(Word::TrueWord),
-        b'f' => Start::Literal(Word::FalseWord),
-        b'n' => Start::Literal(Word::NullWord),
-        _ => return Start::NoValue,
-    };
+    match b {
+        b'"' => counted(row, Start::Quote),
+        b'[' => counted(row, nested(depth, Start::Bracket)),
+        b'{' => counted(row, nested(depth, Start::Brace)),
+        b'0'..=b'9' => counted(row, Start::Digit),
+        b'-' => counted(row, Start::Minus),
+        b't' => counted(row, Start::Literal(Word::TrueWord)),
+        b'f' => counted(row, Start::Literal(Word::FalseWord)),
+        b'n' => counted(row, Start::Literal(Word::NullWord)),
+        _ => Start::NoValue,
+    }
+}
+
+#[tactic(auto, unfolding(model::specs::Limits::max_values, syntax::specs::Tokens::counted))]
+fn counted(row: usize, kind: Start) -> Start
+    ensures { result ≡ tokens.counted row kind }
+{
     if MAX_VALUES <= row {
         Start::TooMuch
     } else {

@@ -5,7 +5,7 @@ pub returns-then-text-at : goal.returns-then-text-at
 returns-then-text-at c = promise_end c.if-text-at.true
 
 pub returns-then-stands : goal.returns-then-stands
-returns-then-stands c = promise_closed c.plain_run-first.ensures c.stands.ensures c.if-stands.true
+returns-then-stands c = promise_closed c.plain_start-first.ensures.taken c.stands.ensures c.if-stands.true
 
 pub returns : goal.returns
-returns c = promise_then c.plain_run-first.ensures c.any_chars-2.ensures
+returns c = promise_then c.plain_start-first.ensures.taken c.any_chars-2.ensures

@@ -1,6 +1,7 @@
 use mathlib.Core.Path.{◌≡◌}
 use Rattle.std.specs.Prelude.{Err}
 use Rattle.std.proofs.Common.{rules}
+use Rattle.chars.proofs.Pieces.{taken_piece}
 use Rattle.chars.proofs.Promise.{room_of, promise_closed, promise_stopped}
 use Rattle.chars.proofs.Steps.{taken_none, taken_then}
 use Rattle.chars.proofs.from_piece.Goals as goal
@@ -17,7 +18,7 @@ returns-in_err-next c =
     rw e (promise_stopped c.loop-next.invariant.0 c.in_err-next.ensures.meets)
 
 pub returns-then-stands : goal.returns-then-stands
-returns-then-stands c = promise_closed (taken_then (taken_then c.loop-next.invariant.0 c.in_ok-next.ensures.meets.taken) c.plain_run-here.ensures) c.stands.ensures c.if-stands.true
+returns-then-stands c = promise_closed (taken_then (taken_piece c.loop-next.invariant.0 c.in_ok-next.ensures) c.plain_rest-here.ensures.taken) c.stands.ensures c.if-stands.true
 
 pub loop-next-preserved : goal.loop-next-preserved
-loop-next-preserved c = (taken_then (taken_then c.loop-next.invariant.0 c.in_ok-next.ensures.meets.taken) c.plain_run-here.ensures, c.if-stands.ensures)
+loop-next-preserved c = (taken_then (taken_piece c.loop-next.invariant.0 c.in_ok-next.ensures) c.plain_rest-here.ensures.taken, c.if-stands.ensures)

@@ -18,30 +18,28 @@ all_items-loop-end-init t c = items_start c.requires c.place-here.ensures
 pub all_items-follow-requires : goal.all_items-follow-requires
 all_items-follow-requires t c = record { short = c.requires.short; few = omega (arith, c.loop-end.invariant.inv) }
 
-pub all_items-returns-in_err-end : goal.all_items-returns-in_err-end
-all_items-returns-in_err-end t c =
-    let e : c.from_residual.result ≡ Err c.in_err-end.field-0.0 = search rules in
-    rw e (items_bad c.loop-end.invariant c.in_err-end.ensures)
+pub all_items-returns-in-Err : goal.all_items-returns-in-Err
+all_items-returns-in-Err t c = items_bad c.loop-end.invariant c.in-Err.ensures
 
 pub all_items-returns-in_err-last : goal.all_items-returns-in_err-last
 all_items-returns-in_err-last t c =
-    let e : c.from_residual-in_err-last.result ≡ Err c.in_err-last.field-0.0 = search rules in
-    rw e (items_broken c.loop-end.invariant c.in_ok-end.ensures c.in_err-last.ensures.meets)
+    let e : c.from_residual.result ≡ Err c.in_err-last.field-0.0 = search rules in
+    rw e (items_broken c.loop-end.invariant c.in-Ok.ensures c.in_err-last.ensures.meets)
 
 pub all_items-returns-in-Closed : goal.all_items-returns-in-Closed
 all_items-returns-in-Closed t c =
-    let o : Followed c.args.text.now c.in_ok-end.end c.loop-end.here.count 93 (Ok (Closed c.in-Closed.last)) = rw c.in-Closed.is at c.in_ok-last.ensures in
-    items_closed c.loop-end.invariant c.in_ok-end.ensures o.meets
+    let o : Followed c.args.text.now c.in-Ok.end c.loop-end.here.count 93 (Ok (Closed c.in-Closed.last)) = rw c.in-Closed.is at c.in_ok-last.ensures in
+    items_closed c.loop-end.invariant c.in-Ok.ensures o.meets
 
 pub all_items-loop-end-smaller : goal.all_items-loop-end-smaller
 all_items-loop-end-smaller t c =
-    let o : Followed c.args.text.now c.in_ok-end.end c.loop-end.here.count 93 (Ok (More c.in-More.next)) = rw c.in-More.is at c.in_ok-last.ensures in
-    items_less c.loop-end.invariant c.in_ok-end.ensures o.meets
+    let o : Followed c.args.text.now c.in-Ok.end c.loop-end.here.count 93 (Ok (More c.in-More.next)) = rw c.in-More.is at c.in_ok-last.ensures in
+    items_less c.loop-end.invariant c.in-Ok.ensures o.meets
 
 pub all_items-loop-end-preserved : goal.all_items-loop-end-preserved
 all_items-loop-end-preserved t c =
-    let o : Followed c.args.text.now c.in_ok-end.end c.loop-end.here.count 93 (Ok (More c.in-More.next)) = rw c.in-More.is at c.in_ok-last.ensures in
-    items_next c.loop-end.invariant c.in_ok-end.ensures o.meets (omega (arith, c.value.auto, c.loop-end.invariant.inv)) (omega (arith, c.value.auto, c.loop-end.invariant.inv))
+    let o : Followed c.args.text.now c.in-Ok.end c.loop-end.here.count 93 (Ok (More c.in-More.next)) = rw c.in-More.is at c.in_ok-last.ensures in
+    items_next c.loop-end.invariant c.in-Ok.ensures o.meets (omega (arith, c.value.auto, c.loop-end.invariant.inv)) (omega (arith, c.value.auto, c.loop-end.invariant.inv))
 
 pub all_members-loop-member-init : goal.all_members-loop-member-init
 all_members-loop-member-init t c = members_start c.requires c.place-here.ensures
@@ -51,15 +49,13 @@ all_members-returns-in_err-member t c =
     let e : c.from_residual.result ≡ Err c.in_err-member.field-0.0 = search rules in
     rw e (members_no_name c.loop-member.invariant c.in_err-member.ensures)
 
-pub all_members-returns-in_err-end : goal.all_members-returns-in_err-end
-all_members-returns-in_err-end t c =
-    let e : c.from_residual-in_err-end.result ≡ Err c.in_err-end.field-0.0 = search rules in
-    rw e (members_no_value c.loop-member.invariant c.in_ok-member.ensures c.in_err-end.ensures)
+pub all_members-returns-in-Err : goal.all_members-returns-in-Err
+all_members-returns-in-Err t c = members_no_value c.loop-member.invariant c.in_ok-member.ensures c.in-Err.ensures
 
 pub all_members-returns-in_err-last : goal.all_members-returns-in_err-last
 all_members-returns-in_err-last t c =
     let e : c.from_residual-in_err-last.result ≡ Err c.in_err-last.field-0.0 = search rules in
-    rw e (members_broken c.loop-member.invariant c.in_ok-member.ensures c.in_ok-end.ensures c.in_err-last.ensures.meets)
+    rw e (members_broken c.loop-member.invariant c.in_ok-member.ensures c.in-Ok.ensures c.in_err-last.ensures.meets)
 
 pub all_members-overflow_add-used : goal.all_members-overflow_add-used
 all_members-overflow_add-used t c = let safe = c.in_ok-member.ensures.safe in omega (arith, safe)
@@ -72,18 +68,18 @@ all_members-follow-requires t c = record { short = c.requires.room.short; few = 
 
 pub all_members-returns-in-Closed : goal.all_members-returns-in-Closed
 all_members-returns-in-Closed t c =
-    let o : Followed c.args.text.now c.in_ok-end.end c.loop-member.here.count 125 (Ok (Closed c.in-Closed.last)) = rw c.in-Closed.is at c.in_ok-last.ensures in
-    members_closed c.loop-member.invariant c.in_ok-member.ensures c.in_ok-end.ensures o.meets c.requires (omega (arith, c.member_name.auto, c.loop-member.invariant.inv))
+    let o : Followed c.args.text.now c.in-Ok.end c.loop-member.here.count 125 (Ok (Closed c.in-Closed.last)) = rw c.in-Closed.is at c.in_ok-last.ensures in
+    members_closed c.loop-member.invariant c.in_ok-member.ensures c.in-Ok.ensures o.meets c.requires (omega (arith, c.member_name.auto, c.loop-member.invariant.inv))
 
 pub all_members-loop-member-smaller : goal.all_members-loop-member-smaller
 all_members-loop-member-smaller t c =
-    let o : Followed c.args.text.now c.in_ok-end.end c.loop-member.here.count 125 (Ok (More c.in-More.next)) = rw c.in-More.is at c.in_ok-last.ensures in
-    members_less c.loop-member.invariant c.in_ok-member.ensures c.in_ok-end.ensures o.meets
+    let o : Followed c.args.text.now c.in-Ok.end c.loop-member.here.count 125 (Ok (More c.in-More.next)) = rw c.in-More.is at c.in_ok-last.ensures in
+    members_less c.loop-member.invariant c.in_ok-member.ensures c.in-Ok.ensures o.meets
 
 pub all_members-loop-member-preserved : goal.all_members-loop-member-preserved
 all_members-loop-member-preserved t c =
-    let o : Followed c.args.text.now c.in_ok-end.end c.loop-member.here.count 125 (Ok (More c.in-More.next)) = rw c.in-More.is at c.in_ok-last.ensures in
-    members_next c.loop-member.invariant c.in_ok-member.ensures c.in_ok-end.ensures o.meets c.requires (omega (arith, c.member_name.auto, c.loop-member.invariant.inv)) (omega (arith, c.value.auto, c.member_name.auto, c.loop-member.invariant.inv)) (omega (arith, c.value.auto, c.member_name.auto, c.loop-member.invariant.inv))
+    let o : Followed c.args.text.now c.in-Ok.end c.loop-member.here.count 125 (Ok (More c.in-More.next)) = rw c.in-More.is at c.in_ok-last.ensures in
+    members_next c.loop-member.invariant c.in_ok-member.ensures c.in-Ok.ensures o.meets c.requires (omega (arith, c.member_name.auto, c.loop-member.invariant.inv)) (omega (arith, c.value.auto, c.member_name.auto, c.loop-member.invariant.inv)) (omega (arith, c.value.auto, c.member_name.auto, c.loop-member.invariant.inv))
 
 pub array-empty-requires : goal.array-empty-requires
 array-empty-requires t c = omega (arith, c.stands.ensures.room c.if-stands.true, c.requires)
