@@ -1,14 +1,14 @@
 -- Instants: where the code meets signed numbers.
-use mathlib.Core.Path.{◌≡◌, refl, sym, ap, ◌∙◌}
+use mathlib.Core.Path.{◌≡◌, refl, sym}
 use Rattle.std.specs.Prelude.{Err}
-use Rattle.std.specs.Int.{saturate_unsigned}
-use Rattle.std.proofs.Math.Decide.{dec_le}
+use Rattle.std.specs.Int.{cast_unsigned, int_max}
+use Rattle.std.proofs.Math.Decide.{dec_lt}
 use mathlib.Core.Bool.{true, false}
-use Prim.Native.Nat.{ℕ, suc, ◌*◌, ◌≤◌, ◌<◌}
+use Prim.Native.Nat.{ℕ, ◌+◌, ◌*◌, ◌%◌, ◌^◌, ◌≤◌, ◌<◌}
 use native.Mathlib.Omega.{arith}
-use borrow.Author.Tests.{ltb-true, ltb-false, le-leb, lt-leb}
+use borrow.Author.Tests.{ltb-true, ltb-false, le-leb, lt-leb, lt-ltb, le-ltb}
 use lib.Dec.{T, leb, leb→le}
-use lib.IntN.{ℤ, pos, negsuc, ◌+ℤ◌}
+use lib.IntN.{ℤ, pos, negsuc}
 use lib.Signed.{lt_z}
 use mir.Syntax.{w64}
 use mir.Val.{SFits}
@@ -26,7 +26,7 @@ use Rattle.days.specs.Laws.{no_date, late_day}
 use Rattle.days.specs.declared.day.DayFault.{DayFault}
 use Rattle.days.specs.declared.day.DayFault.TheVariants.{NoDate, Late}
 use Rattle.calendar.specs.Contract.{day_fault, fault_of}
-use Rattle.calendar.proofs.Laws.Instant.{from_late, minus, minus_below}
+use Rattle.calendar.proofs.Laws.Instant.{from_late}
 
 -- ---- the range
 pub early : (t : ℤ) → lt_z t earliest ≡ true → ranged t ≡ refuse OutOfRange
@@ -50,13 +50,13 @@ pub from_fits : (u : ℕ) → u ≤ 315569519999999 → SFits w64 (from_year0 u)
 from_fits u h = range_fits (from_year0 u) (from_in_range u h)
 
 -- ---- and back
-pub since_is : (t : ℤ) → SFits w64 t → saturate_unsigned w64 (pos ms_before1970 +ℤ t) ≡ since_year0 t
+pub since_is : (t : ℤ) → SFits w64 t → (ms_before1970 + cast_unsigned w64 (int_max t earliest)) % 2 ^ 64 ≡ since_year0 t
 since_is (pos n) f = let g = f.sfits in omega arith
-since_is (negsuc n) f = go (dec_le (suc n) ms_before1970)
+since_is (negsuc n) f = go (dec_lt n 62167219199999)
   where
-    go : Dec (suc n ≤ ms_before1970) → saturate_unsigned w64 (pos ms_before1970 +ℤ negsuc n) ≡ since_year0 (negsuc n)
-    go (yes h) = ap (saturate_unsigned w64) (minus ms_before1970 (suc n) h) ∙ omega arith
-    go (no h) = ap (saturate_unsigned w64) (minus_below ms_before1970 (suc n) (omega arith)) ∙ omega arith
+    go : Dec (n < 62167219199999) → (ms_before1970 + cast_unsigned w64 (int_max (negsuc n) earliest)) % 2 ^ 64 ≡ since_year0 (negsuc n)
+    go (yes h) = rw (lt-ltb n 62167219199999 h) (omega arith)
+    go (no h) = rw (le-ltb n 62167219199999 (omega arith)) (omega arith)
 
 -- ---- midnights
 midnight_bad : (w : Date) → is_valid w ≡ false → midnight w ≡ refuse BadDate

@@ -127,7 +127,8 @@ impl Instant {
     pub fn since_year_0(self) -> u64
         ensures { result ≡ since_year0 self.ms }
     {
-        BEFORE_1970.saturating_add_signed(self.ms)
+        // It never wraps. (A saturating sum would take the number apart into sign and size.)
+        BEFORE_1970.wrapping_add_signed(self.ms.max(Instant::EARLIEST))
     }
 }
 

@@ -1,21 +1,22 @@
--- Shapes: where a shape goes on past a text, and the digits at a place of one.
-use Rattle.std.proofs.lemmas.List.{drop_more, drop_all}
+-- Shapes: a text shorter than a shape, and the digits at a place of one.
 use mathlib.Core.Path.{◌≡◌, refl}
-use mathlib.Core.Bool.{false}
+use mathlib.Core.Bool.{false, and-false}
 use mathlib.Core.List.{[], ◌∷◌}
-use Prim.Native.Nat.{ℕ, zero, suc, ◌-◌, ◌≤◌, ◌<◌}
+use Prim.Native.Nat.{ℕ, zero, suc, ◌-◌, ◌<◌}
 use native.Mathlib.Omega.{arith}
 use lib.ListN.{length, drop, take, length-drop}
 use lib.Seq.{take_all}
 use Rattle.std.specs.Prelude.{pos, Some}
 use Rattle.model.specs.Bytes.{Bytes}
-use Rattle.model.specs.DateText.{starts_like, digit_at, fraction_digit, to_utc}
+use Rattle.model.specs.DateText.{fits_byte, starts_like, digit_at, fraction_digit, to_utc}
 
 -- ---- a shape and a text
--- Past the end of a text, a shape that goes on is not there.
-pub starts_past : (p s : Bytes) (i : ℕ) → i < length p → length s ≤ i → starts_like (drop i p) (drop i s) ≡ false
+-- A shorter text does not begin with a shape.
+pub begins_short : (p s : Bytes) → length s < length p → starts_like p s ≡ false
 unfolding starts_like
-starts_past p s i h k = rw (drop_more p i 0 h, drop_all i s k)
+begins_short [] s h = absurd (omega arith)
+begins_short (x ∷ p) [] h = refl
+begins_short (x ∷ p) (y ∷ s) h = rw (begins_short p s (omega arith)) (and-false (fits_byte x y))
 
 -- What `&text[k..]` lends, and what it is.
 abbrev pub lent : ℕ → Bytes → Bytes

@@ -16,7 +16,8 @@ use crate::time::read_time;
 use calendar::instant::{DateFault, Instant, midnight};
 use model::Date;
 
-// A text of one of the first three forms: YYYY, YYYY-MM, YYYY-MM-DD.
+// A text of one of the first three forms: YYYY, YYYY-MM, YYYY-MM-DD. Inlined, so that no Result goes by memory from call to call.
+#[inline(always)]
 #[tactic(auto, unfolding(model::specs::DateText::day_text))]
 pub fn read_day(text: &[u8]) -> Result<Instant, DateFault>
     ensures { date_result result ≡ day_text text.now }

@@ -14,14 +14,15 @@ fn fits(p: u8, x: u8) -> bool
 }
 
 // Whether a text begins with a shape.
-#[tactic(auto, using(crate::proofs::Shapes::starts_past), unfolding(model::specs::DateText::starts_like))]
+#[tactic(auto, using(crate::proofs::Shapes::begins_short), unfolding(model::specs::DateText::starts_like))]
 pub fn starts_like(shape: &[u8], text: &[u8]) -> bool
     ensures { result ≡ starts_like shape.now text.now }
 {
+    // Once for all bytes.
+    if text.len() < shape.len() {
+        return false;
+    }
     for (i, p) in shape.iter().enumerate() {
-        if text.len() <= i {
-            return false;
-        }
         if !fits(*p, text[i]) {
             return false;
         }

@@ -4,7 +4,7 @@ ghost use Rattle.model.specs.Calendar.{is_valid, months, sum_first, year_days, y
 ghost use Rattle.model.specs.Instant.{ms_per_day};
 ghost use Rattle.days.specs.Contract.{day_answer, month_answer, WithinYears};
 
-use crate::month::month_days;
+use crate::month::{is_leap, month_days};
 use model::Date;
 
 pub const MS_PER_DAY: u64 = 86400000;
@@ -34,6 +34,14 @@ fn year_start(year: u64) -> u64
     ensures { result ≡ year_start year }
 {
     365 * year + year.div_ceil(4) + year.div_ceil(400) - year.div_ceil(100)
+}
+
+// The days of a year.
+#[tactic(auto, using(model::proofs::Laws::Calendar::year_days_row))]
+fn year_days(year: u64) -> u64
+    ensures { result ≡ year_days year }
+{
+    365 + u64::from(is_leap(year))
 }
 
 // The days of a year's months before a month.
@@ -101,18 +109,20 @@ fn date_in_year(year: u64, n: u64) -> Date
     Date { year, month, day }
 }
 
-// The date of a day. No year has more than 366 days, so that the year is n / 366 or a later one.
-#[tactic(auto, using(crate::proofs::Dates::year_next, crate::proofs::Dates::year_low, crate::proofs::Dates::year_high))]
+// The date of a day. No year has more than 366 days, so that the year is n / 366 or a later one. (Years are taken off, since year_start has three divisions.)
+#[tactic(auto, using(crate::proofs::Dates::year_next, crate::proofs::Dates::year_low, crate::proofs::Dates::year_high, model::proofs::Laws::Calendar::year_days_row))]
 fn date_of_day(n: u64) -> Date
     requires { n ≤ 1000000000000 }
     ensures { result ≡ date_of_day n }
 {
     let mut year = n / 366;
+    let mut left = n - year_start(year);
     // A range would need a bound, and an answer past it, which is never reached.
-    while year_start(year + 1) <= n {
+    while let Some(rest) = left.checked_sub(year_days(year)) {
+        left = rest;
         year += 1;
     }
-    date_in_year(year, n - year_start(year))
+    date_in_year(year, left)
 }
 
 // The date of the day on which lies the instant so many milliseconds from 0000-01-01.

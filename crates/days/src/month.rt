@@ -8,7 +8,7 @@ const MONTH_DAYS: [[u8; 12]; 2] = [
     [31, 29, 31, 30, 31, 30, 31, 31, 30, 31, 30, 31],
 ];
 
-fn is_leap(year: u64) -> bool
+pub fn is_leap(year: u64) -> bool
     ensures { result ≡ is_leap year }
 {
     year % 4 == 0 && (year % 100 != 0 || year % 400 == 0)

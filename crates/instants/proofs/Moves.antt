@@ -1,26 +1,11 @@
--- Moves: what the library's sums and products of signed numbers tell of a count that is moved.
-use Rattle.std.specs.Prelude.{◌≡◌, ◌<◌, ◌≤◌, ◌^◌, ℕ, suc, ℤ, pos, negsuc, ◌+ℤ◌, unsigned_abs}
+-- Moves: what a sum of 128 bits tells of a count that is moved.
+use Rattle.std.specs.Prelude.{◌≡◌, ◌<◌, ◌^◌, ℕ, ℤ, pos, negsuc, unsigned_abs}
 use Rattle.std.specs.Int.{FitsUnsigned}
 use Rattle.std.proofs.Common.{arith, ap, sym, w64}
 use Rattle.std.proofs.Math.Decide.{dec_lt}
 use lib.Dec.{le→leb, lt→ltb}
 use lib.Signed.{le_z_yes, lt_z_yes, yes_non_neg}
-use mir.Val.{SFits}
-use Rattle.calendar.proofs.Laws.Instant.{minus_below}
-use Rattle.instants.specs.Inner.{latest_since_year0, Far}
-
--- A number that fits no i64 leads far away.
-pub far_product : (u : ℕ) (x : ℤ) → u ≤ latest_since_year0 → ¬ (SFits w64 x) → Far (pos u +ℤ x)
-far_product u (pos n) h f = go (dec_lt n (2 ^ 63))
-  where
-    go : Dec (n < 2 ^ 63) → Far (pos u +ℤ pos n)
-    go (yes g) = absurd (f (record { sfits = g }))
-    go (no g) = omega arith
-far_product u (negsuc n) h f = go (dec_lt n (2 ^ 63))
-  where
-    go : Dec (n < 2 ^ 63) → Far (pos u +ℤ negsuc n)
-    go (yes g) = absurd (f (record { sfits = g }))
-    go (no g) = rw (minus_below u (suc n) (omega arith)) tt
+use Rattle.instants.specs.Inner.{Far}
 
 -- A number that fits no u64 is far away,
 pub far_sum : (z : ℤ) → ¬ (FitsUnsigned w64 z) → Far z

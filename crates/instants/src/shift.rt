@@ -12,13 +12,14 @@ use model::{Date, TimeUnit};
 const MS_PER_HOUR: u64 = MS_PER_DAY / 24;
 
 // A count, so many times `unit` on, or back for an amount below 0.
-#[tactic(auto, using(crate::proofs::Moves::far_product, crate::proofs::Moves::far_sum, crate::proofs::Moves::near_sum))]
+#[tactic(auto, using(crate::proofs::Moves::far_sum, crate::proofs::Moves::near_sum))]
 fn moved(count: u64, amount: i64, unit: u64) -> Result<u64, OutOfRange>
     requires { (count ≤ latest_since_year0) × (unit ≤ ms_per_day) }
     ensures { Moved (pos count +ℤ amount *ℤ pos unit) result }
 {
-    let by = amount.checked_mul(unit as i64).ok_or(OutOfRange)?;
-    count.checked_add_signed(by).ok_or(OutOfRange)
+    // 128 bits hold any product and sum, so that one test is enough.
+    let to = i128::from(count) + i128::from(amount) * i128::from(unit);
+    u64::try_from(to).map_err(|_| OutOfRange)
 }
 
 // The instant `since` milliseconds from 0000-01-01, moved by so many times `unit` milliseconds.

@@ -31,6 +31,7 @@ fn are_flat(text: IndexedText, q: Rows) -> bool
 }
 
 // The item so many after the first.
+#[tactic(auto, using(crate::proofs::Rows::flat_past, crate::proofs::Rows::flat_item, model::proofs::Laws::Widths::values_below))]
 pub fn item(at: usize, text: IndexedText, q: Rows) -> Node
     ensures { result ≡ item_in text.entry.table.now q.first q.count at }
 {

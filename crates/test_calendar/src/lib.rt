@@ -88,12 +88,13 @@ pub extern "C" fn calendar_shift(from: i64, amount: i64, unit: u32, ms: &mut i64
 pub extern "C" fn calendar_text(ms: i64, text: &mut [u8]) -> u32
     ensures { (result ≡ text_number ms text.old) × (text.new ≡ text_bytes ms text.old) }
 {
-    if text.len() != 24 {
+    let Some(area) = text.as_mut_array::<24>() else {
         return INVALID_ARGUMENT;
-    }
+    };
     let Ok(t) = Instant::new(ms) else {
         return u32::from(Fault::OutOfRange);
     };
-    text.copy_from_slice(&InstantText::from(t).bytes);
+    let InstantText { bytes } = InstantText::from(t);
+    *area = bytes;
     DONE
 }

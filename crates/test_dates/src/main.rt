@@ -2,7 +2,7 @@
 // Prints each line that differs, then how many of each kind agree and differ.
 #![tactic(auto)]
 
-ghost use Rattle.std.specs.Prelude.{◌≡◌, ◌≤◌, length};
+ghost use Rattle.std.specs.Prelude.{◌≡◌, ◌≤◌, IfSome, length, nat_abs};
 
 use calendar::instant::{DateFault, Instant};
 use dates::{read_date, read_day};
@@ -14,6 +14,9 @@ use std::io::Read;
 
 // The most bytes that are read.
 const ROOM: usize = 524288;
+
+// Numbers from 10^18 on are not read.
+const NUMBERS_END: u64 = 1000000000000000000;
 
 // What a line's first field says that it is.
 #[derive(Clone, Copy)]
@@ -48,8 +51,15 @@ fn cut(fields: &[u8]) -> (&[u8], &[u8]) {
     (first, parts.next().unwrap_or(&[]))
 }
 
-fn number(text: &[u8]) -> Option<i64> {
-    str::from_utf8(text).ok()?.parse::<i64>().ok()
+// Digits, with a minus sign or none.
+fn number(text: &[u8]) -> Option<i64>
+    ensures { IfSome result (λ z. nat_abs z ≤ 999999999999999999) }
+{
+    if text.starts_with(b"+") {
+        return None;
+    }
+    let n = str::from_utf8(text).ok()?.parse::<i64>().ok()?;
+    (n.unsigned_abs() < NUMBERS_END).then_some(n)
 }
 
 fn same(a: &[u8], b: &[u8]) -> bool {
@@ -189,10 +199,8 @@ fn take_line(rt: &impl Print, tally: &mut Tally, line: &[u8]) -> io::Result<()> 
 
 fn take_lines(rt: &impl Print, text: &[u8]) -> io::Result<Tally> {
     let mut tally = Tally::default();
-    for line in text.split(|b| *b == b'\n') {
-        if !line.is_empty() {
-            take_line(rt, &mut tally, line)?;
-        }
+    for line in text.split_inclusive(|b| *b == b'\n') {
+        take_line(rt, &mut tally, line.strip_suffix(b"\n").unwrap_or(line))?;
     }
     Ok(tally)
 }

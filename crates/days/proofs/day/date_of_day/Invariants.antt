@@ -1,9 +1,10 @@
-use Prim.Native.Nat.{◌-◌, ◌≤◌}
+use mathlib.Core.Path.{◌≡◌}
+use Prim.Native.Nat.{◌+◌}
 use Rattle.model.specs.Calendar.{year_start}
 use Rattle.days.proofs.day.date_of_day.Given as goal
 
-abbrev pub invariant-loop-year : goal.invariant-loop-year
-invariant-loop-year l = year_start l.year ≤ l.n
+abbrev pub invariant-loop-rest : goal.invariant-loop-rest
+invariant-loop-rest l = year_start l.year + l.left ≡ l.n
 
-abbrev pub decreases-loop-year : goal.decreases-loop-year
-decreases-loop-year l = l.n - l.year
+abbrev pub decreases-loop-rest : goal.decreases-loop-rest
+decreases-loop-rest l = l.left
