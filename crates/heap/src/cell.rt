@@ -1,7 +1,7 @@
 // Cells: a handle in eight bytes of the heap.
 ghost use Rattle.std.specs.Prelude.{◌≡◌, ◌+◌, ◌*◌, ◌/◌, ◌%◌, ◌<◌};
-ghost use Rattle.heap.specs.Contract.{cell_handle, stored};
-ghost use Rattle.heap.specs.Cells.{Packs, span_tag, parts_tag, tag_at, packed, packed_of, of_packed};
+ghost use Rattle.heap.specs.Contract.{cell_handle, stored, span_tag, parts_tag};
+ghost use Rattle.heap.specs.Cells.{Packs, tag_at, packed, packed_of, of_packed};
 
 use crate::handle::{Area, Form, Handle, compound, string};
 use area::{get_word, put_word};

@@ -1,16 +1,13 @@
 -- Bytes copied into an output, as far as they fit.
-use mathlib.Core.Path.{◌≡◌, refl, sym, ap, ◌∙◌}
-use mathlib.Core.List.{[], ◌∷◌, append_assoc}
+use mathlib.Core.Path.{◌≡◌, refl, sym, ap}
+use mathlib.Core.List.{[], ◌∷◌}
 use mathlib.Core.Logic.{⊎_elim}
 use Prim.Native.Nat.{ℕ, zero, suc, ◌+◌, ◌-◌, ◌≤◌, ◌<◌}
 use native.Mathlib.Omega.{arith}
-use borrow.Rule.Slice.PartMut.{put_mid}
 use Rattle.std.specs.Prelude.{min}
 use Rattle.std.proofs.lemmas.Bool.{cases_lt}
-use Rattle.std.proofs.lemmas.List.{drop-drop}
-use Rattle.std.proofs.lemmas.List.Edits.{sets-eq}
 use lib.ListN.{length, take, set, length-set}
-use lib.Seq.{sets, set_out, length-take-le, take_all}
+use lib.Seq.{sets, set_out, take_all}
 use Rattle.model.specs.Bytes.{Bytes}
 use Rattle.print.specs.Laws.{sets_out}
 
@@ -27,15 +24,9 @@ sets_cut s d at zero h = sym (sets_out s d at (omega arith))
 sets_cut [] d at (suc n) h = refl
 sets_cut (x ∷ s) d at (suc n) h = sets_cut s (set d at x) (suc at) n (omega (arith, length-set d at x))
 
-put_whole : (d t s : Bytes) (at k : ℕ) → t ≡ s → k ≡ length s → at + length s ≤ length d → put_mid at k d t ≡ sets d at s
-put_whole d t s at k e f h = rw (e, f, sets-eq s d at h, append_assoc, drop-drop)
-
--- What a copy of so many leaves.
-pub put_cut : (d t s : Bytes) (at k n : ℕ) → t ≡ take n s → n ≡ min (length s) (length d - at) → k ≡ n → at ≤ length d → put_mid at k d t ≡ sets d at s
-put_cut d t s at k n e m f h =
-    let l : length (take n s) ≡ n = length-take-le n s (omega arith) in
-    put_whole d t (take n s) at k e (f ∙ sym l) (omega arith)
-    ∙ ⊎_elim
+pub all_seen : (d s : Bytes) (at n : ℕ) → n ≡ min (length s) (length d - at) → at ≤ length d → sets d at (take n s) ≡ sets d at s
+all_seen d s at n m h =
+    ⊎_elim
     (λ (i : n < length s). sets_cut s d at n (omega arith))
     (λ (i : length s ≤ n). ap (sets d at) (take_all n s i))
     (cases_lt n (length s))

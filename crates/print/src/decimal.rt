@@ -41,7 +41,6 @@ fn digits_of(n: u64) -> Digits
     }
 }
 
-#[tactic(auto, unfolding(model::specs::Limits::max_text_bytes))]
 pub fn put_decimal(output: &mut [u8], at: usize, n: u64) -> usize
     requires { Near at }
     ensures { Put (decimal n) at output.old result output.new }

@@ -31,7 +31,6 @@ fn put_integer(output: &mut [u8], at: usize, biased: u64) -> usize
 }
 
 // The instant so many milliseconds after 0000-01-01; null for a number past the latest.
-#[tactic(auto, unfolding(model::specs::Limits::max_text_bytes))]
 fn put_since(output: &mut [u8], at: usize, since: u64) -> usize
     requires { at ≤ max_text_bytes }
     ensures { Put (value_text (instant_at since)) at output.old result output.new }

@@ -6,4 +6,4 @@ pub returns-then-not-is_plain : goal.returns-then-not-is_plain
 returns-then-not-is_plain c = moved_escape c.requires.inside c.put_escape.ensures
 
 pub returns : goal.returns
-returns c = moved_run c.requires.inside (sym c.is_plain.ensures ∙ c.if-not-is_plain.false) c.plain_run-run.ensures c.put_text.ensures
+returns c = moved_run c.requires.inside (sym c.is_plain.ensures ∙ c.if-not-is_plain.false) c.plain_run-run.ensures (c.put_text.ensures.put c.requires.near)

@@ -14,4 +14,4 @@ pub returns-in-Name : goal.returns-in-Name
 returns-in-Name c = rw c.in-Name.is (puts_then (puts_as (string_puts c.put_string-end.ensures) (ap string_text c.bytes_of.ensures)) (put_byte c.put_byte.ensures))
 
 pub returns-in-Accumulator : goal.returns-in-Accumulator
-returns-in-Accumulator c = rw c.in-Accumulator.is (put_puts c.put_text-in-Accumulator.ensures)
+returns-in-Accumulator c = rw c.in-Accumulator.is (put_puts (c.put_text-in-Accumulator.ensures.put (omega (arith, text_below))))
