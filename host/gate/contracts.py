@@ -1,10 +1,11 @@
 #!/usr/bin/env python3
 """Checks the contracts of public Rattle functions, as text.
 
-Every `pub fn` states an `ensures` that names its result or a parameter (one that names none promises nothing); an
-exported C function states no `requires`; each `&mut` parameter is named in an `ensures`, since a promise covers the
-last bytes of every lent area. A check of the sources' shape: what the contracts mean is proved by `rt ci`. The last
-line is 'N passed, M failed': a test of this script on samples, and one for each public function.
+Every `pub fn`, and every function of an impl of a trait, states an `ensures` that names its result or a parameter (one
+that names none promises nothing); in an impl of a trait the law `ghost NAME_gives` serves too, if it names what the
+function gives. An exported C function states no `requires`; each `&mut` parameter is named in an `ensures`, since a
+promise covers the last bytes of every lent area. A check of the sources' shape: what the contracts mean is proved by
+`rt ci`. The last line is 'N passed, M failed': a test of this script on samples, and one for each public function.
 """
 import re
 import sys
@@ -38,12 +39,19 @@ def promises(head):
     return [said for said in clauses(head, 'ensures') if any(names(said, name) for name in ['result', *parameters(head)])]
 
 
+def given(law):
+    """What the law of an impl's function says, as a list; nothing where it does not name the last of its variables, which is what the function gives."""
+    m = re.match(r'\s*λ\s([^.]*)\.\s(.*)', law, re.S)
+    variables = m.group(1).split() if m else []
+    return [m.group(2)] if variables and names(m.group(2), variables[-1]) else []
+
+
 def faults(text):
     """(function, fault or None) for each public function of a source text."""
     for function in functions_of(text, ''):
         if not function.public:
             continue
-        promised = ' '.join(promises(function.head))
+        promised = ' '.join(promises(function.head) + given(function.law))
         fault = None
         if not promised:
             fault = 'no promise'
@@ -79,6 +87,14 @@ SAMPLES = [
     ('pub fn f(a: &mut [u8], n: u8)\n    ensures { length a.old ≡ n }\n{ }', ['nothing promised of `a`']),
     ('pub fn f(a: &mut [u8])\n    ensures { a.new ≡ b }\n{ }', [None]),
     ('pub fn f(a_b: &mut u8)\n    ensures { «a_b».new ≡ 1 }\n{ }', [None]),
+    ('impl B {\n    fn f(x: u8) -> u8 { x }\n}', []),
+    ('impl From<A> for B {\n    ghost from_gives = { λ a b. b ≡ c a };\n\n    fn from(a: A) -> B { c(a) }\n}', [None]),
+    ("impl<'a> From<m::A<'a>> for B {\n    fn from(a: m::A<'a>) -> B { c(a) }\n}", ['no promise']),
+    ('impl From<A> for B {\n    ghost from_gives = { λ a b. ⊤ };\n\n    fn from(a: A) -> B { c(a) }\n}', ['no promise']),
+    ('impl From<A> for B {\n    ghost from_gives = { λ a b. a ≡ a };\n\n    fn from(a: A) -> B { c(a) }\n}', ['no promise']),
+    ('impl From<A> for B {\n    ghost into_gives = { λ a b. b ≡ c a };\n\n    fn from(a: A) -> B { c(a) }\n}', ['no promise']),
+    ('impl m::T for B {\n    fn f(&self) -> u8\n        ensures { result ≡ 1 }\n    { 1 }\n}', [None]),
+    ('impl m::T for B {\n    ghost f_gives = { λ s a r. r ≡ 1 };\n\n    fn f(&self, a: &mut [u8]) -> u8 { 1 }\n}', ['nothing promised of `a`']),
 ]
 
 

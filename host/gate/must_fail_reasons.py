@@ -14,7 +14,7 @@ names must have refused it. Several may share a
 file, and so a check, if the functions that refuse one see nothing of what the others change: its own body and contract, the
 constants that it names and the contracts of the functions that it calls are all that a function sees of its crate's code.
 Edits of definitions may share one if no law that refuses one rests on what the others change (laws.py). An edit of anything
-else, as a type, stands alone. Every public function has two wrong programs that are refused by its own goals. The last line is 'N passed, M failed': tests of this script on samples, and one for each edit's file, each wrong program,
+else, as a type, stands alone. Every public function, those of impls of traits too, has two wrong programs that are refused by its own goals. The last line is 'N passed, M failed': tests of this script on samples, and one for each edit's file, each wrong program,
 each public function, and each source, of which every function must have been seen; and one that no two wrong programs
 have one label.
 """
@@ -39,7 +39,7 @@ OWN_ERROR = re.compile(r'^(\S+): error: `([^`]+)`: (.*)$', re.S)
 CODE = re.compile(r'`(?!mod`)[^`]*`')  # but for the word `mod`
 OF_FUNCTION = re.compile(r'(?:^|/)proofs/(\S+)/(?:Answers|Invariants|Proof)\.antt(?::\d+)*$')
 # An open goal, by the line of its function; and all of a function for which no answers are written.
-OPEN_GOAL = re.compile(r'^note: (?:\./)?(src/\S+?\.rt):(\d+):\d+: it is not proved that [^`\n]*\(`([^`\n]*)(`?)', re.M)
+OPEN_GOAL = re.compile(r'^note: (?:\./)?(src/\S+?\.rt):(\d+):\d+: (?:it is not proved that [^\n]*?|`search` found no proof )\(`([^`\n]*)(`?)', re.M)
 NO_ANSWERS = re.compile(r'^fn \S+: [^\n]*\bexpected answers in (?:\./)?proofs/(\S+)/Answers\.antt; `search` did not prove ((?:`[^`\n]+`(?:, )?)+)', re.M)
 # What rt says of an edit's file.
 OF_EDIT = re.compile(r'^(?:rt: )?must-fail (\w+/\S+\.edit): (.*)$', re.M)
@@ -329,6 +329,9 @@ LOGS = [
     (['m/f:returns'], './proofs/m/g/Answers.antt:1:2: error: `returns`: the two types differ\n', False),
     (['returns'], './proofs/m/f/Answers.antt:1:2: error: `returns`: the two types differ\n', False),
     (['g:returns-then'], 'note: src/lib.rt:18:1: it is not proved that what the function ensures holds (`returns-then`); the facts\n', True),
+    (['g:overflow_add-x'], 'note: src/lib.rt:18:1: it is not proved that the sum fits its type (at a range `..=n`, `n + 1`) (`overflow_add-x`); the facts\n', True),
+    (['g:returns'], 'note: src/lib.rt:18:1: it is not proved that the sum fits its type (at a range `..=n`, `n + 1`) (`overflow_add-x`); the facts\n', False),
+    (['g:invariant_of-f'], 'note: src/lib.rt:18:1: `search` found no proof (`invariant_of-f`)\n', True),
     (['g:returns'], 'note: src/lib.rt:18:1: it is not proved that what the function ensures holds (`returns-then`); the facts\n', False),
     (['f:returns-then'], 'note: src/lib.rt:18:1: it is not proved that what the function ensures holds (`returns-then`); the facts\n', False),
     (['g:a', 'g:b-1'], 'fn c::g: no proof: expected answers in ./proofs/g/Answers.antt; `search` did not prove `a`, `b-1`\n', True),
@@ -437,6 +440,10 @@ def samples():
     for text, shown in (('pub fn h() {}\n', False), ('pub extern "C" fn h() {}\n', True)):
         inner = list(functions_of(text, 'src/m.rt', ('m',), False))
         yield None if [(f.path, f.public) for f in inner] == [('m/h', shown)] else 'in a private module %r is judged wrongly' % text
+    for text, path, shown in (('impl m::T<A> for B {\n    fn h() {}\n}\n', 'm/BTA/h', True), ('impl B {\n    fn h() {}\n}\n', 'm/B/h', False)):
+        for public in (True, False):
+            inner = list(functions_of(text, 'src/m.rt', ('m',), public))
+            yield None if [(f.path, f.public) for f in inner] == [(path, shown and public)] else 'of an impl %r is judged wrongly' % text
     for name, called in (('f', True), ('h', False), ('k', False)):
         yield None if may_call(listed[1], name, texts) == called else 'the calls of %s are judged wrongly' % name
     for more, good in (('', True), ('// fn h()', True), ('pub(crate) fn h() {}\n', False)):

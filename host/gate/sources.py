@@ -6,7 +6,7 @@ HEAD = re.compile(r'^[ \t]*(?:#\[[^\]]*\]\s*)*(?P<pub>pub\s+)?(?:const\s+)?(?:un
 CLAUSE = re.compile(r'\b(?:(?:requires|ensures)\b\*?(?:\s+\w+)?|ghost\s+\w+\s*:?)\s*$')
 CYCLE = re.compile(r'#\[cycle\((\w+)\)\]')
 IMPL = re.compile(r'^impl(?:<[^>]*>)?\s+([^{]*)\{', re.M)
-OF_TRAIT = re.compile(r'(\w+)(?:<(?:\w+::)*(\w*)[^>]*>)?\s+for\s+(?:\w+::)*(\w+)')
+OF_TRAIT = re.compile(r'(?:\w+::)*(\w+)(?:<(?:\w+::)*(\w*)[^>]*>)?\s+for\s+(?:\w+::)*(\w+)')
 MODULE = re.compile(r'^(pub\s+)?mod\s+(\w+)\s*;', re.M)
 
 
@@ -14,13 +14,14 @@ MODULE = re.compile(r'^(pub\s+)?mod\s+(\w+)\s*;', re.M)
 class Function:
     path: str  # the folder of its proof below proofs/: modules, type and name, parted by slashes
     file: str  # from the crate's folder
-    public: bool  # another crate, or C, can call it
+    public: bool  # another crate, or C, can call it: by its name, or by the trait whose impl it stands in
     extern: bool
     start: int  # where its name stands
     head: str  # signature and clauses
     body: tuple  # where its braces open and end
     lines: tuple  # the first and the last line of all this, its attributes too
     cycle: str  # the name that it shares with the functions that it and they call in turn, or nothing
+    law: str  # in an impl of a trait: what its `ghost NAME_gives` says of it, or nothing
 
     def code(self, texts):
         """Its body, of the sources' texts by their files."""
@@ -74,21 +75,29 @@ def implemented(head):
     return of[0].upper() + of[1:] + trait + (m.group(2) or '')
 
 
+def law_of(text, name):
+    """What an impl's text says of its function of this name: `λ x r. ..`, of what is given and what comes of it."""
+    m = re.search(r'\bghost\s+%s_gives\s*=\s*\{' % name, text)
+    return text[m.end():skip(text, m.end() - 1, '{', '}') - 1] if m else ''
+
+
 def functions_of(text, file, modules=(), public=True):
     """The functions of a source's text, which stands in these modules; public ones only if the modules are, or exported to C."""
     text = without_bytes(without_comments(text))
-    types = [(implemented(m.group(1)), m.end() - 1, skip(text, m.end() - 1, '{', '}')) for m in IMPL.finditer(text)]
+    impls = [(m.group(1), m.end() - 1, skip(text, m.end() - 1, '{', '}')) for m in IMPL.finditer(text)]
     for m in HEAD.finditer(text):
         opens = body_of(text, m.start('name'))
-        owner = [name for name, start, end in types if start < m.start() < end]
-        path = '/'.join([*modules, *owner, m.group('name')])
+        around = [impl for impl in impls if impl[1] < m.start() < impl[2]]
+        path = '/'.join([*modules, *[implemented(head) for head, _, _ in around], m.group('name')])
+        of_trait = [text[start:end] for head, start, end in around if re.search(r'\sfor\s', head)]
         extern = bool(m.group('extern'))
-        shown = bool(m.group('pub')) and (public or extern)
+        shown = (bool(m.group('pub')) or bool(of_trait)) and (public or extern)
         ends = skip(text, opens, '{', '}')
         cycle = CYCLE.search(m.group(0))
         lines = (text.count('\n', 0, m.start()) + 1, text.count('\n', 0, ends) + 1)
         head = text[m.start('name'):opens]
-        yield Function(path, file, shown, extern, m.start('name'), head, (opens, ends), lines, cycle.group(1) if cycle else '')
+        law = ''.join(law_of(impl, m.group('name')) for impl in of_trait)
+        yield Function(path, file, shown, extern, m.start('name'), head, (opens, ends), lines, cycle.group(1) if cycle else '', law)
 
 
 def functions(crate):
